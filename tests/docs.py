@@ -613,8 +613,8 @@ CHANGES = {
         see_spans, "CONTRIBUTING.md", r"`ilk_model/src/event\.rt`", "`ilk_model/src/events.rt`",
         "`ilk_model/src/events.rt` isn't there"),
     "a definition renamed": (
-        see_links, "crates/ilk_plant/specs/NetworkRules.antt", r"\bis_isolated\b", "is_linear_without_neighbours",
-        "NetworkRules.antt: is_isolated isn't declared there"),
+        see_links, "crates/ilk_plant/specs/NetworkRules.antt", r"\bis_isolated_linear_section\b", "is_linear_without_neighbours",
+        "NetworkRules.antt: is_isolated_linear_section isn't declared there"),
     "a definition renamed that no link leads to": (
         see_spans, "crates/ilk_answers/specs/Strict.antt", r"\bSaysSafeAtOneOrSpent\b", "SaysSafeOrSpent",
         "`SaysSafeAtOneOrSpent` is declared nowhere"),

@@ -61,7 +61,7 @@ CHANGES = {
     ),
     "a definition that is not in its file": (
         QUALIFICATION,
-        r"\[`may_pass`\]",
+        r"\[`may_pass_board`\]",
         "[`may_stop`]",
         "Trains.antt does not declare may_stop",
     ),
@@ -73,8 +73,8 @@ CHANGES = {
     ),
     "a condition that is cited and does not exist": (
         QUALIFICATION,
-        r"SRAC-21 is for that",
-        "SRAC-99 is for that",
+        r"checkout \(SRAC-21\)",
+        "checkout (SRAC-99)",
         "cites SRAC-99, which does not exist",
     ),
     "a requirement without a test": (

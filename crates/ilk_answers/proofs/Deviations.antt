@@ -11,7 +11,7 @@ use Rattle.ilk_plant.specs.declared.broken.Broken.{Broken}
 use Rattle.ilk_plant.specs.declared.draft.NetDraft.{NetDraft}
 use Rattle.ilk_plant.specs.declared.draft.TableDraft.{TableDraft}
 use Rattle.ilk_plant.proofs.Sound.{sound-IsPlant}
-use Rattle.ilk_net_read.specs.Fault.{fault_for_rule}
+use Rattle.ilk_net_read.specs.Fault.{rule_fault_at_place}
 use Rattle.ilk_net_read.specs.declared.fault.Form.{Form}
 use Rattle.ilk_net_read.specs.declared.fault.Form.TheVariants.{F1, F2, F3, F4, F5, F6}
 use Rattle.ilk_net_read.specs.declared.fault.FormFault.{FormFault}
@@ -23,10 +23,10 @@ use Rattle.ilk_words.specs.declared.command.ColumnRuleMode.TheVariants.{Strict, 
 use Rattle.ilk_words.specs.declared.command.Command.TheVariants.{Check}
 use Rattle.ilk_words.specs.declared.lengths.TheConstants.{MAX_CONFIGURATION_BYTES}
 use Rattle.ilk_words.specs.declared.plan.CheckedRuleStages.TheVariants.{All}
-use Rattle.ilk_answers.specs.Answer.{AnswersOutcome, broken_lines, refusals_from_form_fault, unless_refused, plant_of_conf, plant_of_drafts, refusals_from_broken_rules}
+use Rattle.ilk_answers.specs.Answer.{AnswersPlantOrRefusals, refusal_lines_of_broken_rules, refusals_from_form_fault, refusals_or_value, plant_of_conf, plant_of_drafts, refusals_if_any_broken_rules}
 use Rattle.ilk_answers.specs.Refusal.{broken_places_text, form_rule_name, place_text, refusal_line, refusal_line_for_rule}
-use Rattle.ilk_answers.specs.Stages.{first_nonempty_broken, rules_broken}
-use Rattle.ilk_answers.specs.Strict.{HasSafePlant, GivesPlantDespiteColumns, has_beginning, lines_have_beginnings, harmless_refusal_beginnings}
+use Rattle.ilk_answers.specs.Stages.{first_nonempty_broken, first_broken_stage_rules}
+use Rattle.ilk_answers.specs.Strict.{HasSafePlantDespiteColumns, GivesPlantIfColumnsUnchecked, has_beginning, lines_have_beginnings, harmless_refusal_beginnings}
 use Rattle.ilk_answers.specs.declared.refusals.Refusal.{Refusal}
 use Rattle.ilk_answers.specs.declared.refusals.Refusal.TheVariants.{Form as FormRefusal, Rule as RuleRefusal}
 use Rattle.ilk_answers.specs.declared.refusals.Refusals.{Refusals}
@@ -37,30 +37,28 @@ use Rattle.ilk_answers.proofs.Checked.{none-broken}
 use Rattle.ilk_answers.proofs.FirstLines.{lines-begin}
 use Rattle.ilk_answers.proofs.Harmless.{are_harmless, harmless-begins, harmless-keeps, is_harmless, network-harmless, table-harmless}
 
--- The plant of a configuration with free columns.
-
 pub plant-drafts : (net : NetDraft) (table : TableDraft) → WithinLimits net table → IfOk (plant_of_drafts (All Free) (Ok (net, table))) IsPlant
-plant-drafts net table limits = of_refusals (refusals_from_broken_rules (rules_broken (All Free) net table)) refl
+plant-drafts net table limits = of_refusals (refusals_if_any_broken_rules (first_broken_stage_rules (All Free) net table)) refl
   where
     of_network : (network later : List Broken) → first_nonempty_broken network later ≡ [] → (network ≡ []) × (later ≡ [])
     of_network [] later e = (refl, e)
     of_network (b ∷ network) later e = absurd (cc)
 
-    of_refusals : (o : Option Refusals) → refusals_from_broken_rules (rules_broken (All Free) net table) ≡ o → IfOk (unless_refused o (plant_from_drafts net table)) IsPlant
+    of_refusals : (o : Option Refusals) → refusals_if_any_broken_rules (first_broken_stage_rules (All Free) net table) ≡ o → IfOk (refusals_or_value o (plant_from_drafts net table)) IsPlant
     of_refusals (Some refusals) is = tt
     of_refusals None is =
-        let stages = of_network (network_rules_broken net) (first_nonempty_broken (table_rules_broken net table) []) (none-broken (rules_broken (All Free) net table) is) in
+        let stages = of_network (network_rules_broken net) (first_nonempty_broken (table_rules_broken net table) []) (none-broken (first_broken_stage_rules (All Free) net table) is) in
         let routes = of_network (table_rules_broken net table) [] stages.1 in
         sound-IsPlant net table (record { limits = limits; network = stages.0; routes = routes.0 })
 
-pub free-plant : (conf : List ℕ) (drafts : Result (NetDraft × TableDraft) FormFault) → net_and_table_drafts conf ≡ drafts → IfOk drafts (λ d. WithinLimits d.0 d.1) → GivesPlantDespiteColumns conf
+pub free-plant : (conf : List ℕ) (drafts : Result (NetDraft × TableDraft) FormFault) → net_and_table_drafts conf ≡ drafts → IfOk drafts (λ d. WithinLimits d.0 d.1) → GivesPlantIfColumnsUnchecked conf
 free-plant conf drafts is limits = of_length (nat_lt MAX_CONFIGURATION_BYTES (length conf))
   where
     of_drafts : (read : Result (NetDraft × TableDraft) FormFault) → IfOk read (λ d. WithinLimits d.0 d.1) → IfOk (plant_of_drafts (All Free) read) IsPlant
     of_drafts (Err fault) within = tt
     of_drafts (Ok (net, table)) within = plant-drafts net table within
 
-    of_length : (b : Bool) → IfOk (if b then Err (refusals_from_form_fault (fault_for_rule F1 Document)) else plant_of_drafts (All Free) (net_and_table_drafts conf)) IsPlant
+    of_length : (b : Bool) → IfOk (if b then Err (refusals_from_form_fault (rule_fault_at_place F1 Document)) else plant_of_drafts (All Free) (net_and_table_drafts conf)) IsPlant
     of_length true = tt
     of_length false = of_drafts (net_and_table_drafts conf) (subst (λ read. IfOk read (λ d. WithinLimits d.0 d.1)) (sym is) limits)
 
@@ -68,10 +66,8 @@ pub holds-if_ok : {A E : Type 0} (r : Result A E) (P : Type 0) → P → OnOk r 
 holds-if_ok (Ok x) P so = so
 holds-if_ok (Err e) P so = tt
 
-pub long-plant : (conf : List ℕ) → nat_lt MAX_CONFIGURATION_BYTES (length conf) ≡ true → GivesPlantDespiteColumns conf
+pub long-plant : (conf : List ℕ) → nat_lt MAX_CONFIGURATION_BYTES (length conf) ≡ true → GivesPlantIfColumnsUnchecked conf
 long-plant conf long = rw long tt
-
--- The refusals, by the lines of a report.
 
 abbrev is_harmless_refusal : Refusal → Bool
 is_harmless_refusal (FormRefusal fault) = false
@@ -107,44 +103,43 @@ refusal-harmless (RuleRefusal b) rest h =
     let parts = line-begins (rule_word b.rule) (broken_places_text b) rest h in
     (harmless-begins b.rule (broken_places_text b) parts.0, parts.1)
 
-fault_for_rule-harmless : (found : List Broken) → lines_have_beginnings harmless_refusal_beginnings (broken_lines found) ≡ true → are_harmless found ≡ true
-fault_for_rule-harmless [] h = refl
-fault_for_rule-harmless (b ∷ found) h =
-    let parts = refusal-harmless (RuleRefusal b) (broken_lines found) h in
-    both (is_harmless b.rule) (are_harmless found) parts.0 (fault_for_rule-harmless found parts.1)
+rule_fault_at_place-harmless : (found : List Broken) → lines_have_beginnings harmless_refusal_beginnings (refusal_lines_of_broken_rules found) ≡ true → are_harmless found ≡ true
+rule_fault_at_place-harmless [] h = refl
+rule_fault_at_place-harmless (b ∷ found) h =
+    let parts = refusal-harmless (RuleRefusal b) (refusal_lines_of_broken_rules found) h in
+    both (is_harmless b.rule) (are_harmless found) parts.0 (rule_fault_at_place-harmless found parts.1)
   where
     both : (x y : Bool) → x ≡ true → y ≡ true → (x && y) ≡ true
     both true y first later = later
     both false y first later = absurd (cc)
-
--- The drafts, by their refusals.
 
 first-harmless : (first later : List Broken) → (are_harmless first ≡ true → first ≡ []) → are_harmless (first_nonempty_broken first later) ≡ true → (first ≡ []) × (are_harmless later ≡ true)
 first-harmless [] later none h = (refl, h)
 first-harmless (b ∷ first) later none h = let no : b ∷ first ≡ [] = none h in absurd (cc)
 
 safe-drafts : (conf : List ℕ) (net : NetDraft) (table : TableDraft) → nat_lt MAX_CONFIGURATION_BYTES (length conf) ≡ false →
-    net_and_table_drafts conf ≡ Ok (net, table) → GivesPlantDespiteColumns conf →
-    are_harmless (rules_broken (All Strict) net table) ≡ true → HasSafePlant conf
+    net_and_table_drafts conf ≡ Ok (net, table) → GivesPlantIfColumnsUnchecked conf →
+    are_harmless (first_broken_stage_rules (All Strict) net table) ≡ true → HasSafePlantDespiteColumns conf
 safe-drafts conf net table short read sound harmless =
     let p : PlantLists = plant_from_drafts net table in
     let network = first-harmless (network_rules_broken net) (first_nonempty_broken (table_rules_broken net table) (column_rules_broken p)) (network-harmless net) harmless in
     let routes = first-harmless (table_rules_broken net table) (column_rules_broken p) (table-harmless net table) network.1 in
-    let none : rules_broken (All Free) net table ≡ [] = ap (λ found. first_nonempty_broken found (first_nonempty_broken (table_rules_broken net table) [])) network.0 ∙ ap (λ found. first_nonempty_broken found []) routes.0 in
+    let none : first_broken_stage_rules (All Free) net table ≡ [] = ap (λ found. first_nonempty_broken found (first_nonempty_broken (table_rules_broken net table) [])) network.0 ∙ ap (λ found. first_nonempty_broken found []) routes.0 in
     let free : plant_of_conf (All Free) conf ≡ Ok p =
-    ap (λ b. if b then Err (refusals_from_form_fault (fault_for_rule F1 Document)) else plant_of_drafts (All Free) (net_and_table_drafts conf)) short
+    ap (λ b. if b then Err (refusals_from_form_fault (rule_fault_at_place F1 Document)) else plant_of_drafts (All Free) (net_and_table_drafts conf)) short
     ∙ ap (plant_of_drafts (All Free)) read
-    ∙ ap (λ found. unless_refused (refusals_from_broken_rules found) p) none in
+    ∙ ap (λ found. refusals_or_value (refusals_if_any_broken_rules found) p) none in
     let plant : IsPlant p = subst (λ found. IfOk found IsPlant) free sound in
     record { plant = p; read = free; safe = strict-forever p plant (strict_from_rules p (harmless-keeps p routes.1)) }
 
-safe-refused : (conf : List ℕ) (refusals : Refusals) → plant_of_conf (All Strict) conf ≡ Err refusals → GivesPlantDespiteColumns conf → is_harmless_refusal refusals.first ≡ true → are_harmless refusals.rest ≡ true → HasSafePlant conf
+safe-refused : (conf : List ℕ) (refusals : Refusals) → plant_of_conf (All Strict) conf ≡ Err refusals → GivesPlantIfColumnsUnchecked conf → is_harmless_refusal refusals.first ≡ true → are_harmless refusals.rest ≡ true →
+    HasSafePlantDespiteColumns conf
 safe-refused conf refusals is sound first rest = of_length (nat_lt MAX_CONFIGURATION_BYTES (length conf)) refl is
   where
     not_form : (fault : FormFault) → refusals_from_form_fault fault ≡ refusals → ⊥
     not_form fault e = let harmless : false ≡ true = ap (λ (r : Refusals). is_harmless_refusal r.first) e ∙ first in absurd (cc)
 
-    all_of : (found : List Broken) → refusals_from_broken_rules found ≡ Some refusals → are_harmless found ≡ true
+    all_of : (found : List Broken) → refusals_if_any_broken_rules found ≡ Some refusals → are_harmless found ≡ true
     all_of [] e = absurd (cc)
     all_of (b ∷ found) e =
         let same : record { first = RuleRefusal b; rest = found } ≡ refusals = cc in
@@ -152,26 +147,27 @@ safe-refused conf refusals is sound first rest = of_length (nat_lt MAX_CONFIGURA
         let there : are_harmless found ≡ true = ap (λ (r : Refusals). are_harmless r.rest) same ∙ rest in
         rw (here, there) refl
 
-    of_found : (o : Option Refusals) (p : PlantLists) → unless_refused o p ≡ Err refusals → o ≡ Some refusals
+    of_found : (o : Option Refusals) (p : PlantLists) → refusals_or_value o p ≡ Err refusals → o ≡ Some refusals
     of_found None p e = absurd (cc)
     of_found (Some found) p e = cc
 
-    of_drafts : (read : Result (NetDraft × TableDraft) FormFault) → nat_lt MAX_CONFIGURATION_BYTES (length conf) ≡ false → net_and_table_drafts conf ≡ read → plant_of_drafts (All Strict) read ≡ Err refusals → HasSafePlant conf
+    of_drafts : (read : Result (NetDraft × TableDraft) FormFault) → nat_lt MAX_CONFIGURATION_BYTES (length conf) ≡ false → net_and_table_drafts conf ≡ read → plant_of_drafts (All Strict) read ≡ Err refusals → HasSafePlantDespiteColumns conf
     of_drafts (Err fault) short at e = let same : refusals_from_form_fault fault ≡ refusals = cc in absurd (not_form fault same)
     of_drafts (Ok (net, table)) short at e =
-        safe-drafts conf net table short at sound (all_of (rules_broken (All Strict) net table) (of_found (refusals_from_broken_rules (rules_broken (All Strict) net table)) (plant_from_drafts net table) e))
+        safe-drafts conf net table short at sound (all_of (first_broken_stage_rules (All Strict) net table) (of_found (refusals_if_any_broken_rules (first_broken_stage_rules (All Strict) net table)) (plant_from_drafts net table) e))
 
-    of_length : (b : Bool) → nat_lt MAX_CONFIGURATION_BYTES (length conf) ≡ b → (if b then Err (refusals_from_form_fault (fault_for_rule F1 Document)) else plant_of_drafts (All Strict) (net_and_table_drafts conf)) ≡ Err refusals → HasSafePlant conf
-    of_length true long e = let same : refusals_from_form_fault (fault_for_rule F1 Document) ≡ refusals = cc in absurd (not_form (fault_for_rule F1 Document) same)
+    of_length : (b : Bool) → nat_lt MAX_CONFIGURATION_BYTES (length conf) ≡ b → (if b then Err (refusals_from_form_fault (rule_fault_at_place F1 Document)) else plant_of_drafts (All Strict) (net_and_table_drafts conf)) ≡ Err refusals →
+        HasSafePlantDespiteColumns conf
+    of_length true long e = let same : refusals_from_form_fault (rule_fault_at_place F1 Document) ≡ refusals = cc in absurd (not_form (rule_fault_at_place F1 Document) same)
     of_length false short e = of_drafts (net_and_table_drafts conf) short refl e
 
 pub deviations-safe :
     (conf : List ℕ) (found : Result PlantLists Refusals) (extra : Option (List ℕ)) (made : Reply) →
-    found ≡ plant_of_conf (All Strict) conf → GivesPlantDespiteColumns conf → AnswersOutcome (Check Strict) found extra made →
-    made.status ≡ IsRefused → lines_have_beginnings harmless_refusal_beginnings made.report ≡ true → HasSafePlant conf
+    found ≡ plant_of_conf (All Strict) conf → GivesPlantIfColumnsUnchecked conf → AnswersPlantOrRefusals (Check Strict) found extra made →
+    made.status ≡ IsRefused → lines_have_beginnings harmless_refusal_beginnings made.report ≡ true → HasSafePlantDespiteColumns conf
 deviations-safe conf (Ok p) extra made known sound told refused lines =
     let good : Good ≡ IsRefused = ap (λ (r : Reply). r.status) (sym told) ∙ refused in absurd (cc)
 deviations-safe conf (Err refusals) extra made known sound told refused lines =
-    let report : refusal_line refusals.first ++ broken_lines refusals.rest ≡ made.report = ap (λ (r : Reply). r.report) (sym told) in
-    let parts = refusal-harmless refusals.first (broken_lines refusals.rest) (ap (lines_have_beginnings harmless_refusal_beginnings) report ∙ lines) in
-    safe-refused conf refusals (sym known) sound parts.0 (fault_for_rule-harmless refusals.rest parts.1)
+    let report : refusal_line refusals.first ++ refusal_lines_of_broken_rules refusals.rest ≡ made.report = ap (λ (r : Reply). r.report) (sym told) in
+    let parts = refusal-harmless refusals.first (refusal_lines_of_broken_rules refusals.rest) (ap (lines_have_beginnings harmless_refusal_beginnings) report ∙ lines) in
+    safe-refused conf refusals (sym known) sound parts.0 (rule_fault_at_place-harmless refusals.rest parts.1)

@@ -9,7 +9,7 @@ use Rattle.ilk_lines.specs.Lines.{Bytes, lines_of, parts_at, parts_but_last}
 use Rattle.ilk_lines.proofs.Cuts.{parts_follow}
 use Rattle.ilk_answers.specs.Strict.{HasOnlyLines, has_beginning, lines_have_beginnings}
 
--- The lines of `text`, a line feed and `rest`: the first is a prefix of `text`.
+-- Holds if the first of the lines of `text`, a line feed and `rest` is a prefix of `text`.
 pub record IsFirstOf (text : Bytes) (rest : Bytes) : Type 0 where
   pub line : Bytes
   pub left : Bytes

@@ -5,10 +5,11 @@ use Rattle.ilk_plant_audit.specs.declared.audit.CertAudit.{CertAudit}
 use Rattle.ilk_words.specs.Plan.{plan_of}
 use Rattle.ilk_words.specs.declared.command.Command.{Command}
 use Rattle.ilk_words.specs.declared.command.Command.TheVariants.{Check, Verify, Audit, Replay, Make, Demo, Table, Export, Rup, Drive}
-use Rattle.ilk_answers.specs.Reader.{WasFed, is_audit}
-use Rattle.ilk_answers.specs.declared.reader.ExtraReader.TheVariants.{Certificate}
+use Rattle.ilk_answers.specs.Reader.{ReaderWasFedBytes, is_audit}
+use Rattle.ilk_answers.specs.declared.reader.ExtraInputReader.TheVariants.{Certificate}
 
-pub audit_fed : (before after : CertAudit) (piece : List ℕ) → after.plant.now ≡ before.plant.now → ((bytes : List ℕ) → HasAuditedBytes before bytes → HasAuditedBytes after (bytes ++ piece)) → WasFed (Certificate before) (Certificate after) piece
+pub audit_fed : (before after : CertAudit) (piece : List ℕ) → after.plant.now ≡ before.plant.now → ((bytes : List ℕ) → HasAuditedBytes before bytes → HasAuditedBytes after (bytes ++ piece)) → ReaderWasFedBytes (Certificate before)
+    (Certificate after) piece
 audit_fed before after piece same fed command p read h = (h.0, same ∙ h.1, fed read h.2)
 
 pub reads_no_certificate : (command : Command) → (plan_of command).extra ≡ None → is_audit command ≡ false

@@ -5,18 +5,18 @@ use Rattle.std.proofs.lemmas.Bool.{leb-true}
 use Rattle.std.proofs.lemmas.Option.{same_Some}
 use Rattle.ilk_plant.specs.ColumnRules.{column_rules_broken}
 use Rattle.ilk_plant.specs.Draft.{plant_from_drafts}
-use Rattle.ilk_plant.specs.Kept.{IsPlantFromSoundDrafts}
+use Rattle.ilk_plant.specs.Kept.{IsAcyclicFromSoundDrafts}
 use Rattle.ilk_plant.specs.NetworkRules.{network_rules_broken}
 use Rattle.ilk_plant.specs.Plant.{IsPlant, PlantLists}
 use Rattle.ilk_plant.specs.TableRules.{table_rules_broken}
 use Rattle.ilk_plant.specs.declared.draft.NetDraft.{NetDraft}
 use Rattle.ilk_plant.specs.declared.draft.TableDraft.{TableDraft}
-use Rattle.ilk_net_read.specs.Fault.{fault_for_rule}
+use Rattle.ilk_net_read.specs.Fault.{rule_fault_at_place}
 use Rattle.ilk_net_read.specs.declared.fault.Form.TheVariants.{F1}
 use Rattle.ilk_net_read.specs.declared.fault.FormFault.{FormFault}
 use Rattle.ilk_net_read.specs.declared.fault.Place.TheVariants.{Document}
 use Rattle.ilk_table_read.specs.Table.{net_and_table_drafts}
-use Rattle.ilk_engine.specs.CertificateOf.{IsCertificateOf}
+use Rattle.ilk_engine.specs.CertificateOf.{IsCertificateTextOfVerdict}
 use Rattle.ilk_engine.specs.declared.verdict.Verdict.TheVariants.{Safe}
 use Rattle.ilk_forever.proofs.StrictForever.{clean-forever}
 use Rattle.ilk_engine.proofs.Strict.{clean-verdict}
@@ -30,11 +30,11 @@ use Rattle.ilk_words.specs.declared.lengths.TheConstants.{MAX_CONFIGURATION_BYTE
 use Rattle.ilk_words.specs.declared.limits.TheConstants.{MAX_DEPTH, MAX_TOTAL_CONFLICTS}
 use Rattle.ilk_words.specs.declared.plan.CheckedRuleStages.{CheckedRuleStages}
 use Rattle.ilk_words.specs.declared.plan.CheckedRuleStages.TheVariants.{All, Network}
-use Rattle.ilk_answers.specs.Answer.{AnswersOutcome, IsAnswerTo, refusals_from_form_fault, plant_of_conf, plant_of_drafts, refusals_from_broken_rules}
-use Rattle.ilk_answers.specs.Besides.{AnswersSomeExtra}
-use Rattle.ilk_answers.specs.Stages.{columns_broken, first_nonempty_broken, rules_broken}
-use Rattle.ilk_answers.specs.Strict.{HasSafePlant, HasTableOf, IsCleanAndSafe, IsCleanConfOfPlant, GivesPlantDespiteColumns, ReplyHasStrictGuarantees, SaysSafeAtOneOrSpent, ReportsNoHazard, lines_have_beginnings, harmless_refusal_beginnings}
-use Rattle.ilk_answers.specs.Verdicts.{AnswersVerdict, verdict_line, verdict_run_text, verdict_status}
+use Rattle.ilk_answers.specs.Answer.{AnswersPlantOrRefusals, IsAnswerTo, refusals_from_form_fault, plant_of_conf, plant_of_drafts, refusals_if_any_broken_rules}
+use Rattle.ilk_answers.specs.Besides.{AnswersForSomeExtraInput}
+use Rattle.ilk_answers.specs.Stages.{broken_column_rules_if_strict, first_nonempty_broken, first_broken_stage_rules}
+use Rattle.ilk_answers.specs.Strict.{HasSafePlantDespiteColumns, ReplyHasTableOfConf, IsCleanAndKeepsInvariant, StrictlyCleanConfHasPlant, GivesPlantIfColumnsUnchecked, ReplyHasStrictGuarantees, SaysSafeAtOneOrSpent, DriveReportsNoHazard, lines_have_beginnings, harmless_refusal_beginnings}
+use Rattle.ilk_answers.specs.Verdicts.{AnswersWithRightVerdict, verdict_line, verdict_run_text, verdict_status}
 use Rattle.ilk_answers.specs.declared.refusals.Refusals.{Refusals}
 use Rattle.ilk_answers.specs.declared.reply.Reply.{Reply}
 use Rattle.ilk_answers.specs.declared.status.Status.TheVariants.{Good, Refused as IsRefused, Unsafe}
@@ -43,25 +43,26 @@ use Rattle.ilk_answers.proofs.Deviations.{deviations-safe}
 use Rattle.ilk_answers.proofs.Drives.{drive-right}
 use Rattle.ilk_answers.proofs.Tables.{table-right}
 
-clean-columns : (conf : List ℕ) (p : PlantLists) → IsCleanConfOfPlant conf p → column_rules_broken p ≡ []
+clean-columns : (conf : List ℕ) (p : PlantLists) → StrictlyCleanConfHasPlant conf p → column_rules_broken p ≡ []
 clean-columns conf p clean = of_length (nat_lt MAX_CONFIGURATION_BYTES (length conf)) clean
   where
     of_drafts : (drafts : Result (NetDraft × TableDraft) FormFault) → plant_of_drafts (All Strict) drafts ≡ Ok p → column_rules_broken p ≡ []
     of_drafts (Err fault) e = absurd (cc)
     of_drafts (Ok (net, table)) e =
-        let kept : (refusals_from_broken_rules (rules_broken (All Strict) net table) ≡ None) × (p ≡ plant_from_drafts net table) = not-refused (refusals_from_broken_rules (rules_broken (All Strict) net table)) (plant_from_drafts net table) p e in
-        let none : rules_broken (All Strict) net table ≡ [] = none-broken (rules_broken (All Strict) net table) kept.0 in
-        let later : first_nonempty_broken (table_rules_broken net table) (columns_broken Strict (plant_from_drafts net table)) ≡ [] =
-        later-none (network_rules_broken net) (first_nonempty_broken (table_rules_broken net table) (columns_broken Strict (plant_from_drafts net table))) none in
-        ap column_rules_broken kept.1 ∙ later-none (table_rules_broken net table) (columns_broken Strict (plant_from_drafts net table)) later
+        let kept : (refusals_if_any_broken_rules (first_broken_stage_rules (All Strict) net table) ≡ None) × (p ≡ plant_from_drafts net table) = not-refused (refusals_if_any_broken_rules (first_broken_stage_rules (All Strict) net table))
+        (plant_from_drafts net table) p e in
+        let none : first_broken_stage_rules (All Strict) net table ≡ [] = none-broken (first_broken_stage_rules (All Strict) net table) kept.0 in
+        let later : first_nonempty_broken (table_rules_broken net table) (broken_column_rules_if_strict Strict (plant_from_drafts net table)) ≡ [] =
+        later-none (network_rules_broken net) (first_nonempty_broken (table_rules_broken net table) (broken_column_rules_if_strict Strict (plant_from_drafts net table))) none in
+        ap column_rules_broken kept.1 ∙ later-none (table_rules_broken net table) (broken_column_rules_if_strict Strict (plant_from_drafts net table)) later
 
-    of_length : (b : Bool) → (if b then Err (refusals_from_form_fault (fault_for_rule F1 Document)) else plant_of_drafts (All Strict) (net_and_table_drafts conf)) ≡ Ok p → column_rules_broken p ≡ []
+    of_length : (b : Bool) → (if b then Err (refusals_from_form_fault (rule_fault_at_place F1 Document)) else plant_of_drafts (All Strict) (net_and_table_drafts conf)) ≡ Ok p → column_rules_broken p ≡ []
     of_length true e = absurd (cc)
     of_length false e = of_drafts (net_and_table_drafts conf) e
 
 check-safe : (conf : List ℕ) (found : Result PlantLists Refusals) (extra : Option (List ℕ)) (made : Reply) →
-    found ≡ plant_of_conf (All Strict) conf → IfOk found IsPlantFromSoundDrafts → AnswersOutcome (Check Strict) found extra made →
-    made.status ≡ Good → IsCleanAndSafe conf
+    found ≡ plant_of_conf (All Strict) conf → IfOk found IsAcyclicFromSoundDrafts → AnswersPlantOrRefusals (Check Strict) found extra made →
+    made.status ≡ Good → IsCleanAndKeepsInvariant conf
 check-safe conf (Err refusals) extra made known sound told good =
     let refused : IsRefused ≡ Good = ap (λ (r : Reply). r.status) (sym told) ∙ good in absurd (cc)
 check-safe conf (Ok p) extra made known sound told good = record {
@@ -70,13 +71,13 @@ check-safe conf (Ok p) extra made known sound told good = record {
   safe = clean-forever p sound.plant (clean-columns conf p (sym known));
 }
 
-tells-at_one : (p : PlantLists) (depth conflicts : ℕ) (made : Reply) → IsPlant p → column_rules_broken p ≡ [] → 0 < depth → AnswersVerdict p depth conflicts made → SaysSafeAtOneOrSpent p depth conflicts made
+tells-at_one : (p : PlantLists) (depth conflicts : ℕ) (made : Reply) → IsPlant p → column_rules_broken p ≡ [] → 0 < depth → AnswersWithRightVerdict p depth conflicts made → SaysSafeAtOneOrSpent p depth conflicts made
 tells-at_one p depth conflicts made plant none some told =
     elim (clean-verdict p depth told.verdict plant none some told.right) [
       | inl safe ↦ inl (record {
         status = told.status ∙ ap verdict_status safe;
         report = told.report ∙ ap (λ v. verdict_line p conflicts v ++ verdict_run_text p v) safe ∙ append-nil (verdict_line p conflicts (Safe 1));
-        certificate = subst (λ v. IsCertificateOf p depth conflicts v made.certificate) safe told.certificate;
+        certificate = subst (λ v. IsCertificateTextOfVerdict p depth conflicts v made.certificate) safe told.certificate;
       })
       | inr spent ↦ inr (told.status ∙ ap verdict_status spent)
     ]
@@ -91,45 +92,45 @@ some-depth depth conflicts cert limits = leb-true 1 depth (first-true (nat_le 1 
 verify-safe :
     (found : Result PlantLists Refusals) (conf : List ℕ) (depth conflicts : ℕ) (cert : List ℕ)
     (extra : Option (List ℕ)) (made : Reply) (p : PlantLists) → found ≡ Ok p →
-    IfOk found IsPlantFromSoundDrafts → within_option_limits (Verify Strict depth conflicts cert) ≡ true →
-    AnswersOutcome (Verify Strict depth conflicts cert) found extra made → IsCleanConfOfPlant conf p →
+    IfOk found IsAcyclicFromSoundDrafts → within_option_limits (Verify Strict depth conflicts cert) ≡ true →
+    AnswersPlantOrRefusals (Verify Strict depth conflicts cert) found extra made → StrictlyCleanConfHasPlant conf p →
     SaysSafeAtOneOrSpent p depth conflicts made
 verify-safe (Err refusals) conf depth conflicts cert extra made p is sound limits told clean = absurd (cc)
 verify-safe (Ok q) conf depth conflicts cert extra made p is sound limits told clean =
     let same : q ≡ p = cc in
-    let tells : AnswersVerdict q depth conflicts made = told in
-    tells-at_one p depth conflicts made (subst IsPlant same sound.plant) (clean-columns conf p clean) (some-depth depth conflicts cert limits) (subst (λ r. AnswersVerdict r depth conflicts made) same tells)
+    let tells : AnswersWithRightVerdict q depth conflicts made = told in
+    tells-at_one p depth conflicts made (subst IsPlant same sound.plant) (clean-columns conf p clean) (some-depth depth conflicts cert limits) (subst (λ r. AnswersWithRightVerdict r depth conflicts made) same tells)
 
-drive-safe : (conf : List ℕ) (found : Result PlantLists Refusals) (run text : List ℕ) (made : Reply) → found ≡ plant_of_conf (All Strict) conf → IfOk found IsPlantFromSoundDrafts →
-    AnswersOutcome (Drive Strict run) found (Some text) made → made.status ≢ Unsafe
+drive-safe : (conf : List ℕ) (found : Result PlantLists Refusals) (run text : List ℕ) (made : Reply) → found ≡ plant_of_conf (All Strict) conf → IfOk found IsAcyclicFromSoundDrafts →
+    AnswersPlantOrRefusals (Drive Strict run) found (Some text) made → made.status ≢ Unsafe
 drive-safe conf (Err refusals) run text made known sound told e =
     let refused : IsRefused ≡ Unsafe = ap (λ (r : Reply). r.status) (sym told) ∙ e in absurd (cc)
 drive-safe conf (Ok p) run text made known sound told e =
     drive-right p run text made sound.plant (clean-columns conf p (sym known)) told e
 
-sound-at : (found : Result PlantLists Refusals) → IfOk found IsPlantFromSoundDrafts → (p : PlantLists) → found ≡ Ok p → IsPlantFromSoundDrafts p
+sound-at : (found : Result PlantLists Refusals) → IfOk found IsAcyclicFromSoundDrafts → (p : PlantLists) → found ≡ Ok p → IsAcyclicFromSoundDrafts p
 sound-at (Err refusals) sound p is = absurd (cc)
-sound-at (Ok q) sound p is = let same : q ≡ p = cc in subst IsPlantFromSoundDrafts same sound
+sound-at (Ok q) sound p is = let same : q ≡ p = cc in subst IsAcyclicFromSoundDrafts same sound
 
 module _ (command : Command) (stages : CheckedRuleStages) (planned : (plan_of command).stages ≡ Some stages)
-    (found : Result PlantLists Refusals) (sound : IfOk found IsPlantFromSoundDrafts) (extra : Option (List ℕ)) (made : Reply)
-    (some : AnswersSomeExtra command found extra made) where
+    (found : Result PlantLists Refusals) (sound : IfOk found IsAcyclicFromSoundDrafts) (extra : Option (List ℕ)) (made : Reply)
+    (some : AnswersForSomeExtraInput command found extra made) where
   asked-by : (c : List ℕ) (asked : Command) (s : CheckedRuleStages) → command ≡ asked → (plan_of asked).stages ≡ Some s → found ≡ plant_of_conf stages c → found ≡ plant_of_conf s c
   asked-by c asked s is by known =
       let same : Some stages ≡ Some s = sym planned ∙ ap (λ k. (plan_of k).stages) is ∙ by in
       known ∙ ap (λ o. plant_of_conf o c) (same_Some stages s same)
 
-  told-as : (asked : Command) → command ≡ asked → AnswersOutcome asked found (Some some.text) made
-  told-as asked is = subst (λ k. AnswersOutcome k found (Some some.text) made) is some.answer
+  told-as : (asked : Command) → command ≡ asked → AnswersPlantOrRefusals asked found (Some some.text) made
+  told-as asked is = subst (λ k. AnswersPlantOrRefusals k found (Some some.text) made) is some.answer
 
-  check-right : (conf : Option (List ℕ)) → IfSome conf (λ c. found ≡ plant_of_conf stages c) → command ≡ Check Strict → made.status ≡ Good → IfSome conf IsCleanAndSafe
+  check-right : (conf : Option (List ℕ)) → IfSome conf (λ c. found ≡ plant_of_conf stages c) → command ≡ Check Strict → made.status ≡ Good → IfSome conf IsCleanAndKeepsInvariant
   check-right None known is good = tt
   check-right (Some c) known is good =
       check-safe c found (Some some.text) made (asked-by c (Check Strict) (All Strict) is refl known) sound (told-as (Check Strict) is) good
 
   deviations-right : (conf : Option (List ℕ)) → IfSome conf (λ c. found ≡ plant_of_conf stages c) →
-      IfSome conf GivesPlantDespiteColumns → command ≡ Check Strict → made.status ≡ IsRefused →
-      lines_have_beginnings harmless_refusal_beginnings made.report ≡ true → IfSome conf HasSafePlant
+      IfSome conf GivesPlantIfColumnsUnchecked → command ≡ Check Strict → made.status ≡ IsRefused →
+      lines_have_beginnings harmless_refusal_beginnings made.report ≡ true → IfSome conf HasSafePlantDespiteColumns
   deviations-right None known plant is refused lines = tt
   deviations-right (Some c) known plant is refused lines =
       deviations-safe c found (Some some.text) made (asked-by c (Check Strict) (All Strict) is refl known) plant (told-as (Check Strict) is) refused lines
@@ -137,26 +138,26 @@ module _ (command : Command) (stages : CheckedRuleStages) (planned : (plan_of co
   verify-right : (conf : Option (List ℕ)) → within_option_limits command ≡ true →
       IfSome conf (λ c. found ≡ plant_of_conf stages c) → (depth conflicts : ℕ) (cert : List ℕ) →
       command ≡ Verify Strict depth conflicts cert → (bytes : List ℕ) (p : PlantLists) → conf ≡ Some bytes →
-      IsCleanConfOfPlant bytes p → SaysSafeAtOneOrSpent p depth conflicts made
+      StrictlyCleanConfHasPlant bytes p → SaysSafeAtOneOrSpent p depth conflicts made
   verify-right None limits known depth conflicts cert is bytes p at clean = absurd (cc)
   verify-right (Some c) limits known depth conflicts cert is bytes p at clean =
       let here : found ≡ Ok p = asked-by c (Verify Strict depth conflicts cert) (All Strict) is refl known ∙ ap (plant_of_conf (All Strict)) (same_Some c bytes at) ∙ clean in
       verify-safe found bytes depth conflicts cert (Some some.text) made p here sound (subst (λ k. within_option_limits k ≡ true) is limits) (told-as (Verify Strict depth conflicts cert) is) clean
 
-  routes-right : (conf : Option (List ℕ)) → IfSome conf (λ c. found ≡ plant_of_conf stages c) → (columns : ColumnRuleMode) → command ≡ Table columns → made.status ≡ Good → IfSome conf (λ c. HasTableOf columns c made)
+  routes-right : (conf : Option (List ℕ)) → IfSome conf (λ c. found ≡ plant_of_conf stages c) → (columns : ColumnRuleMode) → command ≡ Table columns → made.status ≡ Good → IfSome conf (λ c. ReplyHasTableOfConf columns c made)
   routes-right None known columns is good = tt
   routes-right (Some c) known columns is good =
       table-right columns c found (Some some.text) made (asked-by c (Table columns) (Network columns) is refl known) (sound-at found sound) (told-as (Table columns) is) good
 
-  scene-right : (conf : Option (List ℕ)) → IfSome conf (λ c. found ≡ plant_of_conf stages c) → (run bytes : List ℕ) → command ≡ Drive Strict run → conf ≡ Some bytes → ReportsNoHazard run bytes extra made
+  scene-right : (conf : Option (List ℕ)) → IfSome conf (λ c. found ≡ plant_of_conf stages c) → (run bytes : List ℕ) → command ≡ Drive Strict run → conf ≡ Some bytes → DriveReportsNoHazard run bytes extra made
   scene-right None known run bytes is at = absurd (cc)
   scene-right (Some c) known run bytes is at =
       let here : found ≡ plant_of_conf (All Strict) c = asked-by c (Drive Strict run) (All Strict) is refl known in
-      let told : AnswersOutcome (Drive Strict run) found (Some some.text) made = told-as (Drive Strict run) is in
+      let told : AnswersPlantOrRefusals (Drive Strict run) found (Some some.text) made = told-as (Drive Strict run) is in
       record {
         scenario = some.text;
         whole = some.whole;
-        answer = subst (λ b. IsAnswerTo (Some (Drive Strict run)) (Some b) (Some some.text) made) (same_Some c bytes at) (subst (λ f. AnswersOutcome (Drive Strict run) f (Some some.text) made) here told);
+        answer = subst (λ b. IsAnswerTo (Some (Drive Strict run)) (Some b) (Some some.text) made) (same_Some c bytes at) (subst (λ f. AnswersPlantOrRefusals (Drive Strict run) f (Some some.text) made) here told);
         safe = drive-safe c found run some.text made here sound told;
       }
 
@@ -164,8 +165,8 @@ pub strictly-right :
     {E : Type 0} (command : Command) (stages : CheckedRuleStages) (conf extra : Option (List ℕ))
     (found : Result PlantLists Refusals) (made : Result Reply E) →
     (plan_of command).stages ≡ Some stages → within_option_limits command ≡ true →
-    IfSome conf (λ c. found ≡ plant_of_conf stages c) → IfSome conf GivesPlantDespiteColumns → IfOk found IsPlantFromSoundDrafts →
-    IfOk made (AnswersSomeExtra command found extra) → IfOk made (ReplyHasStrictGuarantees (Some command) conf extra)
+    IfSome conf (λ c. found ≡ plant_of_conf stages c) → IfSome conf GivesPlantIfColumnsUnchecked → IfOk found IsAcyclicFromSoundDrafts →
+    IfOk made (AnswersForSomeExtraInput command found extra) → IfOk made (ReplyHasStrictGuarantees (Some command) conf extra)
 strictly-right command stages conf extra found (Err e) planned limits known plant sound some = tt
 strictly-right command stages conf extra found (Ok made) planned limits known plant sound some = record {
   check = λ asked good. check-right command stages planned found sound extra made some conf known (same_Some command (Check Strict) asked) good;

@@ -1,6 +1,6 @@
--- The answer to arguments, a configuration and an extra input. The questions come in this order:
--- the arguments, the rules of the configuration, the length of the extra input, and the command's
--- own.
+-- The answer to arguments, a configuration and an extra input. These are judged in the order:
+-- arguments, rules of the configuration, length of the extra input, the command's own question. An
+-- input is `None` if its source doesn't expose its bytes to contracts.
 use Rattle.std.specs.Prelude.{ℕ, ◌≡◌, ◌++◌, Bool, true, false, Option, Some, None, IfSome, Result, Ok, Err, List, [], ◌∷◌, length, flat_map, nat_le, nat_lt, is_ok, option_map, if◌then◌else◌}
 use Rattle.ilk_base.specs.Option.{◌>>=◌}
 use Rattle.ilk_plant.specs.Plant.{PlantLists}
@@ -8,7 +8,7 @@ use Rattle.ilk_plant.specs.Draft.{plant_from_drafts}
 use Rattle.ilk_plant.specs.declared.broken.Broken.{Broken}
 use Rattle.ilk_plant.specs.declared.draft.NetDraft.{NetDraft}
 use Rattle.ilk_plant.specs.declared.draft.TableDraft.{TableDraft}
-use Rattle.ilk_net_read.specs.Fault.{fault_for_rule}
+use Rattle.ilk_net_read.specs.Fault.{rule_fault_at_place}
 use Rattle.ilk_net_read.specs.declared.fault.Form.TheVariants.{F1}
 use Rattle.ilk_net_read.specs.declared.fault.FormFault.{FormFault}
 use Rattle.ilk_net_read.specs.declared.fault.Place.TheVariants.{Document, Extra}
@@ -26,13 +26,13 @@ use Rattle.ilk_words.specs.declared.lengths.TheConstants.{MAX_CONFIGURATION_BYTE
 use Rattle.ilk_words.specs.declared.plan.CommandPlan.{CommandPlan}
 use Rattle.ilk_words.specs.declared.plan.CheckedRuleStages.{CheckedRuleStages}
 use Rattle.ilk_answers.specs.Audits.{AnswersAudit}
-use Rattle.ilk_answers.specs.Drives.{AnswersDrive}
-use Rattle.ilk_answers.specs.Made.{AnswersDemo, stations_conf_reply}
+use Rattle.ilk_answers.specs.Drives.{AnswersScenarioText}
+use Rattle.ilk_answers.specs.Made.{AnswersDemoWithRightVerdict, stations_conf_reply}
 use Rattle.ilk_answers.specs.Refutations.{AnswersRefutationText}
-use Rattle.ilk_answers.specs.Tables.{AnswersTable}
-use Rattle.ilk_answers.specs.Verdicts.{AnswersFormula, AnswersVerdict, wanted_query}
-use Rattle.ilk_answers.specs.Report.{clean_line, hazard_line, no_hazard_line, not_a_run_at_event, rejection_at_line, reply}
-use Rattle.ilk_answers.specs.Stages.{table_to_check, rules_broken}
+use Rattle.ilk_answers.specs.Tables.{AnswersTableOrWhyNone}
+use Rattle.ilk_answers.specs.Verdicts.{ReplyHasQueryFormulaText, AnswersWithRightVerdict, query_from_kind_and_length}
+use Rattle.ilk_answers.specs.Report.{clean_line, hazard_line, no_hazard_line, first_non_run_event_message, first_bad_line_message, reply}
+use Rattle.ilk_answers.specs.Stages.{table_to_check, first_broken_stage_rules}
 use Rattle.ilk_answers.specs.Refusal.{refusal_line}
 use Rattle.ilk_answers.specs.declared.refusals.Refusal.{Refusal}
 use Rattle.ilk_answers.specs.declared.refusals.Refusal.TheVariants.{Form as FormRefusal, Rule as RuleRefusal}
@@ -43,117 +43,124 @@ use Rattle.ilk_answers.specs.declared.status.Status.TheVariants.{Good, Refused a
 abbrev pub refused : Refusal → Reply
 refused refusal = reply IsRefused (refusal_line refusal)
 
--- A fault of the form, as the only refusal.
+-- The refusals with only one reason, a fault of the form.
 abbrev pub refusals_from_form_fault : FormFault → Refusals
 refusals_from_form_fault fault = record { first = FormRefusal fault; rest = [] }
 
 -- The broken rules as refusals, or `None` if there are none.
-abbrev pub refusals_from_broken_rules : List Broken → Option Refusals
-refusals_from_broken_rules [] = None
-refusals_from_broken_rules (first ∷ rest) = Some (record { first = RuleRefusal first; rest = rest })
+abbrev pub refusals_if_any_broken_rules : List Broken → Option Refusals
+refusals_if_any_broken_rules [] = None
+refusals_if_any_broken_rules (first ∷ rest) = Some (record { first = RuleRefusal first; rest = rest })
 
--- The refusals, if there are any, or else this value.
-abbrev pub unless_refused : {A : Type 0} → Option Refusals → A → Result A Refusals
-unless_refused None x = Ok x
-unless_refused (Some refusals) x = Err refusals
+-- `Err` with the refusals, if there are any, otherwise `Ok x`.
+abbrev pub refusals_or_value : {A : Type 0} → Option Refusals → A → Result A Refusals
+refusals_or_value None x = Ok x
+refusals_or_value (Some refusals) x = Err refusals
 
--- The plant of these drafts, or all their refusals.
+-- The plant of two drafts. It is refusals instead if the form has a fault, or the drafts break a
+-- rule of these stages.
 abbrev pub plant_of_drafts : CheckedRuleStages → Result (NetDraft × TableDraft) FormFault → Result PlantLists Refusals
 plant_of_drafts stages (Err fault) = Err (refusals_from_form_fault fault)
 plant_of_drafts stages (Ok (net, table)) =
-    unless_refused (refusals_from_broken_rules (rules_broken stages net table)) (plant_from_drafts net (table_to_check stages table))
+    refusals_or_value (refusals_if_any_broken_rules (first_broken_stage_rules stages net table)) (plant_from_drafts net (table_to_check stages table))
 
--- The plant of a configuration, or all its refusals. More than `MAX_CONFIGURATION_BYTES` bytes
--- break F1.
+-- The plant of a configuration, or its refusals. More than `MAX_CONFIGURATION_BYTES` bytes break
+-- F1.
 abbrev pub plant_of_conf : CheckedRuleStages → List ℕ → Result PlantLists Refusals
 plant_of_conf stages conf =
-    if nat_lt MAX_CONFIGURATION_BYTES (length conf) then Err (refusals_from_form_fault (fault_for_rule F1 Document)) else plant_of_drafts stages (net_and_table_drafts conf)
+    if nat_lt MAX_CONFIGURATION_BYTES (length conf) then Err (refusals_from_form_fault (rule_fault_at_place F1 Document)) else plant_of_drafts stages (net_and_table_drafts conf)
 
--- The plant of the configuration or its refusals, or `None` if the plan reads none or its bytes are
--- not exposed.
-abbrev pub conf_outcome : CommandPlan → Option (List ℕ) → Option (Result PlantLists Refusals)
-conf_outcome plan conf = do
+-- The plant of the configuration or its refusals; `None` if the plan reads no configuration or its
+-- bytes are not exposed.
+abbrev pub plant_or_refusals_if_exposed : CommandPlan → Option (List ℕ) → Option (Result PlantLists Refusals)
+plant_or_refusals_if_exposed plan conf = do
   stages ← plan.stages
   option_map (plant_of_conf stages) conf
 
-abbrev pub broken_lines : List Broken → List ℕ
-broken_lines found = flat_map (λ b. refusal_line (RuleRefusal b)) found
+abbrev pub refusal_lines_of_broken_rules : List Broken → List ℕ
+refusal_lines_of_broken_rules found = flat_map (λ b. refusal_line (RuleRefusal b)) found
 
--- `check` lists all refusals; every other command names the first.
-abbrev pub refused_by : Command → Refusals → Reply
-refused_by (Check columns) refusals = reply IsRefused (refusal_line refusals.first ++ broken_lines refusals.rest)
-refused_by _ refusals = refused refusals.first
+-- The reply to a refused configuration: `check` lists all refusals, every other command the first.
+abbrev pub all_or_first_refusal_reply : Command → Refusals → Reply
+all_or_first_refusal_reply (Check columns) refusals = reply IsRefused (refusal_line refusals.first ++ refusal_lines_of_broken_rules refusals.rest)
+all_or_first_refusal_reply _ refusals = refused refusals.first
 
--- The reply to the outcome of a replay: only a hazard is good.
+-- The reply to the outcome of a replay. Its status is `Good` only if the run ends in a hazard.
 abbrev pub replay_outcome_reply : PlantLists → Seen → Reply
-replay_outcome_reply p (NotARun at) = reply Rejected (not_a_run_at_event at)
+replay_outcome_reply p (NotARun at) = reply Rejected (first_non_run_event_message at)
 replay_outcome_reply p NoHazard = reply Rejected no_hazard_line
 replay_outcome_reply p (Hazard at) = reply Good (hazard_line p at)
 
--- The reply to a run text that was read: its replay, or its first bad line.
-abbrev pub reply_to_run_text : PlantLists → Tale → Reply
-reply_to_run_text p (Bad line) = reply Rejected (rejection_at_line line)
-reply_to_run_text p (IsTold run) = replay_outcome_reply p (replay_result p run.first run.events)
+-- The reply to a run text that was parsed: the outcome of its replay, or its first bad line.
+abbrev pub replay_or_bad_line_reply : PlantLists → Tale → Reply
+replay_or_bad_line_reply p (Bad line) = reply Rejected (first_bad_line_message line)
+replay_or_bad_line_reply p (IsTold run) = replay_outcome_reply p (replay_result p run.first run.events)
 
--- Holds if a reply answers a command to a plant and an extra input. A command without extra input
--- ignores it; one without configuration has no answer here.
-abbrev pub Answers : Command → PlantLists → List ℕ → Reply → Type 0
-Answers (Check columns) p extra made = made ≡ reply Good clean_line
-Answers (Verify columns depth conflicts cert) p extra made = AnswersVerdict p depth conflicts made
-Answers (Audit columns cert) p extra made = AnswersAudit p extra made
-Answers (Replay columns run) p extra made = made ≡ reply_to_run_text p (run_from_text p extra)
-Answers (Make stations) p extra made = ⊥
-Answers (Demo stations depth conflicts cert) p extra made = ⊥
-Answers (Table columns) p extra made = AnswersTable p made
-Answers (Export columns kind number) p extra made = AnswersFormula p (wanted_query kind number) made
-Answers (Rup columns kind number cert) p extra made = AnswersRefutationText p kind number extra made
-Answers (Drive columns run) p extra made = AnswersDrive p extra made
+-- Holds if a reply answers a command on plant `p` and the bytes `extra`, which some commands
+-- ignore. `make` and `demo` have no answer here.
+abbrev pub AnswersPlantAndExtra : Command → PlantLists → List ℕ → Reply → Type 0
+AnswersPlantAndExtra (Check columns) p extra made = made ≡ reply Good clean_line
+AnswersPlantAndExtra (Verify columns depth conflicts cert) p extra made = AnswersWithRightVerdict p depth conflicts made
+AnswersPlantAndExtra (Audit columns cert) p extra made = AnswersAudit p extra made
+AnswersPlantAndExtra (Replay columns run) p extra made = made ≡ replay_or_bad_line_reply p (run_from_text p extra)
+AnswersPlantAndExtra (Make stations) p extra made = ⊥
+AnswersPlantAndExtra (Demo stations depth conflicts cert) p extra made = ⊥
+AnswersPlantAndExtra (Table columns) p extra made = AnswersTableOrWhyNone p made
+AnswersPlantAndExtra (Export columns kind number) p extra made = ReplyHasQueryFormulaText p (query_from_kind_and_length kind number) made
+AnswersPlantAndExtra (Rup columns kind number cert) p extra made = AnswersRefutationText p kind number extra made
+AnswersPlantAndExtra (Drive columns run) p extra made = AnswersScenarioText p extra made
 
--- Holds if a reply answers a command that reads no configuration; the others have no answer here.
+-- Holds if a reply answers `make` or `demo`, which read no configuration. Other commands have no
+-- answer here.
 abbrev pub AnswersWithoutConf : Command → Reply → Type 0
 AnswersWithoutConf (Make stations) made = made ≡ stations_conf_reply stations
-AnswersWithoutConf (Demo stations depth conflicts cert) made = AnswersDemo stations depth conflicts made
+AnswersWithoutConf (Demo stations depth conflicts cert) made = AnswersDemoWithRightVerdict stations depth conflicts made
 AnswersWithoutConf _ made = ⊥
 
--- More bytes than the limit break F1; otherwise the reply is the command's.
+-- Holds if a reply answers a command on plant `p` and an extra input. If the first argument is
+-- false, the input is too long, and the reply has to refuse it by F1.
 abbrev pub AnswersOrRefusesTooLong : Bool → Command → PlantLists → List ℕ → Reply → Type 0
-AnswersOrRefusesTooLong false command p extra made = made ≡ refused (FormRefusal (fault_for_rule F1 Extra))
-AnswersOrRefusesTooLong true command p extra made = Answers command p extra made
+AnswersOrRefusesTooLong false command p extra made = made ≡ refused (FormRefusal (rule_fault_at_place F1 Extra))
+AnswersOrRefusesTooLong true command p extra made = AnswersPlantAndExtra command p extra made
 
--- Holds if a reply answers a plant and the extra input, if the command reads one by this limit. It
--- holds for any reply if that input is read but not exposed.
-abbrev pub AnswersPlant : Option ℕ → Command → PlantLists → Option (List ℕ) → Reply → Type 0
-AnswersPlant None command p extra made = Answers command p [] made
-AnswersPlant (Some limit) command p extra made =
+-- Holds if a reply answers a command on plant `p` and the extra input. `Some limit` is the most
+-- bytes of that input; `None` if the command reads none. If an input is read but not exposed, any
+-- reply will do.
+abbrev pub AnswersPlantIfExtraExposed : Option ℕ → Command → PlantLists → Option (List ℕ) → Reply → Type 0
+AnswersPlantIfExtraExposed None command p extra made = AnswersPlantAndExtra command p [] made
+AnswersPlantIfExtraExposed (Some limit) command p extra made =
     IfSome extra (λ x. AnswersOrRefusesTooLong (nat_le (length x) limit) command p x made)
 
--- Holds if a reply answers a plant or the refusals of its configuration.
-abbrev pub AnswersOutcome : Command → Result PlantLists Refusals → Option (List ℕ) → Reply → Type 0
-AnswersOutcome command (Err refusals) extra made = made ≡ refused_by command refusals
-AnswersOutcome command (Ok p) extra made = AnswersPlant (plan_of command).extra command p extra made
+-- Holds if a reply answers a command on a plant and the extra input. If there are refusals instead
+-- of a plant, it has to refuse by them.
+abbrev pub AnswersPlantOrRefusals : Command → Result PlantLists Refusals → Option (List ℕ) → Reply → Type 0
+AnswersPlantOrRefusals command (Err refusals) extra made = made ≡ all_or_first_refusal_reply command refusals
+AnswersPlantOrRefusals command (Ok p) extra made = AnswersPlantIfExtraExposed (plan_of command).extra command p extra made
 
--- Holds if a reply answers a configuration, if the command checks one by these stages. It holds for
--- any reply if the configuration is read but not exposed.
-abbrev pub AnswersConfBytes : Option CheckedRuleStages → Command → Option (List ℕ) → Option (List ℕ) → Reply → Type 0
-AnswersConfBytes None command conf extra made = AnswersWithoutConf command made
-AnswersConfBytes (Some stages) command conf extra made =
-    IfSome conf (λ bytes. AnswersOutcome command (plant_of_conf stages bytes) extra made)
+-- Holds if a reply answers a command on a configuration whose rules are checked in these stages;
+-- `None` if the command reads none. If the configuration is read but not exposed, any reply will
+-- do.
+abbrev pub AnswersIfConfExposed : Option CheckedRuleStages → Command → Option (List ℕ) → Option (List ℕ) → Reply → Type 0
+AnswersIfConfExposed None command conf extra made = AnswersWithoutConf command made
+AnswersIfConfExposed (Some stages) command conf extra made =
+    IfSome conf (λ bytes. AnswersPlantOrRefusals command (plant_of_conf stages bytes) extra made)
 
--- Holds if a reply answers arguments that give this command, or none, and what is read.
+-- Holds if a reply answers these inputs: the command that the arguments give, the configuration and
+-- the extra input. Without a command, it has to be the usage error.
 abbrev pub IsAnswerTo : Option Command → Option (List ℕ) → Option (List ℕ) → Reply → Type 0
 IsAnswerTo None conf extra made = made ≡ reply Usage []
-IsAnswerTo (Some command) conf extra made = AnswersConfBytes (plan_of command).stages command conf extra made
+IsAnswerTo (Some command) conf extra made = AnswersIfConfExposed (plan_of command).stages command conf extra made
 
--- Arguments that give no command read nothing and write no certificate.
-abbrev pub io_plan_if_command : Option Command → CommandPlan
-io_plan_if_command None = record { stages = None; extra = None; certifies = false }
-io_plan_if_command (Some command) = plan_of command
+-- The plan of a command; without a command nothing is read and no certificate is written.
+abbrev pub command_plan_or_empty : Option Command → CommandPlan
+command_plan_or_empty None = record { stages = None; extra = None; certifies = false }
+command_plan_or_empty (Some command) = plan_of command
 
--- Returns whether the plan gets to the extra input, which needs a plant; `None` if that is not
--- known.
-abbrev pub reaches_extra : CommandPlan → Option (List ℕ) → Option Bool
-reaches_extra plan conf = option_map is_ok (conf_outcome plan conf)
+-- Returns whether the extra input is reached, which needs a configuration that gives a plant;
+-- `None` if that is unknown.
+abbrev pub reads_extra_if_known : CommandPlan → Option (List ℕ) → Option Bool
+reads_extra_if_known plan conf = option_map is_ok (plant_or_refusals_if_exposed plan conf)
 
--- The most bytes of the configuration, or `None` if the plan reads none.
-abbrev pub conf_limit : CommandPlan → Option ℕ
-conf_limit plan = option_map (λ stages. MAX_CONFIGURATION_BYTES) plan.stages
+-- The maximum number of bytes of the configuration, or `None` if the plan reads none.
+abbrev pub max_conf_bytes_if_read : CommandPlan → Option ℕ
+max_conf_bytes_if_read plan = option_map (λ stages. MAX_CONFIGURATION_BYTES) plan.stages

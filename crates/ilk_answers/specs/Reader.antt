@@ -4,20 +4,21 @@ use Rattle.ilk_plant.specs.Plant.{PlantLists}
 use Rattle.ilk_plant_audit.specs.Audited as audit
 use Rattle.ilk_words.specs.declared.command.Command.{Command}
 use Rattle.ilk_words.specs.declared.command.Command.TheVariants.{Audit}
-use Rattle.ilk_answers.specs.declared.reader.ExtraReader.{ExtraReader}
-use Rattle.ilk_answers.specs.declared.reader.ExtraReader.TheVariants.{Text, Certificate}
+use Rattle.ilk_answers.specs.declared.reader.ExtraInputReader.{ExtraInputReader}
+use Rattle.ilk_answers.specs.declared.reader.ExtraInputReader.TheVariants.{Text, Certificate}
 
--- Returns whether a command checks its input piece by piece, as a certificate, and keeps no text.
+-- Returns whether the command is `audit`, whose input is checked piece by piece and not kept.
 abbrev pub is_audit : Command → Bool
 is_audit (Audit columns cert) = true
 is_audit _ = false
 
--- Holds if the reader of a command over a plant has read these bytes, in one piece or more.
-abbrev pub ExtraReaderHasRead : Command → PlantLists → ExtraReader → List ℕ → Type 0
-ExtraReaderHasRead command p (Text text) bytes = (is_audit command ≡ false) × (text.items ≡ bytes)
-ExtraReaderHasRead command p (Certificate reader) bytes =
+-- Holds if the reader was made for this command and plant, and has read these bytes, in one piece
+-- or more.
+abbrev pub ReaderHasReadExtraInput : Command → PlantLists → ExtraInputReader → List ℕ → Type 0
+ReaderHasReadExtraInput command p (Text text) bytes = (is_audit command ≡ false) × (text.items ≡ bytes)
+ReaderHasReadExtraInput command p (Certificate reader) bytes =
     (is_audit command ≡ true) × (reader.plant.now ≡ p) × audit.HasAuditedBytes reader bytes
 
--- Holds if the reader was fed these bytes between `before` and `after`.
-abbrev pub WasFed : ExtraReader → ExtraReader → List ℕ → Type 0
-WasFed before after bytes = (command : Command) (p : PlantLists) (read : List ℕ) → ExtraReaderHasRead command p before read → ExtraReaderHasRead command p after (read ++ bytes)
+-- Holds if `after` is the reader `before` after it was fed these bytes.
+abbrev pub ReaderWasFedBytes : ExtraInputReader → ExtraInputReader → List ℕ → Type 0
+ReaderWasFedBytes before after bytes = (command : Command) (p : PlantLists) (read : List ℕ) → ReaderHasReadExtraInput command p before read → ReaderHasReadExtraInput command p after (read ++ bytes)

@@ -9,7 +9,7 @@ use Rattle.ilk_plant.specs.declared.broken.Broken.{Broken}
 use Rattle.ilk_answers.specs.declared.refusals.Refusal.{Refusal}
 use Rattle.ilk_answers.specs.declared.refusals.Refusal.TheVariants.{Form as FormRefusal, Rule as RuleRefusal}
 
--- The name of a rule of form, such as `F1`.
+-- The name of a rule of the form, such as `F1`.
 abbrev pub form_rule_name : Form → List ℕ
 form_rule_name F1 = codes "F1"
 form_rule_name F2 = codes "F2"
@@ -18,7 +18,7 @@ form_rule_name F4 = codes "F4"
 form_rule_name F5 = codes "F5"
 form_rule_name F6 = codes "F6"
 
--- An entry such as `routes[3]`.
+-- The text of entry i of the list `places`, such as `routes[3]`.
 abbrev pub indexed_entry_text : List ℕ → ℕ → List ℕ
 indexed_entry_text places i = places ++ (codes "[" ++ (decimal i ++ codes "]"))
 
@@ -28,7 +28,7 @@ place_text Extra = codes "extra"
 place_text (Section i) = indexed_entry_text (codes "sections") i
 place_text (Route i) = indexed_entry_text (codes "routes") i
 
--- The text of the places at which a rule is broken, such as `routes[3]`.
+-- The text of the one or two places at which a rule is broken, such as `routes[3]`.
 abbrev pub broken_places_text : Broken → List ℕ
 broken_places_text broken = with_second broken.second
   where
@@ -38,7 +38,7 @@ broken_places_text broken = with_second broken.second
         indexed_entry_text (place_kind_word (place_kind_of broken.rule)) broken.first
         ++ (codes " " ++ indexed_entry_text (place_kind_word (place_kind_of broken.rule)) second)
 
--- `refused`, the rule, the place and a line feed.
+-- The report line of a refusal: `refused`, the rule and the place.
 abbrev pub refusal_line_for_rule : List ℕ → List ℕ → List ℕ
 refusal_line_for_rule rule place = codes "refused " ++ (rule ++ (codes " " ++ (place ++ 10 ∷ [])))
 

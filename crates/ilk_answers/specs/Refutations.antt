@@ -1,4 +1,4 @@
--- The answer to another solver's text that is to refute the formula of a query.
+-- The answer to another solver's refutation of a query's formula.
 use Rattle.std.specs.Prelude.{ℕ, ◌≡◌, ◌⊎◌, List}
 use Rattle.ilk_cnf.specs.Formula.{Formula}
 use Rattle.ilk_plant.specs.Plant.{PlantLists}
@@ -8,28 +8,29 @@ use Rattle.ilk_queries.specs.Goal.{goal_of_plant}
 use Rattle.ilk_rup.specs.Accepted.{IsAccepted, IsFirstBadItem}
 use Rattle.ilk_unroll.specs.Query.{query_formula}
 use Rattle.ilk_words.specs.declared.command.QueryKind.{QueryKind}
-use Rattle.ilk_answers.specs.Report.{query_has_no_run_line, rejection_at_item, reply}
-use Rattle.ilk_answers.specs.Verdicts.{wanted_query}
+use Rattle.ilk_answers.specs.Report.{query_has_no_run_line, first_bad_item_message, reply}
+use Rattle.ilk_answers.specs.Verdicts.{query_from_kind_and_length}
 use Rattle.ilk_answers.specs.declared.reply.Reply.{Reply}
 use Rattle.ilk_answers.specs.declared.status.Status.TheVariants.{Good, Rejected}
 
 -- The formula of the query of this kind for runs of n events.
 abbrev pub formula_of_query : PlantLists → QueryKind → ℕ → Formula
-formula_of_query p kind n = query_formula (system_of_plant p) (goal_of_plant p) (wanted_query kind n)
+formula_of_query p kind n = query_formula (system_of_plant p) (goal_of_plant p) (query_from_kind_and_length kind n)
 
--- Holds if a reply accepts a text that refutes the formula, so the plant has no run that the query
--- asks for.
+-- Holds if the text refutes the query's formula, and a reply accepts it. The plant then has no run
+-- that the query asks for.
 pub record AcceptsRefutation (p : PlantLists) (kind : QueryKind) (n : ℕ) (text : List ℕ) (made : Reply) : Type 0 where
   pub accepted : IsAccepted (formula_of_query p kind n) text
-  pub none : ¬ HasQueriedRun p (wanted_query kind n)
+  pub none : ¬ HasQueriedRun p (query_from_kind_and_length kind n)
   pub reply : made ≡ reply Good (query_has_no_run_line kind n)
 
--- Holds if a reply names the first bad item of a text that doesn't refute the formula.
+-- Holds if the text doesn't refute the query's formula, and a reply rejects it by its first bad
+-- item.
 pub record RejectsRefutation (p : PlantLists) (kind : QueryKind) (n : ℕ) (text : List ℕ) (made : Reply) : Type 0 where
   pub item : ℕ
   pub first : IsFirstBadItem (formula_of_query p kind n) text item
-  pub reply : made ≡ reply Rejected (rejection_at_item item)
+  pub reply : made ≡ reply Rejected (first_bad_item_message item)
 
--- Holds if a reply answers a text that is to refute the formula of this query.
+-- Holds if a reply accepts or rejects a text as refutation of this query's formula, and is right.
 abbrev pub AnswersRefutationText : PlantLists → QueryKind → ℕ → List ℕ → Reply → Type 0
 AnswersRefutationText p kind n text made = AcceptsRefutation p kind n text made ⊎ RejectsRefutation p kind n text made

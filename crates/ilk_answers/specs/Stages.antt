@@ -15,31 +15,30 @@ use Rattle.ilk_words.specs.declared.command.ColumnRuleMode.TheVariants.{Strict, 
 use Rattle.ilk_words.specs.declared.plan.CheckedRuleStages.{CheckedRuleStages}
 use Rattle.ilk_words.specs.declared.plan.CheckedRuleStages.TheVariants.{All, Network}
 
--- The findings of the first stage, or else those of the later ones.
+-- The broken rules of a first stage, or those of the later stages if it has none.
 abbrev pub first_nonempty_broken : List Broken → List Broken → List Broken
 first_nonempty_broken [] later = later
 first_nonempty_broken (first ∷ rest) later = first ∷ rest
 
--- The broken column rules, which are checked only if the columns are strict.
-abbrev pub columns_broken : ColumnRuleMode → PlantLists → List Broken
-columns_broken Strict p = column_rules_broken p
-columns_broken Free p = []
+-- The broken column rules of a plant; none with free columns.
+abbrev pub broken_column_rules_if_strict : ColumnRuleMode → PlantLists → List Broken
+broken_column_rules_if_strict Strict p = column_rules_broken p
+broken_column_rules_if_strict Free p = []
 
--- The borders without a board in their inward direction (C7); checked only if the columns are
--- strict.
-abbrev pub borders_broken : ColumnRuleMode → PlantLists → List Broken
-borders_broken Strict p = broken_for_column_rule p C7
-borders_broken Free p = []
+-- The broken C7 rules of a plant: borders without a board in their inward direction. None with free
+-- columns.
+abbrev pub borders_without_board_if_strict : ColumnRuleMode → PlantLists → List Broken
+borders_without_board_if_strict Strict p = broken_for_column_rule p C7
+borders_without_board_if_strict Free p = []
 
 -- The table whose rules are checked: without routes if only the network is checked.
 abbrev pub table_to_check : CheckedRuleStages → TableDraft → TableDraft
 table_to_check (All columns) table = table
 table_to_check (Network columns) table = no_routes
 
--- The broken rules of the network; if there are none, those of the table; if there are none, those
--- of the columns.
-abbrev pub rules_broken : CheckedRuleStages → NetDraft → TableDraft → List Broken
-rules_broken (All columns) net table =
-    first_nonempty_broken (network_rules_broken net) (first_nonempty_broken (table_rules_broken net table) (columns_broken columns (plant_from_drafts net table)))
-rules_broken (Network columns) net table =
-    first_nonempty_broken (network_rules_broken net) (borders_broken columns (plant_from_drafts net no_routes))
+-- The broken rules of the first stage that has any: the network's, the table's or the columns'.
+abbrev pub first_broken_stage_rules : CheckedRuleStages → NetDraft → TableDraft → List Broken
+first_broken_stage_rules (All columns) net table =
+    first_nonempty_broken (network_rules_broken net) (first_nonempty_broken (table_rules_broken net table) (broken_column_rules_if_strict columns (plant_from_drafts net table)))
+first_broken_stage_rules (Network columns) net table =
+    first_nonempty_broken (network_rules_broken net) (borders_without_board_if_strict columns (plant_from_drafts net no_routes))

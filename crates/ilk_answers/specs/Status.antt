@@ -1,4 +1,4 @@
--- The exit status for each end of the program.
+-- The exit status for each outcome of the program.
 use Rattle.std.specs.Prelude.{ℕ, Bool, true, false}
 use Rattle.ilk_answers.specs.declared.status.Status.{Status}
 use Rattle.ilk_answers.specs.declared.status.Status.TheVariants.{Good, Unsafe, NotInductive, Breach, Spent, Refused, Rejected, Usage, ReadFault, WriteFault, OutOfMemory}
@@ -16,21 +16,22 @@ code ReadFault = 8
 code WriteFault = 9
 code OutOfMemory = 10
 
--- Returns whether a command replies with this status: the arguments were right, no fault came and
--- memory sufficed.
-abbrev pub is_reply_status : Status → Bool
-is_reply_status Usage = false
-is_reply_status ReadFault = false
-is_reply_status WriteFault = false
-is_reply_status OutOfMemory = false
-is_reply_status _ = true
+-- Returns whether a command's reply can have this status. It is false for a usage error, a read or
+-- write fault, and lack of memory.
+abbrev pub is_fault_free_command_status : Status → Bool
+is_fault_free_command_status Usage = false
+is_fault_free_command_status ReadFault = false
+is_fault_free_command_status WriteFault = false
+is_fault_free_command_status OutOfMemory = false
+is_fault_free_command_status _ = true
 
--- Returns whether the status is an answer: no fault came and memory sufficed.
-abbrev pub is_answer_status : Status → Bool
-is_answer_status Usage = true
-is_answer_status status = is_reply_status status
+-- Returns whether the status is that of an answer, be it a usage error. It is false for a read or
+-- write fault, and lack of memory.
+abbrev pub is_fault_free_status : Status → Bool
+is_fault_free_status Usage = true
+is_fault_free_status status = is_fault_free_command_status status
 
--- Returns whether the call came to writing: all was read, and there was a reply to write.
-abbrev pub reached_writing : Status → Bool
-reached_writing WriteFault = true
-reached_writing status = is_reply_status status
+-- Returns whether, by this status, there was a reply and its writing began.
+abbrev pub had_reply_to_write : Status → Bool
+had_reply_to_write WriteFault = true
+had_reply_to_write status = is_fault_free_command_status status

@@ -1,7 +1,7 @@
 ghost use Rattle.std.specs.Prelude.{◌≡◌, ◌^◌, ◌<◌, ℕ, List, [], None, true, false, IfOk, IsTrue, is_some, length};
-ghost use Rattle.ilk_answers.specs.Answer.{Answers, AnswersWithoutConf};
-ghost use Rattle.ilk_answers.specs.Reader.{ExtraReaderHasRead, is_audit};
-ghost use Rattle.ilk_answers.specs.Reply.{FitsIoPlan};
+ghost use Rattle.ilk_answers.specs.Answer.{AnswersPlantAndExtra, AnswersWithoutConf};
+ghost use Rattle.ilk_answers.specs.Reader.{ReaderHasReadExtraInput, is_audit};
+ghost use Rattle.ilk_answers.specs.Reply.{HasAllowedStatusAndCertificate};
 ghost use Rattle.ilk_words.specs.Limits.{within_option_limits};
 ghost use Rattle.ilk_words.specs.Plan.{plan_of};
 
@@ -13,13 +13,11 @@ use crate::replay::replay_reply;
 use crate::rup::query_rup_reply;
 use crate::table::table_reply;
 use crate::verify::verify_reply;
-use crate::{ExtraReader, Reply, Status};
+use crate::{ExtraInputReader, Reply, Status};
 use ilk_plant::Plant;
 use ilk_words::Command;
 use std::alloc::{AllocError, Global};
 
-// Returns the reply to a plant and to the text of the extra input, if any, for a command other than
-// `audit`.
 fn text_reply(
     alloc: Global,
     command: &Command,
@@ -29,8 +27,8 @@ fn text_reply(
     requires options { IsTrue (within_option_limits command.now) }
     requires over { is_some (plan_of command.now).stages ≡ true }
     requires text { is_audit command.now ≡ false }
-    ensures reply { IfOk result (Answers command.now plant.now text.now) }
-    ensures planned { IfOk result (FitsIoPlan (plan_of command.now)) }
+    ensures reply { IfOk result (AnswersPlantAndExtra command.now plant.now text.now) }
+    ensures planned { IfOk result (HasAllowedStatusAndCertificate (plan_of command.now)) }
 {
     match command {
         Command::Check { .. } => {
@@ -51,7 +49,7 @@ fn text_reply(
     }
 }
 
-/// Returns the reply to a plant of a command without extra input.
+/// Returns the reply of `command` on `plant`, for a command that reads only a configuration.
 #[tactic(auto, using(crate::proofs::Readers::reads_no_certificate))]
 pub fn answer_without_extra(
     alloc: Global,
@@ -61,39 +59,40 @@ pub fn answer_without_extra(
     requires options { IsTrue (within_option_limits command.now) }
     requires over { is_some (plan_of command.now).stages ≡ true }
     requires no_more { (plan_of command.now).extra ≡ None }
-    ensures reply { IfOk result (Answers command.now plant.now []) }
-    ensures planned { IfOk result (FitsIoPlan (plan_of command.now)) }
+    ensures reply { IfOk result (AnswersPlantAndExtra command.now plant.now []) }
+    ensures planned { IfOk result (HasAllowedStatusAndCertificate (plan_of command.now)) }
 {
     text_reply(alloc, command, plant, &[])
 }
 
-/// Returns the reply to a plant and to the bytes that `reader` was fed.
+/// Returns the reply of a command on `plant` and on the bytes that `reader` was fed.
 pub fn answer(
     alloc: Global,
     command: &Command,
     plant: &Plant,
-    reader: ExtraReader<'_>,
+    reader: ExtraInputReader<'_>,
 ) -> Result<Reply, AllocError>
     requires options { IsTrue (within_option_limits command.now) }
     requires over { is_some (plan_of command.now).stages ≡ true }
-    requires read { (bytes : List ℕ) × ExtraReaderHasRead command.now plant.now reader bytes }
+    requires read { (bytes : List ℕ) × ReaderHasReadExtraInput command.now plant.now reader bytes }
     ensures reply { IfOk result
-        (λ made. (bytes : List ℕ) → ExtraReaderHasRead command.now plant.now reader.entry bytes →
-        length bytes < 2 ^ 40 → Answers command.now plant.now bytes made) }
-    ensures planned { IfOk result (FitsIoPlan (plan_of command.now)) }
+        (λ made. (bytes : List ℕ) →
+        ReaderHasReadExtraInput command.now plant.now reader.entry bytes →
+        length bytes < 2 ^ 40 → AnswersPlantAndExtra command.now plant.now bytes made) }
+    ensures planned { IfOk result (HasAllowedStatusAndCertificate (plan_of command.now)) }
 {
     match reader {
-        ExtraReader::Text(text) => text_reply(alloc, command, plant, text.as_slice()),
-        ExtraReader::Certificate(audit) => audit_reply(alloc, plant, audit),
+        ExtraInputReader::Text(text) => text_reply(alloc, command, plant, text.as_slice()),
+        ExtraInputReader::Certificate(audit) => audit_reply(alloc, plant, audit),
     }
 }
 
-/// Returns the reply of a command that reads no configuration.
+/// Returns the reply of `make` or `demo`, which read no configuration.
 pub fn answer_without_conf(alloc: Global, command: &Command) -> Result<Reply, AllocError>
     requires options { IsTrue (within_option_limits command.now) }
     requires alone { (plan_of command.now).stages ≡ None }
     ensures reply { IfOk result (AnswersWithoutConf command.now) }
-    ensures planned { IfOk result (FitsIoPlan (plan_of command.now)) }
+    ensures planned { IfOk result (HasAllowedStatusAndCertificate (plan_of command.now)) }
 {
     match command {
         Command::Make { stations } => stations_conf_reply(alloc, *stations),

@@ -1,28 +1,27 @@
 ghost use Rattle.std.specs.Prelude.{◌≡◌, [], Err, IfErr, IfOk, Ok};
 ghost use Rattle.ilk_plant.specs.Draft.{plant_from_drafts};
 ghost use Rattle.ilk_plant.specs.Limits.{WithinLimits, NetworkWithinLimits};
-ghost use Rattle.ilk_plant.specs.NetNames.{HasNamesOf};
+ghost use Rattle.ilk_plant.specs.NetNames.{HasBoardsAndNamesOf};
 ghost use Rattle.ilk_plant.specs.NetworkRules.{network_rules_broken};
 ghost use Rattle.ilk_plant.specs.TableRules.{table_rules_broken};
-ghost use Rattle.ilk_answers.specs.Answer.{unless_refused, refusals_from_broken_rules};
-ghost use Rattle.ilk_answers.specs.Stages.{table_to_check, borders_broken, columns_broken, first_nonempty_broken, rules_broken};
+ghost use Rattle.ilk_answers.specs.Answer.{refusals_or_value, refusals_if_any_broken_rules};
+ghost use Rattle.ilk_answers.specs.Stages.{table_to_check, borders_without_board_if_strict, broken_column_rules_if_strict, first_nonempty_broken, first_broken_stage_rules};
 ghost use Rattle.ilk_tablegen.specs.Rules.{no_routes};
 
 use crate::Refusals;
 use ilk_net_check::check_network_with_names;
 use ilk_plant::{Broken, NetDraft, NetNames, NumberedNetAndTable, Plant, Row, TableDraft};
-use ilk_table_check::{check_borders, check_columns, check_numbered_table};
-use ilk_tablegen::bare_network_is_sound;
+use ilk_table_check::{borders_without_inward_board, check_columns, check_numbered_table};
+use ilk_tablegen::network_without_routes_makes_plant;
 use ilk_words::{CheckedRuleStages, ColumnRuleMode};
 use std::alloc::{AllocError, Global};
 
-// Returns the broken column rules; none if the columns are free.
 fn broken_columns(
     alloc: Global,
     columns: ColumnRuleMode,
     plant: &Plant,
 ) -> Result<Row<Broken>, AllocError>
-    ensures { IfOk result (λ found. found ≡ columns_broken columns plant.now) }
+    ensures { IfOk result (λ found. found ≡ broken_column_rules_if_strict columns plant.now) }
 {
     match columns {
         ColumnRuleMode::Strict => check_columns(alloc, plant),
@@ -30,37 +29,34 @@ fn broken_columns(
     }
 }
 
-// Returns `asked` if no rule was found broken, or else the refusals.
 fn unless_broken<T: Drop>(
     found: Result<Row<Broken>, AllocError>,
     asked: T,
 ) -> Result<Result<T, Refusals>, AllocError>
     ensures answered { IfOk found (λ broken. result
-        ≡ Ok (unless_refused (refusals_from_broken_rules broken) asked)) }
+        ≡ Ok (refusals_or_value (refusals_if_any_broken_rules broken) asked)) }
     ensures wanting { IfErr found (λ error. result ≡ Err error) }
 {
-    match Refusals::from_broken_rules(found?) {
+    match Refusals::from_broken_rules_if_any(found?) {
         Some(refusals) => Ok(Err(refusals)),
         None => Ok(Ok(asked)),
     }
 }
 
-// Checks the column rules if the columns are strict.
 fn check_plant(
     alloc: Global,
     columns: ColumnRuleMode,
     plant: Plant,
 ) -> Result<Result<Plant, Refusals>, AllocError>
     ensures { IfOk result
-        (λ found. found ≡ unless_refused
-        (refusals_from_broken_rules (columns_broken columns plant)) plant) }
+        (λ found. found ≡ refusals_or_value
+        (refusals_if_any_broken_rules (broken_column_rules_if_strict columns plant)) plant) }
 {
     let found = broken_columns(alloc, columns, &plant);
     unless_broken(found, plant)
 }
 
-// Checks the rules of the table, then those of the columns. The drafts are numbered once, with the
-// names that the network was checked with.
+// Numbers the drafts once, with the names that the network was checked with.
 fn check_routes(
     alloc: Global,
     columns: ColumnRuleMode,
@@ -69,12 +65,12 @@ fn check_routes(
     table: &TableDraft,
 ) -> Result<Result<Plant, Refusals>, AllocError>
     requires limits { WithinLimits net.now table.now }
-    requires named { HasNamesOf names net.now }
+    requires named { HasBoardsAndNamesOf names net.now }
     requires network { network_rules_broken net.now ≡ [] }
-    ensures { IfOk result (λ found. found ≡ unless_refused
-        (refusals_from_broken_rules
+    ensures { IfOk result (λ found. found ≡ refusals_or_value
+        (refusals_if_any_broken_rules
         (first_nonempty_broken (table_rules_broken net.now table.now)
-        (columns_broken columns (plant_from_drafts net.now table.now))))
+        (broken_column_rules_if_strict columns (plant_from_drafts net.now table.now))))
         (plant_from_drafts net.now table.now)) }
 {
     let drafts = NumberedNetAndTable::from_drafts_with_names(alloc, names, net, table)?;
@@ -85,8 +81,6 @@ fn check_routes(
     }
 }
 
-// Checks all rules: those of the network, then those of the table, then, with strict columns, those
-// of the columns.
 fn check_all(
     alloc: Global,
     columns: ColumnRuleMode,
@@ -96,8 +90,8 @@ fn check_all(
     requires { WithinLimits net.now table.now }
     ensures { IfOk result
         (λ found. found
-        ≡ unless_refused (refusals_from_broken_rules
-        (rules_broken (CheckedRuleStages.All columns) net.now table.now))
+        ≡ refusals_or_value (refusals_if_any_broken_rules
+        (first_broken_stage_rules (CheckedRuleStages.All columns) net.now table.now))
         (plant_from_drafts net.now table.now)) }
 {
     let names = NetNames::from_network(alloc, net)?;
@@ -108,35 +102,33 @@ fn check_all(
     }
 }
 
-// Returns the borders without their board; none if the columns are free.
 fn broken_borders(
     alloc: Global,
     columns: ColumnRuleMode,
     plant: &Plant,
 ) -> Result<Row<Broken>, AllocError>
-    ensures { IfOk result (λ found. found ≡ borders_broken columns plant.now) }
+    ensures { IfOk result (λ found. found ≡ borders_without_board_if_strict columns plant.now) }
 {
     match columns {
-        ColumnRuleMode::Strict => check_borders(alloc, plant),
+        ColumnRuleMode::Strict => borders_without_inward_board(alloc, plant),
         ColumnRuleMode::Free => Ok(Row::new(alloc)),
     }
 }
 
-// Checks the borders of a plant if the columns are strict.
 fn check_plant_borders(
     alloc: Global,
     columns: ColumnRuleMode,
     plant: Plant,
 ) -> Result<Result<Plant, Refusals>, AllocError>
     ensures { IfOk result
-        (λ found. found ≡ unless_refused
-        (refusals_from_broken_rules (borders_broken columns plant)) plant) }
+        (λ found. found ≡ refusals_or_value
+        (refusals_if_any_broken_rules (borders_without_board_if_strict columns plant)) plant) }
 {
     let found = broken_borders(alloc, columns, &plant);
     unless_broken(found, plant)
 }
 
-// Checks the borders of a network, over its plant without routes, if the columns are strict.
+// Checks the borders of the network's plant without routes, if the columns are strict.
 fn check_bare(
     alloc: Global,
     columns: ColumnRuleMode,
@@ -144,15 +136,15 @@ fn check_bare(
     net: &NetDraft,
 ) -> Result<Result<Plant, Refusals>, AllocError>
     requires limits { NetworkWithinLimits net.now }
-    requires named { HasNamesOf names net.now }
+    requires named { HasBoardsAndNamesOf names net.now }
     requires network { network_rules_broken net.now ≡ [] }
     ensures { IfOk result
         (λ found. found
-        ≡ unless_refused (refusals_from_broken_rules (borders_broken columns
+        ≡ refusals_or_value (refusals_if_any_broken_rules (borders_without_board_if_strict columns
         (plant_from_drafts net.now no_routes)))
         (plant_from_drafts net.now no_routes)) }
 {
-    bare_network_is_sound();
+    network_without_routes_makes_plant();
     let table = TableDraft {
         routes: Row::new(alloc),
     };
@@ -160,17 +152,16 @@ fn check_bare(
     check_plant_borders(alloc, columns, Plant::from_numbered(alloc, drafts)?)
 }
 
-// Checks the rules of the network only, then its borders if the columns are strict.
 fn check_network(
     alloc: Global,
     columns: ColumnRuleMode,
     net: &NetDraft,
 ) -> Result<Result<Plant, Refusals>, AllocError>
     requires { NetworkWithinLimits net.now }
-    ensures { IfOk result (λ found. found ≡ unless_refused
-        (refusals_from_broken_rules
+    ensures { IfOk result (λ found. found ≡ refusals_or_value
+        (refusals_if_any_broken_rules
         (first_nonempty_broken (network_rules_broken net.now)
-        (borders_broken columns (plant_from_drafts net.now no_routes))))
+        (borders_without_board_if_strict columns (plant_from_drafts net.now no_routes))))
         (plant_from_drafts net.now no_routes)) }
 {
     let names = NetNames::from_network(alloc, net)?;
@@ -181,10 +172,10 @@ fn check_network(
     }
 }
 
-/// Checks the rules of a network and its table, stage by stage. The first stage that finds a broken
-/// rule refuses the drafts with all it finds. If none does, returns the plant, without routes if
-/// only the network is checked.
-pub fn check_drafts(
+/// Checks the rules of a network and its table, stage by stage: network, table, columns. If a stage
+/// finds broken rules, returns all of that stage as refusals. Otherwise returns the plant, without
+/// routes if `stages` checks only the network.
+pub(crate) fn check_drafts(
     alloc: Global,
     stages: CheckedRuleStages,
     net: &NetDraft,
@@ -193,7 +184,8 @@ pub fn check_drafts(
     requires { WithinLimits net.now table.now }
     ensures { IfOk result
         (λ found. found
-        ≡ unless_refused (refusals_from_broken_rules (rules_broken stages net.now table.now))
+        ≡ refusals_or_value (refusals_if_any_broken_rules (first_broken_stage_rules stages net.now
+        table.now))
         (plant_from_drafts net.now (table_to_check stages table.now))) }
 {
     match stages {

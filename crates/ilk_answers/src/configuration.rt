@@ -1,6 +1,6 @@
 ghost use Rattle.std.specs.Prelude.{◌≡◌, ◌≤◌, IfOk, OnOk, length};
 ghost use Rattle.ilk_answers.specs.Answer.{plant_of_conf};
-ghost use Rattle.ilk_answers.specs.Strict.{GivesPlantDespiteColumns};
+ghost use Rattle.ilk_answers.specs.Strict.{GivesPlantIfColumnsUnchecked};
 ghost use Rattle.ilk_words.specs.declared.lengths.TheConstants.{MAX_CONFIGURATION_BYTES};
 
 use crate::Refusals;
@@ -11,8 +11,8 @@ use ilk_table_read::read_net_and_table_drafts;
 use ilk_words::CheckedRuleStages;
 use std::alloc::{AllocError, Global};
 
-/// Returns the plant of a configuration, or all the refusals of these stages. `conf` has at most
-/// `MAX_CONFIGURATION_BYTES` bytes.
+/// Returns the plant of the configuration `conf`, or its refusals if a rule of these stages is
+/// broken. `conf` has at most `MAX_CONFIGURATION_BYTES` bytes.
 pub fn plant_of_conf(
     alloc: Global,
     stages: CheckedRuleStages,
@@ -20,7 +20,7 @@ pub fn plant_of_conf(
 ) -> Result<Result<Plant, Refusals>, AllocError>
     requires { length conf.now ≤ MAX_CONFIGURATION_BYTES }
     ensures found { IfOk result (λ found. found ≡ plant_of_conf stages conf.now) }
-    ensures plant { OnOk result (GivesPlantDespiteColumns conf.now) }
+    ensures plant { OnOk result (GivesPlantIfColumnsUnchecked conf.now) }
 {
     match read_net_and_table_drafts(alloc, conf) {
         Ok((net, table)) => check_drafts(alloc, stages, &net, &table),

@@ -6,10 +6,8 @@ use ilk_lines::RemainingBytes;
 use std::alloc::Global;
 use std::marker::Model;
 
-// The origin of a content's bytes.
 #[derive(Drop)]
 enum Source {
-    // Bytes in memory.
     Bytes(RemainingBytes),
     // Made as they are taken, from the logs of a certificate.
     Certificate(CertificateText),
@@ -17,15 +15,14 @@ enum Source {
     Formula(FormulaText),
 }
 
-/// The bytes still to be written to a sink.
-///
-/// They are taken in pieces, without allocating memory, so a content needn't be held as bytes.
+/// Output bytes that are still to be written. The text of a certificate or formula is made only as
+/// it is taken, so it is never in memory as a whole. Taking bytes allocates nothing.
 #[derive(Drop)]
-pub struct Content {
+pub struct PendingOutput {
     source: Source,
 }
 
-impl Model for Content {
+impl Model for PendingOutput {
     ghost use Rattle.std.specs.Prelude.{ℕ, List};
 
     ghost Value = { List ℕ };
@@ -35,43 +32,43 @@ impl Model for Content {
     ghost view = { λ content. unread_bytes content.source };
 }
 
-impl Content {
-    /// Creates an empty content.
-    pub fn empty(alloc: Global) -> Content
+impl PendingOutput {
+    /// Creates an output without bytes.
+    pub fn empty(alloc: Global) -> PendingOutput
         ensures { result ≡ [] }
     {
-        Content::from_bytes(Vec::new(alloc))
+        PendingOutput::from_bytes(Vec::new(alloc))
     }
 
-    /// Creates a content of `bytes`.
-    pub fn from_bytes(bytes: Vec<u8>) -> Content
+    /// Creates an output of `bytes`, held in memory.
+    pub fn from_bytes(bytes: Vec<u8>) -> PendingOutput
         ensures { result ≡ bytes.items }
     {
-        Content {
+        PendingOutput {
             source: Source::Bytes(RemainingBytes::from_bytes(bytes)),
         }
     }
 
-    /// Creates a content from the text of a certificate.
-    pub fn from_certificate(text: CertificateText) -> Content
+    /// Creates an output of a certificate's text.
+    pub fn from_certificate(text: CertificateText) -> PendingOutput
         ensures { result ≡ text }
     {
-        Content {
+        PendingOutput {
             source: Source::Certificate(text),
         }
     }
 
-    /// Creates a content from the text of a formula.
-    pub fn from_formula(text: FormulaText) -> Content
+    /// Creates an output of a formula's text.
+    pub fn from_formula(text: FormulaText) -> PendingOutput
         ensures { result ≡ text }
     {
-        Content {
+        PendingOutput {
             source: Source::Formula(text),
         }
     }
 
-    /// Moves the next bytes into the front of `into`, as many as there are and as fit. Returns how
-    /// many.
+    /// Moves the next bytes into the front of `into`, as many as there are and as fit. Returns
+    /// their number.
     pub fn take(&mut self, into: &mut [u8]) -> usize
         ensures count { result ≡ min (length into.old) (length self.old) }
         ensures bytes { take result into.new ≡ take result self.old }

@@ -1,6 +1,6 @@
-//! Answers as values: the reply to a configuration and to the extra input, which is what a command
-//! reads besides. A call here fails only if memory runs out; `ilk_top` reads, writes and counts
-//! faults.
+//! Answers as values: the reply to a configuration and to the extra input, the second input that
+//! some commands read. A call here fails only if memory runs out; `ilk_top` reads, writes and
+//! counts faults.
 //!
 //! `plant_of_conf` turns a configuration into a plant, or into all its refusals (`checks`,
 //! `refusals`). `refuse` is the reply to refusals.
@@ -11,8 +11,8 @@
 //! `answer_without_conf` is the reply of a command that reads no configuration (`made`).
 //!
 //! The extra input is fed in pieces (`reader`), and a reply is taken in pieces (`content`).
-//! `specs/Answer.antt` defines which replies are answers; `specs/Verdicts.antt`, `Audits`,
-//! `Refutations`, `IsDriveFrom`, `RunLits` and `Made` define it for single commands.
+//! `specs/Answer.antt` defines which replies are answers; the files `Verdicts`, `Audits`,
+//! `Refutations`, `Drives`, `Tables` and `Made` define it for single commands.
 #![tactic(auto)]
 
 mod answering;
@@ -38,8 +38,8 @@ mod verify;
 
 pub use answering::{answer, answer_without_conf, answer_without_extra};
 pub use configuration::plant_of_conf;
-pub use content::Content;
-pub use reader::ExtraReader;
+pub use content::PendingOutput;
+pub use reader::ExtraInputReader;
 pub use refusals::{Refusal, Refusals};
 pub use refused_reply::refuse;
 pub use reply::Reply;

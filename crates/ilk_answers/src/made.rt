@@ -1,23 +1,23 @@
 ghost use Rattle.std.specs.Prelude.{◌≡◌, ◌<◌, ◌≤◌, [], IfOk, IsTrue, string_bytes};
 ghost use Rattle.ilk_gen.specs.declared.making.TheConstants.{MAX_STATIONS};
-ghost use Rattle.ilk_answers.specs.Made.{AnswersDemo, demo_verdict_line, stations_conf_reply, stations_plant};
-ghost use Rattle.ilk_answers.specs.Status.{is_reply_status};
+ghost use Rattle.ilk_answers.specs.Made.{AnswersDemoWithRightVerdict, demo_verdict_line, stations_conf_reply, stations_plant};
+ghost use Rattle.ilk_answers.specs.Status.{is_fault_free_command_status};
 
 use crate::report::verdict_line;
 use crate::verify::verdict_status;
-use crate::{Content, Reply, Status};
+use crate::{PendingOutput, Reply, Status};
 use ilk_engine::{Found, Verdict, decide, lazy_certificate_text};
 use ilk_gen::{stations, stations_break_no_rule, stations_plant};
 use ilk_plant::Plant;
 use std::alloc::{AllocError, Global};
 
-/// Returns the reply with the configuration of `n` generated stations, from 1 to 16.
-pub fn stations_conf_reply(alloc: Global, n: u32) -> Result<Reply, AllocError>
+/// Returns the reply of `make`: the configuration of `n` generated stations, `n` from 1 to 16.
+pub(crate) fn stations_conf_reply(alloc: Global, n: u32) -> Result<Reply, AllocError>
     requires some { 1 ≤ n }
     requires few { n ≤ MAX_STATIONS }
     ensures reply { IfOk result (λ made. made ≡ stations_conf_reply n) }
     ensures planned { IfOk result
-        (λ made. IsTrue (is_reply_status made.status) × (made.certificate ≡ [])) }
+        (λ made. IsTrue (is_fault_free_command_status made.status) × (made.certificate ≡ [])) }
 {
     let mut text = stations(alloc, n)?;
     text.push(b'\n')?;
@@ -53,7 +53,7 @@ fn verdict_reply(
     requires some_depth { 0 < depth }
     requires depth { depth ≤ 16 }
     requires plant { plant.now ≡ stations_plant n }
-    ensures { IfOk result (AnswersDemo n depth conflicts) }
+    ensures { IfOk result (AnswersDemoWithRightVerdict n depth conflicts) }
 {
     plant.prove_is_plant();
     stations_break_no_rule(n);
@@ -63,15 +63,15 @@ fn verdict_reply(
     let line = demo_verdict_line(alloc, plant, n, conflicts, &verdict)?;
     Ok(Reply {
         status: verdict_status(&verdict),
-        report: Content::from_bytes(line.into_bytes()),
-        certificate: Content::from_certificate(text),
+        report: PendingOutput::from_bytes(line.into_bytes()),
+        certificate: PendingOutput::from_certificate(text),
     })
 }
 
-/// Returns the reply with the verdict on the plant of `n` generated stations, from 1 to 16. The
-/// runs have at most `depth` events, from 1 to 16, and the searches take at most `conflicts`
-/// conflicts.
-pub fn demo_verdict_reply(
+/// Returns the reply of `demo`: the verdict on the plant of `n` generated stations, `n` from 1 to
+/// 16. It examines runs of at most `depth` events, from 1 to 16; its searches learn at most
+/// `conflicts` clauses in total.
+pub(crate) fn demo_verdict_reply(
     alloc: Global,
     n: u32,
     depth: u32,
@@ -81,7 +81,7 @@ pub fn demo_verdict_reply(
     requires few { n ≤ MAX_STATIONS }
     requires some_depth { 0 < depth }
     requires depth { depth ≤ 16 }
-    ensures { IfOk result (AnswersDemo n depth conflicts) }
+    ensures { IfOk result (AnswersDemoWithRightVerdict n depth conflicts) }
 {
     let plant = stations_plant(alloc, n)?;
     verdict_reply(alloc, &plant, n, depth, conflicts)

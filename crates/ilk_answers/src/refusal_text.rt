@@ -32,14 +32,13 @@ fn place_text(alloc: Global, place: Place) -> Result<String, AllocError>
     }
 }
 
-/// Returns the text of entry `i` of these places, such as `routes[3]`.
-pub fn indexed_entry_text(alloc: Global, places: &str, i: u32) -> Result<String, AllocError>
+/// Returns the text of entry `i` of the list `places`, such as `routes[3]`.
+pub(crate) fn indexed_entry_text(alloc: Global, places: &str, i: u32) -> Result<String, AllocError>
     ensures { IfOk result (λ text. string_bytes text ≡ indexed_entry_text places.now i) }
 {
     format!(in alloc; "{places}[{i}]")
 }
 
-// Returns the text of the one or two places of a broken rule.
 fn broken_text(alloc: Global, broken: Broken) -> Result<String, AllocError>
     ensures { IfOk result (λ text. string_bytes text ≡ broken_places_text broken) }
 {
@@ -60,15 +59,19 @@ fn joined(alloc: Global, first: &str, second: &str) -> Result<String, AllocError
     format!(in alloc; "{first} {second}")
 }
 
-/// Returns the line of a refusal by `rule`, broken at `place`.
-pub fn refusal_line_for_rule(alloc: Global, rule: &str, place: &str) -> Result<String, AllocError>
+/// Returns the report line of a configuration refused by `rule` at `place`: `refused RULE PLACE`.
+pub(crate) fn refusal_line_for_rule(
+    alloc: Global,
+    rule: &str,
+    place: &str,
+) -> Result<String, AllocError>
     ensures { IfOk result (λ line. string_bytes line ≡ refusal_line_for_rule rule.now place.now) }
 {
     format!(in alloc; "refused {rule} {place}\n")
 }
 
-/// Returns the line that a refusal prints: its rule and its place.
-pub fn refusal_line(alloc: Global, refusal: Refusal) -> Result<String, AllocError>
+/// Returns the report line of `refusal`, with its rule and place.
+pub(crate) fn refusal_line(alloc: Global, refusal: Refusal) -> Result<String, AllocError>
     ensures { IfOk result (λ line. string_bytes line ≡ refusal_line refusal) }
 {
     let (rule, place) = match refusal {

@@ -1,8 +1,6 @@
-//! The reasons why a configuration is refused, as values.
-
 ghost use Rattle.std.specs.Prelude.{◌≡◌};
-ghost use Rattle.ilk_answers.specs.Answer.{refusals_from_form_fault, refusals_from_broken_rules};
-ghost use Rattle.ilk_net_read.specs.Fault.{fault_for_rule};
+ghost use Rattle.ilk_answers.specs.Answer.{refusals_from_form_fault, refusals_if_any_broken_rules};
+ghost use Rattle.ilk_net_read.specs.Fault.{rule_fault_at_place};
 
 use ilk_net_read::{Form, FormFault, Place};
 use ilk_plant::{Broken, Row};
@@ -11,9 +9,9 @@ use std::alloc::Global;
 /// One reason why a configuration is refused.
 #[derive(Clone, Copy, PartialEq, Eq, Debug)]
 pub enum Refusal {
-    /// A form rule is broken.
+    /// A rule of the form (F) is broken.
     Form(FormFault),
-    /// A rule of the network or of the table is broken.
+    /// A rule of the network (N), the table (R) or its columns (C) is broken.
     Rule(Broken),
 }
 
@@ -27,7 +25,7 @@ pub struct Refusals {
 }
 
 impl Refusals {
-    /// Returns a fault of the form as the only refusal.
+    /// Creates refusals with only one reason, a fault of the form.
     pub fn from_form_fault(alloc: Global, fault: FormFault) -> Refusals
         ensures { result ≡ refusals_from_form_fault fault }
     {
@@ -37,9 +35,9 @@ impl Refusals {
         }
     }
 
-    /// Returns the refusal of a configuration with too many bytes.
+    /// Creates the refusals of a configuration that has too many bytes.
     pub fn too_long(alloc: Global) -> Refusals
-        ensures { result ≡ refusals_from_form_fault (fault_for_rule Form.F1 Place.Document) }
+        ensures { result ≡ refusals_from_form_fault (rule_fault_at_place Form.F1 Place.Document) }
     {
         Refusals::from_form_fault(
             alloc,
@@ -50,9 +48,9 @@ impl Refusals {
         )
     }
 
-    /// Returns these broken rules as refusals, or `None` if there are none.
-    pub fn from_broken_rules(found: Row<Broken>) -> Option<Refusals>
-        ensures { result ≡ refusals_from_broken_rules found }
+    /// Creates refusals from the broken rules `found`. Returns `None` if there are none.
+    pub fn from_broken_rules_if_any(found: Row<Broken>) -> Option<Refusals>
+        ensures { result ≡ refusals_if_any_broken_rules found }
     {
         let mut rest = found;
         if rest.as_slice().is_empty() {

@@ -1,9 +1,7 @@
-//! The reply to a configuration that is refused.
-
 ghost use Rattle.std.specs.Prelude.{◌≡◌, ◌++◌, IfOk, string_bytes};
-ghost use Rattle.ilk_answers.specs.Answer.{broken_lines, refused_by};
+ghost use Rattle.ilk_answers.specs.Answer.{refusal_lines_of_broken_rules, all_or_first_refusal_reply};
 ghost use Rattle.ilk_answers.specs.Refusal.{refusal_line};
-ghost use Rattle.ilk_answers.specs.Reply.{FitsIoPlan};
+ghost use Rattle.ilk_answers.specs.Reply.{HasAllowedStatusAndCertificate};
 ghost use Rattle.ilk_words.specs.Plan.{plan_of};
 
 use crate::refusal_text::refusal_line;
@@ -14,7 +12,7 @@ use std::alloc::{AllocError, Global};
 fn refusal_lines(alloc: Global, refusals: &Refusals) -> Result<String, AllocError>
     ensures { IfOk result
         (λ lines. string_bytes lines
-        ≡ refusal_line refusals.now.first ++ broken_lines refusals.now.rest) }
+        ≡ refusal_line refusals.now.first ++ refusal_lines_of_broken_rules refusals.now.rest) }
 {
     let mut lines = refusal_line(alloc, refusals.first)?;
     for broken in refusals.rest.as_slice() {
@@ -24,11 +22,12 @@ fn refusal_lines(alloc: Global, refusals: &Refusals) -> Result<String, AllocErro
     Ok(lines)
 }
 
-/// Returns the reply of a command to a refused configuration: `check` lists all refusals, every
-/// other command the first.
+/// Returns the reply of `command` to a refused configuration: `check` lists all refusals, every
+/// other command only the first.
 pub fn refuse(alloc: Global, command: &Command, refusals: &Refusals) -> Result<Reply, AllocError>
-    ensures reply { IfOk result (λ made. made ≡ refused_by command.now refusals.now) }
-    ensures planned { IfOk result (FitsIoPlan (plan_of command.now)) }
+    ensures reply { IfOk result (λ made. made ≡
+        all_or_first_refusal_reply command.now refusals.now) }
+    ensures planned { IfOk result (HasAllowedStatusAndCertificate (plan_of command.now)) }
 {
     match command {
         Command::Check { .. } => {

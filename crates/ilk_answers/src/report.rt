@@ -1,7 +1,7 @@
 ghost use Rattle.std.specs.Prelude.{◌≡◌, IfOk, string_bytes};
-ghost use Rattle.ilk_answers.specs.Drives.{drive_end_line, drive_end_text};
-ghost use Rattle.ilk_answers.specs.Report.{accepted_line, hazard_line, hazard_text, not_a_run_at_event, query_has_no_run_line};
-ghost use Rattle.ilk_answers.specs.Report.{rejection_at_item, rejection_at_line, section_name, unsafe_line};
+ghost use Rattle.ilk_answers.specs.Drives.{drive_end_and_length_line, drive_end_text};
+ghost use Rattle.ilk_answers.specs.Report.{certificate_accepted_line, hazard_line, hazard_text, first_non_run_event_message, query_has_no_run_line};
+ghost use Rattle.ilk_answers.specs.Report.{first_bad_item_message, first_bad_line_message, section_name, unsafe_line};
 ghost use Rattle.ilk_answers.specs.Verdicts.{verdict_line};
 
 use ilk_drive::Rest;
@@ -11,7 +11,6 @@ use ilk_plant::{HasWord, Plant};
 use ilk_words::QueryKind;
 use std::alloc::{AllocError, Global};
 
-// Returns the name of section `x`; empty if there is no such section.
 fn section_name(plant: &Plant, x: u32) -> &str
     ensures { result.now ≡ section_name plant.now x }
 {
@@ -38,8 +37,12 @@ fn hazard_text(alloc: Global, plant: &Plant, hazard: HazardAt) -> Result<String,
     }
 }
 
-/// Returns the line that names a hazard.
-pub fn hazard_line(alloc: Global, plant: &Plant, hazard: HazardAt) -> Result<String, AllocError>
+/// Returns the report line that names `hazard` and its section.
+pub(crate) fn hazard_line(
+    alloc: Global,
+    plant: &Plant,
+    hazard: HazardAt,
+) -> Result<String, AllocError>
     ensures { IfOk result (λ line. string_bytes line ≡ hazard_line plant.now hazard) }
 {
     let text = hazard_text(alloc, plant, hazard)?;
@@ -58,8 +61,9 @@ fn unsafe_line(
     format!(in alloc; "unsafe steps={steps} hazard={text}\n")
 }
 
-/// Returns the line of a verdict, if the searches were allowed `conflicts` conflicts.
-pub fn verdict_line(
+/// Returns the report line of `verdict`. `conflicts` is the budget of the searches, printed if it
+/// is spent.
+pub(crate) fn verdict_line(
     alloc: Global,
     plant: &Plant,
     conflicts: u64,
@@ -83,29 +87,30 @@ pub fn verdict_line(
     }
 }
 
-/// Returns the line that names the first bad line of a text.
-pub fn rejection_at_line(alloc: Global, line: u64) -> Result<String, AllocError>
-    ensures { IfOk result (λ text. string_bytes text ≡ rejection_at_line line) }
+/// Returns the report line `rejected line N` of an input whose first bad line is `line`, from 1.
+pub(crate) fn first_bad_line_message(alloc: Global, line: u64) -> Result<String, AllocError>
+    ensures { IfOk result (λ text. string_bytes text ≡ first_bad_line_message line) }
 {
     format!(in alloc; "rejected line {line}\n")
 }
 
-/// Returns the line that names the first event that is not a step of a run.
-pub fn not_a_run_at_event(alloc: Global, at: u64) -> Result<String, AllocError>
-    ensures { IfOk result (λ text. string_bytes text ≡ not_a_run_at_event at) }
+/// Returns the report line `not a run at N` of a run text. Event `at`, from 1, is the first that
+/// isn't enabled or follows a hazard.
+pub(crate) fn first_non_run_event_message(alloc: Global, at: u64) -> Result<String, AllocError>
+    ensures { IfOk result (λ text. string_bytes text ≡ first_non_run_event_message at) }
 {
     format!(in alloc; "not a run at {at}\n")
 }
 
-/// Returns the line that accepts a certificate for `k`.
-pub fn accepted_line(alloc: Global, k: u32) -> Result<String, AllocError>
-    ensures { IfOk result (λ text. string_bytes text ≡ accepted_line k) }
+/// Returns the report line `accepted k=K` of a certificate that was accepted for `k`.
+pub(crate) fn certificate_accepted_line(alloc: Global, k: u32) -> Result<String, AllocError>
+    ensures { IfOk result (λ text. string_bytes text ≡ certificate_accepted_line k) }
 {
     format!(in alloc; "accepted k={k}\n")
 }
 
-/// Returns the line that says that this query has no run.
-pub fn query_has_no_run_line(
+/// Returns the report line of an accepted refutation: the query of this kind and number has no run.
+pub(crate) fn query_has_no_run_line(
     alloc: Global,
     kind: QueryKind,
     number: u32,
@@ -116,9 +121,10 @@ pub fn query_has_no_run_line(
     format!(in alloc; "refuted {query} {number}\n")
 }
 
-/// Returns the line that names the first bad item of a text.
-pub fn rejection_at_item(alloc: Global, item: u64) -> Result<String, AllocError>
-    ensures { IfOk result (λ text. string_bytes text ≡ rejection_at_item item) }
+/// Returns the report line `rejected item N` of a refutation whose first bad item is `item`, from
+/// 1.
+pub(crate) fn first_bad_item_message(alloc: Global, item: u64) -> Result<String, AllocError>
+    ensures { IfOk result (λ text. string_bytes text ≡ first_bad_item_message item) }
 {
     format!(in alloc; "rejected item {item}\n")
 }
@@ -136,14 +142,15 @@ fn drive_end_text(alloc: Global, plant: &Plant, rest: Rest) -> Result<String, Al
     }
 }
 
-/// Returns the line with the end of a drive and its number of events.
-pub fn drive_end_line(
+/// Returns the report line of a simulation: how it ended, and its number of events.
+pub(crate) fn drive_end_and_length_line(
     alloc: Global,
     plant: &Plant,
     rest: Rest,
     steps: u64,
 ) -> Result<String, AllocError>
-    ensures { IfOk result (λ line. string_bytes line ≡ drive_end_line plant.now rest steps) }
+    ensures { IfOk result (λ line. string_bytes line ≡
+        drive_end_and_length_line plant.now rest steps) }
 {
     let text = drive_end_text(alloc, plant, rest)?;
     format!(in alloc; "{text} steps={steps}\n")

@@ -8,8 +8,8 @@ use ilk_plant::{Plant, Row};
 use ilk_replay::{Told, write_run};
 use std::alloc::{AllocError, Global};
 
-/// Returns the text of a run from the initial state.
-pub fn run_text_from_start(
+/// Returns the run text of `events`, a run from the initial state.
+pub(crate) fn run_text_from_start(
     alloc: Global,
     plant: &Plant,
     events: Row<Event>,

@@ -1,7 +1,7 @@
 ghost use Rattle.std.specs.Prelude.{◌≡◌};
 ghost use Rattle.ilk_answers.specs.Status.{code};
 
-/// The end of a call of the program.
+/// The outcome of a command, from which its exit status follows.
 #[derive(Clone, Copy, PartialEq, Eq, Debug)]
 pub enum Status {
     Good,

@@ -2,55 +2,52 @@ ghost use Rattle.std.specs.Prelude.{◌≡◌, [], IfOk, IsTrue, OnOk, string_by
 ghost use Rattle.ilk_tablegen.specs.Table.{generation_result};
 ghost use Rattle.ilk_tablegen.specs.declared.walks.Walks.TheVariants as walk;
 ghost use Rattle.ilk_plant.specs.declared.draft.TableDraft.{TableDraft};
-ghost use Rattle.ilk_answers.specs.Status.{is_reply_status};
-ghost use Rattle.ilk_answers.specs.Tables.{IsReadBack, AnswersTable, overlong_way_line, conf_text_with_table};
+ghost use Rattle.ilk_answers.specs.Status.{is_fault_free_command_status};
+ghost use Rattle.ilk_answers.specs.Tables.{IsReadBack, AnswersTableOrWhyNone, overlong_way_from_board_line, conf_v2_text_with_table};
 
 use crate::refusal_text::{indexed_entry_text, refusal_line_for_rule};
 use crate::{Reply, Status};
 use ilk_conf_write::{Version, configuration_json};
 use ilk_plant::{Plant, TableDraft};
-use ilk_tablegen::{Walks, network_and_table_keep_rules, network_draft, routes_of};
+use ilk_tablegen::{Walks, generated_drafts_break_only_c7, network_draft, routes_of};
 use std::alloc::{AllocError, Global};
 
-// Returns the configuration of the plant's network with `table`, in version 2.
-fn conf_text_with_table(
+fn conf_v2_text_with_table(
     alloc: Global,
     plant: &Plant,
     table: &TableDraft,
 ) -> Result<Vec<u8>, AllocError>
     requires { generation_result plant.now ≡ walk.Routes table.now }
-    ensures text { IfOk result (λ text. text.items ≡ conf_text_with_table plant.now table.now) }
+    ensures text { IfOk result (λ text. text.items ≡ conf_v2_text_with_table plant.now table.now) }
     ensures read { OnOk result (IsReadBack plant.now table.now) }
 {
-    network_and_table_keep_rules(plant);
+    generated_drafts_break_only_c7(plant);
     let net = network_draft(alloc, plant)?;
     configuration_json(alloc, Version::Second, &net, table)
 }
 
-// Returns the line that refuses a network, because from this board no way ends within the longest
-// allowed path.
-fn overlong_way_line(alloc: Global, board: u32) -> Result<String, AllocError>
-    ensures { IfOk result (λ line. string_bytes line ≡ overlong_way_line board) }
+fn overlong_way_from_board_line(alloc: Global, board: u32) -> Result<String, AllocError>
+    ensures { IfOk result (λ line. string_bytes line ≡ overlong_way_from_board_line board) }
 {
     let place = indexed_entry_text(alloc, "boards", board)?;
     refusal_line_for_rule(alloc, "G1", place.as_str())
 }
 
-/// Returns the reply with the configuration of the plant's network and the table of its routes, or
-/// the reason why it has no such table.
-pub fn table_reply(alloc: Global, plant: &Plant) -> Result<Reply, AllocError>
-    ensures reply { IfOk result (AnswersTable plant.now) }
+/// Returns the reply of `table`: the configuration of the plant's network with the table of its
+/// routes, or the reason why it has no such table.
+pub(crate) fn table_reply(alloc: Global, plant: &Plant) -> Result<Reply, AllocError>
+    ensures reply { IfOk result (AnswersTableOrWhyNone plant.now) }
     ensures planned { IfOk result
-        (λ made. IsTrue (is_reply_status made.status) × (made.certificate ≡ [])) }
+        (λ made. IsTrue (is_fault_free_command_status made.status) × (made.certificate ≡ [])) }
 {
     match routes_of(alloc, plant)? {
         Walks::Routes(table) => {
-            let mut text = conf_text_with_table(alloc, plant, &table)?;
+            let mut text = conf_v2_text_with_table(alloc, plant, &table)?;
             text.push(b'\n')?;
             Ok(Reply::with_report_bytes(alloc, Status::Good, text))
         }
         Walks::TooLong { board } => {
-            let line = overlong_way_line(alloc, board)?;
+            let line = overlong_way_from_board_line(alloc, board)?;
             Ok(Reply::with_report(alloc, Status::Refused, line))
         }
         Walks::TooMany => {

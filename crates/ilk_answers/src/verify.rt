@@ -1,18 +1,17 @@
 ghost use Rattle.std.specs.Prelude.{◌≡◌, ◌<◌, ◌≤◌, ◌++◌, IfOk};
-ghost use Rattle.ilk_answers.specs.Verdicts.{AnswersVerdict, verdict_line, verdict_run_text, verdict_status};
-ghost use Rattle.ilk_answers.specs.Writable.{HasRunOverPlant};
+ghost use Rattle.ilk_answers.specs.Verdicts.{AnswersWithRightVerdict, verdict_line, verdict_run_text, verdict_status};
+ghost use Rattle.ilk_answers.specs.Writable.{VerdictRunFitsPlant};
 
 use crate::report::verdict_line;
 use crate::run_text::run_text_from_start;
-use crate::{Content, Reply, Status};
+use crate::{PendingOutput, Reply, Status};
 use ilk_engine::{CertificateText, Found, Verdict, decide, lazy_certificate_text};
 use ilk_plant::Plant;
 use ilk_replay::{Told, write_run};
 use std::alloc::{AllocError, Global};
 
-// Returns the text of a verdict's run; empty if it has none.
 fn verdict_run_text(alloc: Global, plant: &Plant, verdict: Verdict) -> Result<Vec<u8>, AllocError>
-    requires { HasRunOverPlant plant.now verdict }
+    requires { VerdictRunFitsPlant plant.now verdict }
     ensures { IfOk result (λ text. text.items ≡ verdict_run_text plant.now verdict) }
 {
     match verdict {
@@ -30,8 +29,8 @@ fn verdict_run_text(alloc: Global, plant: &Plant, verdict: Verdict) -> Result<Ve
     }
 }
 
-/// Returns the status of a verdict.
-pub fn verdict_status(verdict: &Verdict) -> Status
+/// Returns the status that reports `verdict`.
+pub(crate) fn verdict_status(verdict: &Verdict) -> Status
     ensures { result ≡ verdict_status verdict.now }
 {
     match verdict {
@@ -50,7 +49,7 @@ fn verdict_reply(
     verdict: Verdict,
     certificate: CertificateText,
 ) -> Result<Reply, AllocError>
-    requires { HasRunOverPlant plant.now verdict }
+    requires { VerdictRunFitsPlant plant.now verdict }
     ensures status { IfOk result (λ made. made.status ≡ verdict_status verdict) }
     ensures report { IfOk result
         (λ made. made.report
@@ -63,14 +62,15 @@ fn verdict_reply(
     report.extend_from_slice(run.as_slice())?;
     Ok(Reply {
         status,
-        report: Content::from_bytes(report),
-        certificate: Content::from_certificate(certificate),
+        report: PendingOutput::from_bytes(report),
+        certificate: PendingOutput::from_certificate(certificate),
     })
 }
 
-/// Returns the reply with the verdict on a plant. The runs have at most `depth` events, from 1 to
-/// 16, and the searches take at most `conflicts` conflicts.
-pub fn verify_reply(
+/// Returns the reply of `verify`: the verdict on `plant` with its run and certificate. It examines
+/// runs of at most `depth` events, from 1 to 16; its searches learn at most `conflicts` clauses in
+/// total.
+pub(crate) fn verify_reply(
     alloc: Global,
     plant: &Plant,
     depth: u32,
@@ -78,7 +78,7 @@ pub fn verify_reply(
 ) -> Result<Reply, AllocError>
     requires some_depth { 0 < depth }
     requires depth { depth ≤ 16 }
-    ensures { IfOk result (AnswersVerdict plant.now depth conflicts) }
+    ensures { IfOk result (AnswersWithRightVerdict plant.now depth conflicts) }
 {
     let found = decide(alloc, plant, depth, conflicts)?;
     let Found { verdict, asked } = found;

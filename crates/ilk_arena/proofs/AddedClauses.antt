@@ -1,4 +1,3 @@
--- The state after a clause is added.
 use Rattle.std.proofs.Common.{◌≡◌, ◌≢◌, ℕ, zero, suc, ◌+◌, ◌*◌, ◌<◌, ◌≤◌, inl, inr, true, false, ltb, leb, List, [], ◌∷◌, ◌++◌, length, get_or, set, map, refl, sym, ap, ◌∙◌, subst, arith, Some, length-append}
 use Rattle.std.specs.List.{slice_get}
 use Rattle.std.proofs.lemmas.Bool.{cases_Bool, and_parts, leb-true, eqb-false, or_parts, not-true}
@@ -6,8 +5,8 @@ use Rattle.std.proofs.lemmas.List.{map-append, length-map}
 use Rattle.ilk_base.proofs.Lists.{slice_get-push_cases}
 use Rattle.ilk_cnf.specs.Literal.{Literal, has_var, has_distinct_vars}
 use Rattle.ilk_cnf.specs.Formula.{is_lit_over, is_clause_over}
-use Rattle.ilk_arena.specs.Arena.{ArenaLists, place, is_listed_in, chains_with_first, chains_with_clause, with_clause_added}
-use Rattle.ilk_arena.specs.declared.place.TheConstants.{WORD_LIMIT}
+use Rattle.ilk_arena.specs.Arena.{ArenaLists, place, contains_reference, chains_with_first, chains_with_clause, with_clause_added}
+use Rattle.ilk_arena.specs.declared.place.TheConstants.{WORD_VALUE_LIMIT}
 use Rattle.ilk_arena.specs.Words.{IsMemberOf, with_chain_replaced}
 use Rattle.ilk_arena.specs.Linked.{lit_from_place, literals_at, cursor_at, chain_for_place, references_in, lists_of, HasWatchChains, HasClausesInOrder, HoldsArena}
 use Rattle.ilk_arena.proofs.Blocks.{references-are, blocks-push, stands-at}
@@ -69,7 +68,7 @@ grown-by :
     HoldsArena ws hs vars count → lists_of vars old ws hs (references_in ws) ≡ x → has_distinct_vars ls ≡ true →
     Joins ws hs (references_in ws) (map place ls) ks a al b bl (count + 1) cs →
     Gives (chains_with_clause (length ws) ls (lists_of vars old ws hs (references_in ws)).chains) (length hs) cs →
-    length ws + length ls + 7 ≤ WORD_LIMIT →
+    length ws + length ls + 7 ≤ WORD_VALUE_LIMIT →
     Grown vars spare count (ws ++ block (length (map place ls)) a al b bl (count + 1) (map place ls)) ks x ls
     (length ws)
 unfolding lists_of
@@ -144,7 +143,7 @@ pub long-law :
     (vars spare old count : ℕ) (ws hs : List ℕ) (x : ArenaLists) (ls : List Literal) (l m : Literal) →
     HoldsArena ws hs vars count → lists_of vars old ws hs (references_in ws) ≡ x → is_clause_over vars ls ≡ true →
     has_distinct_vars ls ≡ true → slice_get ls 0 ≡ Some l → slice_get ls 1 ≡ Some m →
-    length ws + length ls + 7 ≤ WORD_LIMIT →
+    length ws + length ls + 7 ≤ WORD_VALUE_LIMIT →
     Grown vars spare count (words_long ws hs ls l m (count + 1)) (heads_long ws hs l m) x ls (length ws)
 long-law vars spare old count ws hs x ls l m h e ci vd a b fits =
     let refs = references_in ws in
@@ -176,7 +175,7 @@ words_short ws ls k = ws ++ block (length (map place ls)) 0 0 1 0 k (map place l
 
 pub short-law : (vars spare old count : ℕ) (ws hs : List ℕ) (x : ArenaLists) (ls : List Literal) →
     HoldsArena ws hs vars count → lists_of vars old ws hs (references_in ws) ≡ x → is_clause_over vars ls ≡ true →
-    has_distinct_vars ls ≡ true → length ls < 2 → length ws + length ls + 7 ≤ WORD_LIMIT →
+    has_distinct_vars ls ≡ true → length ls < 2 → length ws + length ls + 7 ≤ WORD_VALUE_LIMIT →
     Grown vars spare count (words_short ws ls (count + 1)) hs x ls (length ws)
 short-law vars spare old count ws hs x ls h e ci vd n fits =
     let refs = references_in ws in
@@ -192,13 +191,13 @@ short-law vars spare old count ws hs x ls h e ci vd n fits =
     same (l ∷ []) ch n = refl
     same (l ∷ (m ∷ ls)) ch n = absurd (omega arith)
 
-pub new-reference : (vars old count : ℕ) (ws hs : List ℕ) (x : ArenaLists) → HoldsArena ws hs vars count → lists_of vars old ws hs (references_in ws) ≡ x → is_listed_in (length ws) x.references ≡ false
+pub new-reference : (vars old count : ℕ) (ws hs : List ℕ) (x : ArenaLists) → HoldsArena ws hs vars count → lists_of vars old ws hs (references_in ws) ≡ x → contains_reference (length ws) x.references ≡ false
 new-reference vars old count ws hs x h e =
     let refs = references_in ws in
     let rs : x.references ≡ refs = ap (λ (y : ArenaLists). y.references) (sym e) ∙ references-seen vars old ws hs refs in
-    elim (cases_Bool (is_listed_in (length ws) refs)) [
+    elim (cases_Bool (contains_reference (length ws) refs)) [
       | inl t ↦ absurd (let s = stands-from (length ws) refs t in omega (arith, h.linked.whole (length ws) s))
-      | inr t ↦ ap (is_listed_in (length ws)) rs ∙ t
+      | inr t ↦ ap (contains_reference (length ws)) rs ∙ t
     ]
 
 clause-lit : (n : ℕ) (ls : List Literal) (i : ℕ) (l : Literal) → is_clause_over n ls ≡ true → slice_get ls i ≡ Some l → is_lit_over n l ≡ true
@@ -206,7 +205,7 @@ clause-lit n [] i l h s = absurd (cc)
 clause-lit n (x ∷ xs) zero l h s = (let e : x ≡ l = cc in ap (is_lit_over n) (sym e) ∙ (and_parts _ _ h).0)
 clause-lit n (x ∷ xs) (suc i) l h s = clause-lit n xs i l (and_parts _ _ h).1 s
 
-pub lit-fits : (vars count : ℕ) (ws hs : List ℕ) (ls : List Literal) (i : ℕ) (l : Literal) → HoldsArena ws hs vars count → is_clause_over vars ls ≡ true → slice_get ls i ≡ Some l → (2 * l.var + 1 < WORD_LIMIT) × (place l < length hs)
+pub lit-fits : (vars count : ℕ) (ws hs : List ℕ) (ls : List Literal) (i : ℕ) (l : Literal) → HoldsArena ws hs vars count → is_clause_over vars ls ≡ true → slice_get ls i ≡ Some l → (2 * l.var + 1 < WORD_VALUE_LIMIT) × (place l < length hs)
 lit-fits vars count ws hs ls i l h ci s =
     let t = clause-lit vars ls i l ci s in
     let p : (ltb 0 l.var ≡ true) × (leb l.var vars ≡ true) = and_parts _ _ t in

@@ -1,17 +1,15 @@
--- The effect of a new clause on the arena.
 use Rattle.std.proofs.Common.{◌≡◌, ◌≢◌, ℕ, ◌+◌, ◌<◌, ◌≤◌, ◌⊎◌, inl, inr, true, false, eqb, List, [], ◌∷◌, ◌++◌, length, get_or, set, refl, sym, ◌∙◌, subst, arith}
 use Rattle.std.proofs.lemmas.List.{get_or-set_other}
 use Rattle.std.proofs.Math.ListN.{length-set}
 use Rattle.std.proofs.lemmas.Bool.Decides.{nat_tests}
-use Rattle.ilk_arena.specs.Words.{link_index, next_reference, IsMemberOf, HasWatch, left, right, AreChains, with_chain_replaced}
+use Rattle.ilk_arena.specs.Words.{link_index, next_reference_in_chain, IsMemberOf, HasWatch, left, right, ChainsAreWatchPaths, with_chain_replaced}
 use Rattle.ilk_arena.specs.Linked.{literal_places_at, chain_for_place, HasWatchChains}
 use Rattle.ilk_arena.proofs.LinkedChains.{headers-of, chain_for_place-is, same-chains}
 use Rattle.ilk_arena.proofs.Appending.{appended, block, places-new, push-head, stands-last, stands-one, stands-push, watch-shrink, which}
 
--- Conditions on the new clause and the new chains.
 pub record Joins (ws hs refs ps ks : List ℕ) (a x b y k : ℕ) (cs : ℕ → List ℕ) : Type 0 where
   pub heads : length ks ≡ length hs
-  pub chains : AreChains (ws ++ block (length ps) a x b y k ps) ks (IsMemberOf (refs ++ (length ws ∷ []))) cs
+  pub chains : ChainsAreWatchPaths (ws ++ block (length ps) a x b y k ps) ks (IsMemberOf (refs ++ (length ws ∷ []))) cs
   pub differ : a ≢ b
   pub least : (p : ℕ) → IsMemberOf ps p → 2 ≤ p
   pub small : (p : ℕ) → IsMemberOf ps p → p < length hs
@@ -111,10 +109,10 @@ added-long ws hs refs ps a b k li ne long oa ob least small =
     let ap = appended ws hs refs ps a x b y k li in
     let ha : a < length hs = small a oa in
     let hb : b < length hs = small b ob in
-    let na : next_reference us a c ≡ x = (let e : eqb (get_or us (c + 1) 0) a ≡ true = grind (arith, nat_tests, ap.new_left) in rw e ap.new_left_link) in
-    let nb : next_reference us b c ≡ y = (let e : eqb (get_or us (c + 1) 0) b ≡ false = grind (arith, nat_tests, ap.new_left) in rw e ap.new_right_link) in
+    let na : next_reference_in_chain us a c ≡ x = (let e : eqb (get_or us (c + 1) 0) a ≡ true = grind (arith, nat_tests, ap.new_left) in rw e ap.new_left_link) in
+    let nb : next_reference_in_chain us b c ≡ y = (let e : eqb (get_or us (c + 1) 0) b ≡ false = grind (arith, nat_tests, ap.new_left) in rw e ap.new_right_link) in
     let one = with_chain_replaced (chain_for_place ws hs) a (c ∷ chain_for_place ws hs a) in
-    let step1 : AreChains us gs (IsMemberOf all) one = push-head us hs (IsMemberOf all) (chain_for_place ws hs) a c ha (stands-last refs c) li.started (left ap.new_left) na (ap.absent a ha) ap.chains in
+    let step1 : ChainsAreWatchPaths us gs (IsMemberOf all) one = push-head us hs (IsMemberOf all) (chain_for_place ws hs) a c ha (stands-last refs c) li.started (left ap.new_left) na (ap.absent a ha) ap.chains in
     let ng : length gs ≡ length hs = simp length-set in
     let ba : eqb b a ≡ false = grind (arith, nat_tests) in
     let hbg : get_or gs b 0 ≡ y = get_or-set_other hs a b c 0 (λ e. ne (sym e)) in

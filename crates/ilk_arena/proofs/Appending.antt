@@ -1,11 +1,10 @@
--- Appending words leaves the earlier words unchanged, and a chain accepts a new head.
 use Rattle.std.proofs.Common.{◌≡◌, ◌≢◌, ℕ, ◌+◌, ◌<◌, ◌≤◌, ◌⊎◌, inl, inr, List, [], ◌∷◌, ◌++◌, length, get_or, set, drop, refl, sym, ◌∙◌, subst, arith, length-append}
 use Rattle.std.proofs.lemmas.List.{get_or-set_same, get_or-set_other, get_or_append_left, get_or-append-add, drop-append-le, take-append-le}
 use Rattle.std.proofs.Math.Seq.{drop-append-add}
 use Rattle.std.proofs.Math.ListN.{length-set}
 use Rattle.std.proofs.lemmas.Bool.Decides.{eqb_tells}
 use Rattle.std.proofs.lemmas.Grind.{common_steps}
-use Rattle.ilk_arena.specs.Words.{link_index, next_reference, IsChainPath, AllSatisfy, IsMemberOf, HasWatch, left, right, Distinct, AreChains, AreHeadersApart, with_chain_replaced}
+use Rattle.ilk_arena.specs.Words.{link_index, next_reference_in_chain, IsChainPath, AllSatisfy, IsMemberOf, HasWatch, left, right, Distinct, ChainsAreWatchPaths, AreHeadersInsideAndApart, with_chain_replaced}
 use Rattle.ilk_arena.specs.Linked.{literal_places_at, chain_for_place, HasWatchChains}
 use Rattle.ilk_arena.proofs.Paths.{frame}
 use Rattle.ilk_arena.proofs.HeaderWrites.{link_index-in}
@@ -16,7 +15,7 @@ link_index-append : (ws xs : List ℕ) (l c : ℕ) → c + 7 ≤ length ws → l
 unfolding link_index
 link_index-append ws xs l c h = (let e = get_or_append_left ws xs 0 (c + 1) (omega arith) in rw e refl)
 
-next-append : (ws xs : List ℕ) (l c : ℕ) → c + 7 ≤ length ws → next_reference (ws ++ xs) l c ≡ next_reference ws l c
+next-append : (ws xs : List ℕ) (l c : ℕ) → c + 7 ≤ length ws → next_reference_in_chain (ws ++ xs) l c ≡ next_reference_in_chain ws l c
 next-append ws xs l c h =
     let e = link_index-append ws xs l c h in
     let f = get_or_append_left ws xs 0 (link_index ws l c) (grind (arith, link_index-in ws l c)) in
@@ -30,16 +29,17 @@ pub watch-shrink : (ws xs : List ℕ) (c l : ℕ) → c + 7 ≤ length ws → Ha
 watch-shrink ws xs c l h (left p) = left (sym (get_or_append_left ws xs 0 (c + 1) (omega arith)) ∙ p)
 watch-shrink ws xs c l h (right p) = right (sym (get_or_append_left ws xs 0 (c + 3) (omega arith)) ∙ p)
 
-pub grown : (ws xs hs : List ℕ) (R S : ℕ → Type 0) (cs : ℕ → List ℕ) → AreHeadersApart ws R → ((c : ℕ) → R c → S c) → AreChains ws hs R cs → AreChains (ws ++ xs) hs S cs
+pub grown : (ws xs hs : List ℕ) (R S : ℕ → Type 0) (cs : ℕ → List ℕ) → AreHeadersInsideAndApart ws R → ((c : ℕ) → R c → S c) → ChainsAreWatchPaths ws hs R cs → ChainsAreWatchPaths (ws ++ xs) hs S cs
 grown ws xs hs R S cs hd f k = record {
-  path = λ l h. frame ws (ws ++ xs) l (get_or hs l 0) (cs l) (each-map (λ c. R c × HasWatch ws c l) (λ c. next_reference (ws ++ xs) l c ≡ next_reference ws l c) (cs l) (λ c r. next-append ws xs l c (hd.room c r.0).1) (k.held l h)) (k.path l h);
+  path = λ l h. frame ws (ws ++ xs) l (get_or hs l 0) (cs l) (each-map (λ c. R c × HasWatch ws c l) (λ c. next_reference_in_chain (ws ++ xs) l c ≡ next_reference_in_chain ws l c) (cs l) (λ c r. next-append ws xs l c (hd.room c r.0).1)
+      (k.held l h)) (k.path l h);
   held = λ l h. each-map (λ c. R c × HasWatch ws c l) (λ c. S c × HasWatch (ws ++ xs) c l) (cs l) (λ c r. (f c r.0, watch-append ws xs c l (hd.room c r.0).1 r.1)) (k.held l h);
   once = k.once;
 }
 
 pub push-head : (ws hs : List ℕ) (R : ℕ → Type 0) (cs : ℕ → List ℕ) (t c : ℕ) → t < length hs → R c → 0 < c →
-    HasWatch ws c t → next_reference ws t c ≡ get_or hs t 0 → AllSatisfy (λ d. d ≢ c) (cs t) → AreChains ws hs R cs →
-    AreChains ws (set hs t c) R (with_chain_replaced cs t (c ∷ cs t))
+    HasWatch ws c t → next_reference_in_chain ws t c ≡ get_or hs t 0 → AllSatisfy (λ d. d ≢ c) (cs t) → ChainsAreWatchPaths ws hs R cs →
+    ChainsAreWatchPaths ws (set hs t c) R (with_chain_replaced cs t (c ∷ cs t))
 push-head ws hs R cs t c h rc pos w e gone k =
     let n : length (set hs t c) ≡ length hs = simp length-set in
     let at : get_or (set hs t c) t 0 ≡ c = get_or-set_same hs t c 0 h in
@@ -106,8 +106,8 @@ pub record Appended (ws hs refs ps : List ℕ) (a x b y k : ℕ) : Type 0 where
   pub kept : (d i : ℕ) → IsMemberOf refs d → i < 7 → get_or (ws ++ block (length ps) a x b y k ps) (d + i) 0 ≡ get_or ws (d + i) 0
   pub kept_len : (d : ℕ) → IsMemberOf refs d → get_or (ws ++ block (length ps) a x b y k ps) d 0 ≡ get_or ws d 0
   pub kept_places : (d : ℕ) → IsMemberOf refs d → literal_places_at (ws ++ block (length ps) a x b y k ps) d ≡ literal_places_at ws d
-  pub headers : AreHeadersApart (ws ++ block (length ps) a x b y k ps) (IsMemberOf (refs ++ (length ws ∷ [])))
-  pub chains : AreChains (ws ++ block (length ps) a x b y k ps) hs (IsMemberOf (refs ++ (length ws ∷ []))) (chain_for_place ws hs)
+  pub headers : AreHeadersInsideAndApart (ws ++ block (length ps) a x b y k ps) (IsMemberOf (refs ++ (length ws ∷ [])))
+  pub chains : ChainsAreWatchPaths (ws ++ block (length ps) a x b y k ps) hs (IsMemberOf (refs ++ (length ws ∷ []))) (chain_for_place ws hs)
   pub absent : (l : ℕ) → l < length hs → AllSatisfy (λ d. d ≢ length ws) (chain_for_place ws hs l)
 
 pub appended : (ws hs refs ps : List ℕ) (a x b y k : ℕ) → HasWatchChains ws hs refs → Appended ws hs refs ps a x b y k
@@ -120,7 +120,7 @@ appended ws hs refs ps a x b y k li =
     let z : c + 0 ≡ c = omega arith in
     let hd = headers-of ws hs refs li in
     let old : (d : ℕ) → IsMemberOf refs d → d < c = λ d s. omega (arith, hd.room d s) in
-    let hd2 : AreHeadersApart us (IsMemberOf all) = record {
+    let hd2 : AreHeadersInsideAndApart us (IsMemberOf all) = record {
       room = λ d s. elim (stands-push refs c d s) [
         | inl q ↦ (li.positive d q, omega (arith, size, li.whole d q))
         | inr q ↦ (omega (arith, q, li.started), omega (arith, size, q))

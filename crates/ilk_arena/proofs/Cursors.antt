@@ -1,12 +1,11 @@
--- The effect of a new cursor, and an arena without clauses.
 use Rattle.std.proofs.Common.{◌≡◌, ◌≢◌, ℕ, ◌+◌, ◌-◌, ◌*◌, ◌<◌, ◌≤◌, ◌⊎◌, inl, inr, List, [], ◌∷◌, length, get_or, set, drop, map, replicate, refl, sym, ap, ◌∙◌, subst, arith}
 use Rattle.std.proofs.lemmas.Bool.Decides.{eqb_tells}
 use Rattle.std.proofs.lemmas.Bool.{cases_eq, cases_order}
 use Rattle.std.proofs.lemmas.List.{get_or-set_same, get_or-set_other, drop-set-lt, drop-set-add, take-set-le, get_or-replicate, length-replicate, length-set}
 use Rattle.ilk_cnf.specs.Literal.{has_distinct_vars}
 use Rattle.ilk_arena.specs.Arena.{ArenaLists, set_for_reference}
-use Rattle.ilk_arena.specs.declared.place.TheConstants.{WORD_LIMIT}
-use Rattle.ilk_arena.specs.Words.{IsChainPath, chain, AllSatisfy, IsMemberOf, HasWatch, left, right, Distinct, AreChains, AreHeadersApart, next_reference}
+use Rattle.ilk_arena.specs.declared.place.TheConstants.{WORD_VALUE_LIMIT}
+use Rattle.ilk_arena.specs.Words.{IsChainPath, chain, AllSatisfy, IsMemberOf, HasWatch, left, right, Distinct, ChainsAreWatchPaths, AreHeadersInsideAndApart, next_reference_in_chain}
 use Rattle.ilk_arena.specs.Linked.{lit_from_place, literal_places_at, literals_at, cursor_at, chain_for_place, IsGaplessFrom, references_in, lists_of, HasWatchChains, HasClausesInOrder, HoldsArena}
 use Rattle.ilk_arena.proofs.Blocks.{references-are, blocks-same, stands-at}
 use Rattle.ilk_arena.proofs.Unlinking.{each-at}
@@ -66,12 +65,12 @@ turned ws hs refs c v k r =
     let w1 : (d : ℕ) → IsMemberOf refs d → get_or us (d + 1) 0 ≡ get_or ws (d + 1) 0 = λ d s. cursor-read ws hs refs c d 1 v k r s (omega arith) in
     let w3 : (d : ℕ) → IsMemberOf refs d → get_or us (d + 3) 0 ≡ get_or ws (d + 3) 0 = λ d s. cursor-read ws hs refs c d 3 v k r s (omega arith) in
     let pl : (d : ℕ) → IsMemberOf refs d → literal_places_at us d ≡ literal_places_at ws d = λ d s. cursor-places ws hs refs c d v k r s in
-    let step : (l d : ℕ) → IsMemberOf refs d → next_reference us l d ≡ next_reference ws l d = λ l d s. next-far ws l d (c + 6) v (far d 1 s (omega arith)) (far d 2 s (omega arith)) (far d 4 s (omega arith)) in
-    let ch : AreChains us hs (IsMemberOf refs) (chain_for_place ws hs) = record {
+    let step : (l d : ℕ) → IsMemberOf refs d → next_reference_in_chain us l d ≡ next_reference_in_chain ws l d = λ l d s. next-far ws l d (c + 6) v (far d 1 s (omega arith)) (far d 2 s (omega arith)) (far d 4 s (omega arith)) in
+    let ch : ChainsAreWatchPaths us hs (IsMemberOf refs) (chain_for_place ws hs) = record {
       path =
           λ l h. frame ws us l (get_or hs l 0) (chain_for_place ws hs l)
           (each-map (λ d. IsMemberOf refs d × HasWatch ws d l)
-          (λ d. next_reference us l d ≡ next_reference ws l d) (chain_for_place ws hs l)
+          (λ d. next_reference_in_chain us l d ≡ next_reference_in_chain ws l d) (chain_for_place ws hs l)
           (λ d s. step l d s.0) (k.chains.held l h))
           (k.chains.path l h);
       held = λ l h. each-map (λ d. IsMemberOf refs d × HasWatch ws d l) (λ d. IsMemberOf refs d × HasWatch us d l) (chain_for_place ws hs l) (λ d s. (s.0, watches-far ws d l (c + 6) v (far d 1 s.0 (omega arith)) (far d 3 s.0 (omega arith)) s.1))
@@ -79,7 +78,7 @@ turned ws hs refs c v k r =
       once = k.chains.once;
     } in
     let hd = headers-of ws hs refs k in
-    let hd2 : AreHeadersApart us (IsMemberOf refs) = record { room = λ d s. (k.positive d s, omega (arith, size, k.whole d s)); apart = hd.apart } in
+    let hd2 : AreHeadersInsideAndApart us (IsMemberOf refs) = record { room = λ d s. (k.positive d s, omega (arith, size, k.whole d s)); apart = hd.apart } in
     let fam : (l : ℕ) → l < length hs → chain_for_place us hs l ≡ chain_for_place ws hs l = λ l h. chain_for_place-is us hs (IsMemberOf refs) (chain_for_place ws hs) hd2 ch l h in
     let P : (p : ℕ) → List ℕ → Type 0 = λ p ys. IsMemberOf ys p in
     record {
@@ -172,7 +171,7 @@ cursor-law vars spare count ws hs a c v h e s le =
           ∙ ap (λ (y : ArenaLists). record y { cursors = set_for_reference c y.references y.cursors v }) e;
     }
 
-pub empty-holds : (vars : ℕ) → 2 * vars + 2 ≤ WORD_LIMIT → HoldsArena (0 ∷ []) (replicate (2 * vars + 2) 0) vars 0
+pub empty-holds : (vars : ℕ) → 2 * vars + 2 ≤ WORD_VALUE_LIMIT → HoldsArena (0 ∷ []) (replicate (2 * vars + 2) 0) vars 0
 empty-holds vars few =
     let ws : List ℕ = 0 ∷ [] in
     let hs : List ℕ = replicate (2 * vars + 2) 0 in

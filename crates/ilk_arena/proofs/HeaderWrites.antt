@@ -4,9 +4,8 @@ use Rattle.std.proofs.lemmas.Bool.Decides.{nat_tests}
 use Rattle.std.proofs.lemmas.Bool.{cases_eq}
 use Rattle.std.proofs.lemmas.Grind.{get_or-set_at}
 use Rattle.std.proofs.Math.ListN.{length-set}
-use Rattle.ilk_arena.specs.Words.{link_index, next_reference, watch_moved, HasWatch, left, right}
+use Rattle.ilk_arena.specs.Words.{link_index, next_reference_in_chain, watch_moved, HasWatch, left, right}
 
--- Writes to headers, and the words that they leave unchanged.
 pub link_index-far : (ws : List ℕ) (l c i v : ℕ) → i ≢ c + 1 → link_index (set ws i v) l c ≡ link_index ws l c
 unfolding link_index
 link_index-far ws l c i v n =
@@ -17,7 +16,7 @@ pub link_index-in : (ws : List ℕ) (l c : ℕ) → (link_index ws l c ≡ c + 2
 unfolding link_index
 link_index-in ws l c = grind (arith, nat_tests)
 
-pub next-far : (ws : List ℕ) (l c i v : ℕ) → i ≢ c + 1 → i ≢ c + 2 → i ≢ c + 4 → next_reference (set ws i v) l c ≡ next_reference ws l c
+pub next-far : (ws : List ℕ) (l c i v : ℕ) → i ≢ c + 1 → i ≢ c + 2 → i ≢ c + 4 → next_reference_in_chain (set ws i v) l c ≡ next_reference_in_chain ws l c
 next-far ws l c i v a b d =
     let e = link_index-far ws l c i v a in
     let f : get_or (set ws i v) (link_index ws l c) 0 ≡ get_or ws (link_index ws l c) 0 = get_or-set_other ws i (link_index ws l c) v 0 (grind (arith, link_index-in ws l c)) in
@@ -30,13 +29,13 @@ slots-apart ws c l m n (right p) (right q) = absurd (n (sym p ∙ q))
 slots-apart ws c l m n (left p) (right q) = grind (arith, nat_tests)
 slots-apart ws c l m n (right p) (left q) = grind (arith, nat_tests)
 
-pub next-other : (ws : List ℕ) (c l m v : ℕ) → l ≢ m → HasWatch ws c l → HasWatch ws c m → next_reference (set ws (link_index ws m c) v) l c ≡ next_reference ws l c
+pub next-other : (ws : List ℕ) (c l m v : ℕ) → l ≢ m → HasWatch ws c l → HasWatch ws c m → next_reference_in_chain (set ws (link_index ws m c) v) l c ≡ next_reference_in_chain ws l c
 next-other ws c l m v n p q =
     let e : link_index (set ws (link_index ws m c) v) l c ≡ link_index ws l c = link_index-far ws l c (link_index ws m c) v (grind (arith, link_index-in ws m c)) in
     let f : get_or (set ws (link_index ws m c) v) (link_index ws l c) 0 ≡ get_or ws (link_index ws l c) 0 = get_or-set_other ws (link_index ws m c) (link_index ws l c) v 0 (slots-apart ws c l m n p q) in
     rw e f
 
-pub next-same : (ws : List ℕ) (c l v : ℕ) → c + 7 ≤ length ws → next_reference (set ws (link_index ws l c) v) l c ≡ v
+pub next-same : (ws : List ℕ) (c l v : ℕ) → c + 7 ≤ length ws → next_reference_in_chain (set ws (link_index ws l c) v) l c ≡ v
 next-same ws c l v h =
     let e : link_index (set ws (link_index ws l c) v) l c ≡ link_index ws l c = link_index-far ws l c (link_index ws l c) v (grind (arith, link_index-in ws l c)) in
     let b : link_index ws l c < length ws = grind (arith, link_index-in ws l c) in
@@ -46,7 +45,7 @@ pub watches-far : (ws : List ℕ) (c l i v : ℕ) → i ≢ c + 1 → i ≢ c + 
 watches-far ws c l i v a b (left p) = left (get_or-set_other ws i (c + 1) v 0 (λ q. a (sym q)) ∙ p)
 watches-far ws c l i v a b (right p) = right (get_or-set_other ws i (c + 3) v 0 (λ q. b (sym q)) ∙ p)
 
-pub moved-far : (ws : List ℕ) (f c t v l d : ℕ) → (c + 7 ≤ d) ⊎ (d + 7 ≤ c) → next_reference (watch_moved ws f c t v) l d ≡ next_reference ws l d
+pub moved-far : (ws : List ℕ) (f c t v l d : ℕ) → (c + 7 ≤ d) ⊎ (d + 7 ≤ c) → next_reference_in_chain (watch_moved ws f c t v) l d ≡ next_reference_in_chain ws l d
 moved-far ws f c t v l d h =
     let us = set ws (link_index ws f c - 1) t in
     let a = next-far us l d (link_index ws f c) v (grind (arith, link_index-in ws f c)) (grind (arith, link_index-in ws f c)) (grind (arith, link_index-in ws f c)) in
@@ -89,7 +88,7 @@ moved-reads-right ws f c t v h p =
       rw s (get_or-set_same (set ws (c + 4 - 1) t) (c + 4) v 0 (simp length-set (omega arith))),
     )
 
-pub moved-next : (ws : List ℕ) (f c t v : ℕ) → c + 7 ≤ length ws → get_or ws (c + 1) 0 ≢ t → next_reference (watch_moved ws f c t v) t c ≡ v
+pub moved-next : (ws : List ℕ) (f c t v : ℕ) → c + 7 ≤ length ws → get_or ws (c + 1) 0 ≢ t → next_reference_in_chain (watch_moved ws f c t v) t c ≡ v
 unfolding link_index
 moved-next ws f c t v h n =
     elim (cases_eq (get_or ws (c + 1) 0) f) [
@@ -97,7 +96,7 @@ moved-next ws f c t v h n =
       | inr p ↦ (let r = moved-reads-right ws f c t v h p in let e : eqb (get_or (watch_moved ws f c t v) (c + 1) 0) t ≡ false = grind (arith, nat_tests) in rw e r.4)
     ]
 
-pub moved-other : (ws : List ℕ) (f c t v l : ℕ) → c + 7 ≤ length ws → l ≢ f → l ≢ t → HasWatch ws c f → HasWatch ws c l → next_reference (watch_moved ws f c t v) l c ≡ next_reference ws l c
+pub moved-other : (ws : List ℕ) (f c t v l : ℕ) → c + 7 ≤ length ws → l ≢ f → l ≢ t → HasWatch ws c f → HasWatch ws c l → next_reference_in_chain (watch_moved ws f c t v) l c ≡ next_reference_in_chain ws l c
 unfolding link_index
 moved-other ws f c t v l h n m wf wl =
     elim (cases_eq (get_or ws (c + 1) 0) f) [

@@ -1,12 +1,11 @@
--- The chains of an arena's lists, derived from those of its words.
 use Rattle.std.proofs.Common.{◌≡◌, ℕ, ◌+◌, ◌*◌, ◌/◌, ◌%◌, ◌<◌, ◌≤◌, ◌⊎◌, inl, inr, true, false, cond, eqb, List, [], ◌∷◌, length, get_or, map, refl, sym, ap, ◌∙◌, subst, arith}
 use Rattle.std.specs.List.{IsDistinct}
 use Rattle.std.proofs.lemmas.Bool.Decides.{eqb_tells}
 use Rattle.std.proofs.lemmas.Bool.{cases_lt, cases_Bool, or_left, or_right}
 use Rattle.std.proofs.lemmas.List.{get_or_past, length-map}
 use Rattle.ilk_cnf.specs.Literal.{Literal, same_lit, has_lit}
-use Rattle.ilk_arena.specs.Arena.{place, chain_of, is_listed_in, literals_of}
-use Rattle.ilk_arena.specs.Chains.{IsArena, WatchesTwo}
+use Rattle.ilk_arena.specs.Arena.{place, chain_of, contains_reference, literals_of}
+use Rattle.ilk_arena.specs.Chains.{EachLongClauseWatchesTwo, WatchesTwo}
 use Rattle.ilk_arena.specs.Words.{IsMemberOf, HasWatch, left, right}
 use Rattle.ilk_arena.specs.Linked.{lit_from_place, literal_places_at, chain_for_place, lists_of, HasWatchChains}
 use Rattle.ilk_arena.proofs.Seen.{stands-from, stands-to, lit-at-place, chain-seen, chains-count, clause-seen, references-seen, places-length}
@@ -37,11 +36,11 @@ pub record InChain (ws hs refs : List ℕ) (l : Literal) (c : ℕ) : Type 0 wher
   pub watches : HasWatch ws c (place l)
   pub least : 2 ≤ place l
 
-pub chain-has : (vars spare : ℕ) (ws hs refs : List ℕ) (l : Literal) (c : ℕ) → HasWatchChains ws hs refs → is_listed_in c (chain_of (lists_of vars spare ws hs refs) l) ≡ true → InChain ws hs refs l c
+pub chain-has : (vars spare : ℕ) (ws hs refs : List ℕ) (l : Literal) (c : ℕ) → HasWatchChains ws hs refs → contains_reference c (chain_of (lists_of vars spare ws hs refs) l) ≡ true → InChain ws hs refs l c
 chain-has vars spare ws hs refs l c k h =
     elim (cases_lt (place l) (length hs)) [
-      | inl b ↦ (let S : List ℕ → Type 0 = λ ys. is_listed_in c ys ≡ true in
-          let t : is_listed_in c (chain_for_place ws hs (place l)) ≡ true = subst S (chain-seen vars spare ws hs refs (place l) b) h in
+      | inl b ↦ (let S : List ℕ → Type 0 = λ ys. contains_reference c ys ≡ true in
+          let t : contains_reference c (chain_for_place ws hs (place l)) ≡ true = subst S (chain-seen vars spare ws hs refs (place l) b) h in
           let s = stands-from c (chain_for_place ws hs (place l)) t in
           let r = in-chain ws hs refs (place l) c k b s in
           record {
@@ -57,14 +56,14 @@ chain-has vars spare ws hs refs l c k h =
       | inr b ↦ absurd (
           let n = chains-count vars spare ws hs refs in
           let none : chain_of (lists_of vars spare ws hs refs) l ≡ [] = get_or_past (lists_of vars spare ws hs refs).chains (place l) [] (omega (arith, n)) in
-          let S : List ℕ → Type 0 = λ ys. is_listed_in c ys ≡ true in
+          let S : List ℕ → Type 0 = λ ys. contains_reference c ys ≡ true in
           let t : false ≡ true = subst S none h in
           cc)
     ]
 
-pub chain-gets : (vars spare : ℕ) (ws hs refs : List ℕ) (l : Literal) (c : ℕ) → place l < length hs → IsMemberOf (chain_for_place ws hs (place l)) c → is_listed_in c (chain_of (lists_of vars spare ws hs refs) l) ≡ true
+pub chain-gets : (vars spare : ℕ) (ws hs refs : List ℕ) (l : Literal) (c : ℕ) → place l < length hs → IsMemberOf (chain_for_place ws hs (place l)) c → contains_reference c (chain_of (lists_of vars spare ws hs refs) l) ≡ true
 chain-gets vars spare ws hs refs l c b s =
-    let S : List ℕ → Type 0 = λ ys. is_listed_in c ys ≡ true in
+    let S : List ℕ → Type 0 = λ ys. contains_reference c ys ≡ true in
     subst S (sym (chain-seen vars spare ws hs refs (place l) b)) (stands-to c (chain_for_place ws hs (place l)) s)
 
 pub clause-length : (vars spare : ℕ) (ws hs refs : List ℕ) (c : ℕ) → HasWatchChains ws hs refs → IsMemberOf refs c → length (literals_of (lists_of vars spare ws hs refs) c) ≡ get_or ws c 0
@@ -72,7 +71,7 @@ clause-length vars spare ws hs refs c k s =
     ap (λ (ls : List Literal). length ls) (clause-seen vars spare ws hs refs c s) ∙ length-map (literal_places_at ws c) lit_from_place ∙ places-length ws c (k.whole c s)
 
 pub watch-gets : (vars spare : ℕ) (ws hs refs : List ℕ) (c p : ℕ) (l : Literal) → HasWatchChains ws hs refs → IsMemberOf refs c → IsMemberOf (literal_places_at ws c) p → HasWatch ws c p → l ≡ lit_from_place p
-    → is_listed_in c (chain_of (lists_of vars spare ws hs refs) l) ≡ true
+    → contains_reference c (chain_of (lists_of vars spare ws hs refs) l) ≡ true
 watch-gets vars spare ws hs refs c p l k s o w e =
     let q : place l ≡ p = ap place e ∙ place-of-lit p in
     let h : p < length hs = k.small c p s o in
@@ -110,15 +109,15 @@ watches-two vars spare ws hs refs c k s h =
     to l (left e) = inl (lit-of (get_or ws (c + 1) 0) l e)
     to l (right e) = inr (lit-of (get_or ws (c + 3) 0) l e)
 
-pub arena-law : (vars spare : ℕ) (ws hs refs : List ℕ) → HasWatchChains ws hs refs → IsArena (lists_of vars spare ws hs refs)
+pub arena-law : (vars spare : ℕ) (ws hs refs : List ℕ) → HasWatchChains ws hs refs → EachLongClauseWatchesTwo (lists_of vars spare ws hs refs)
 arena-law vars spare ws hs refs k =
     let a = lists_of vars spare ws hs refs in
-    let from : (c : ℕ) → is_listed_in c a.references ≡ true → IsMemberOf refs c = λ c t. (let S : List ℕ → Type 0 = λ ys. is_listed_in c ys ≡ true in stands-from c refs (subst S (references-seen vars spare ws hs refs) t)) in
+    let from : (c : ℕ) → contains_reference c a.references ≡ true → IsMemberOf refs c = λ c t. (let S : List ℕ → Type 0 = λ ys. contains_reference c ys ≡ true in stands-from c refs (subst S (references-seen vars spare ws hs refs) t)) in
     record {
       long = λ c t n. (let s = from c t in
           let m = clause-length vars spare ws hs refs c k s in
           (lit_from_place (get_or ws (c + 1) 0), lit_from_place (get_or ws (c + 3) 0), watches-two vars spare ws hs refs c k s (omega (arith, m, n))));
-      short = λ c t n l. elim (cases_Bool (is_listed_in c (chain_of a l))) [
+      short = λ c t n l. elim (cases_Bool (contains_reference c (chain_of a l))) [
         | inl b ↦ absurd (let s = from c t in
             let m = clause-length vars spare ws hs refs c k s in
             let i = chain-has vars spare ws hs refs l c k b in
@@ -134,7 +133,7 @@ arena-law vars spare ws hs refs k =
             subst D (sym (get_or_past a.chains (place l) [] (omega (arith, n)))) (distinct-std [] tt))
       ];
       held = λ l c t. (let i = chain-has vars spare ws hs refs l c k t in
-          let S : List ℕ → Type 0 = λ ys. is_listed_in c ys ≡ true in
+          let S : List ℕ → Type 0 = λ ys. contains_reference c ys ≡ true in
           subst S (sym (references-seen vars spare ws hs refs)) (stands-to c refs i.known));
     }
   where

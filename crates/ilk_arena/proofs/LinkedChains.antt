@@ -3,7 +3,7 @@ use Rattle.std.specs.List.{list_any, IsDistinct, AllByRecursion}
 use Rattle.std.proofs.lemmas.Bool.Decides.{eqb_tells}
 use Rattle.std.proofs.lemmas.Bool.{cases_order, or_cases, ne_eqb}
 use Rattle.std.proofs.lemmas.Map.Steps.{length-le_from_distinct_below}
-use Rattle.ilk_arena.specs.Words.{IsChainPath, AllSatisfy, IsMemberOf, HasWatch, Distinct, AreChains, AreHeadersApart}
+use Rattle.ilk_arena.specs.Words.{IsChainPath, AllSatisfy, IsMemberOf, HasWatch, Distinct, ChainsAreWatchPaths, AreHeadersInsideAndApart}
 use Rattle.ilk_arena.specs.Linked.{chain_for_place, HasWatchChains}
 use Rattle.ilk_arena.proofs.Paths.{chain-is}
 use Rattle.ilk_arena.proofs.ChainMoves.{each-map}
@@ -25,11 +25,10 @@ any-below n q (x ∷ xs) e h =
       | inr p ↦ any-below n q xs e.1 p
     ]
 
--- Chains are determined by the words.
 pub short : (n : ℕ) (xs : List ℕ) → Distinct xs → AllSatisfy (λ c. c < n) xs → length xs ≤ n
 short n xs d e = length-le_from_distinct_below xs n (distinct-std xs d) (λ q h. any-below n q xs e h)
 
-pub headers-of : (ws hs refs : List ℕ) → HasWatchChains ws hs refs → AreHeadersApart ws (IsMemberOf refs)
+pub headers-of : (ws hs refs : List ℕ) → HasWatchChains ws hs refs → AreHeadersInsideAndApart ws (IsMemberOf refs)
 headers-of ws hs refs k = record {
   room = λ c r. (k.positive c r, omega (arith, k.whole c r));
   apart = λ c d r s n. elim (cases_order c d) [
@@ -38,12 +37,12 @@ headers-of ws hs refs k = record {
   ];
 }
 
-pub chain_for_place-is : (ws hs : List ℕ) (R : ℕ → Type 0) (cs : ℕ → List ℕ) → AreHeadersApart ws R → AreChains ws hs R cs → (l : ℕ) → l < length hs → chain_for_place ws hs l ≡ cs l
+pub chain_for_place-is : (ws hs : List ℕ) (R : ℕ → Type 0) (cs : ℕ → List ℕ) → AreHeadersInsideAndApart ws R → ChainsAreWatchPaths ws hs R cs → (l : ℕ) → l < length hs → chain_for_place ws hs l ≡ cs l
 chain_for_place-is ws hs R cs hd k l h =
     let below : AllSatisfy (λ c. c < length ws) (cs l) = each-map (λ c. R c × HasWatch ws c l) (λ c. c < length ws) (cs l) (λ c r. omega (arith, hd.room c r.0)) (k.held l h) in
     chain-is ws l (length ws) (get_or hs l 0) (cs l) (short (length ws) (cs l) (k.once l h) below) (k.path l h)
 
-pub same-chains : (ws hs : List ℕ) (R : ℕ → Type 0) (cs ds : ℕ → List ℕ) → ((l : ℕ) → l < length hs → ds l ≡ cs l) → AreChains ws hs R cs → AreChains ws hs R ds
+pub same-chains : (ws hs : List ℕ) (R : ℕ → Type 0) (cs ds : ℕ → List ℕ) → ((l : ℕ) → l < length hs → ds l ≡ cs l) → ChainsAreWatchPaths ws hs R cs → ChainsAreWatchPaths ws hs R ds
 same-chains ws hs R cs ds e k = record {
   path = λ l h. (let P : List ℕ → Type 0 = λ ys. IsChainPath ws l (get_or hs l 0) ys in subst P (sym (e l h)) (k.path l h));
   held = λ l h. (let P : List ℕ → Type 0 = λ ys. AllSatisfy (λ c. R c × HasWatch ws c l) ys in subst P (sym (e l h)) (k.held l h));

@@ -1,4 +1,3 @@
--- A clause of two or more literals: reads and writes of the code.
 use Rattle.std.proofs.Common.{◌≡◌, ℕ, ◌+◌, ◌*◌, ◌<◌, ◌≤◌, true, List, length, get_or, set, map, ◌++◌, refl, sym, ap, ◌∙◌, Some, arith}
 use Rattle.std.specs.List.{slice_get}
 use Rattle.std.proofs.lemmas.List.{get_or_read, length-map}
@@ -6,7 +5,7 @@ use Rattle.std.proofs.lemmas.Option.{slice_get_read}
 use Rattle.ilk_cnf.specs.Literal.{Literal, has_distinct_vars}
 use Rattle.ilk_cnf.specs.Formula.{is_clause_over}
 use Rattle.ilk_arena.specs.Arena.{ArenaLists, place}
-use Rattle.ilk_arena.specs.declared.place.TheConstants.{WORD_LIMIT}
+use Rattle.ilk_arena.specs.declared.place.TheConstants.{WORD_VALUE_LIMIT}
 use Rattle.ilk_arena.specs.Linked.{references_in, lists_of, HoldsArena}
 use Rattle.ilk_arena.proofs.Appending.{block}
 use Rattle.ilk_arena.proofs.AddedClauses.{Grown, words_long, heads_long, long-law, lit-fits}
@@ -15,7 +14,7 @@ use Rattle.ilk_arena.proofs.Readings.{vars-are, spare-are}
 -- Facts about literal `i` of a clause: its place fits a word and has a chain.
 pub record LiteralRead (hs : List ℕ) (ls : List Literal) (i : ℕ) (l : Literal) : Type 0 where
   pub stands : slice_get ls i ≡ Some l
-  pub fits : 2 * l.var + 1 < WORD_LIMIT
+  pub fits : 2 * l.var + 1 < WORD_VALUE_LIMIT
   pub chained : place l < length hs
 
 pub literal-read :
@@ -28,7 +27,6 @@ literal-read {vars} {count} {ws} {hs} {x} old ls i l h e within below is =
     let f = lit-fits vars count ws hs ls i l h within0 s in
     record { stands = s; fits = f.0; chained = f.1 }
 
--- The words and heads after clause `ls` is written.
 pub record LongWritten (ws hs us ks : List ℕ) (count reference : ℕ) (ls : List Literal) : Type 0 where
   pub l : Literal
   pub m : Literal
@@ -50,7 +48,7 @@ pub long-grown :
     {vars count reference : ℕ} {ws hs us ks : List ℕ} {ls : List Literal} {x : ArenaLists} (spare old : ℕ) →
     HoldsArena ws hs vars count → lists_of vars old ws hs (references_in ws) ≡ x →
     is_clause_over x.vars ls ≡ true → has_distinct_vars ls ≡ true → 2 ≤ length ls → length ls + 8 ≤ x.spare →
-    old + length ws ≤ WORD_LIMIT → LongWritten ws hs us ks count reference ls →
+    old + length ws ≤ WORD_VALUE_LIMIT → LongWritten ws hs us ks count reference ls →
     Grown vars spare count us ks x ls reference
 long-grown {vars} {count} {reference} {ws} {hs} {us} {ks} {ls} {x} spare old h e within differ long room below w =
     let a = literal-read old ls 0 w.l h e within (omega arith) w.l_is in
@@ -63,5 +61,5 @@ long-grown {vars} {count} {reference} {ws} {hs} {us} {ks} {ls} {x} spare old h e
     let us-are : us ≡ words_long ws hs ls w.l w.m (count + 1) = (rw (w.left_is, w.right_is, p, q) at w.words_are) ∙ ap (λ (k : ℕ). ws ++ block k (place w.l) hl (place w.m) hm (count + 1) (map place ls)) n in
     let ks-are : ks ≡ heads_long ws hs w.l w.m = rw (w.left_is, w.right_is, w.reference_is) at w.heads_are in
     let within0 = ap (λ (k : ℕ). is_clause_over k ls) (vars-are vars old ws hs x e) ∙ within in
-    let fits : length ws + length ls + 7 ≤ WORD_LIMIT = omega (arith, spare-are vars old ws hs x e, room, below) in
+    let fits : length ws + length ls + 7 ≤ WORD_VALUE_LIMIT = omega (arith, spare-are vars old ws hs x e, room, below) in
     rw (w.reference_is, us-are, ks-are) (long-law vars spare old count ws hs x ls w.l w.m h e within0 differ a.stands b.stands fits)

@@ -1,13 +1,12 @@
--- Facts for the calls that only read.
 use Rattle.std.proofs.Common.{◌≡◌, ◌≢◌, ℕ, suc, ◌+◌, ◌*◌, ◌<◌, ◌≤◌, inl, inr, Bool, true, false, ◌&&◌, not, ltb, leb, ◌==◌, List, [], ◌∷◌, length, get_or, map, refl, sym, ap, ◌∙◌, subst, arith, Some}
 use Rattle.std.specs.List.{slice_get, position_or_len}
 use Rattle.std.proofs.lemmas.Bool.Decides.{eqb_tells}
 use Rattle.std.proofs.lemmas.Bool.{cases_Bool, and_parts, and_from, leb-true, not-true, not_from_false}
 use Rattle.ilk_cnf.specs.Literal.{Literal, same_lit}
 use Rattle.ilk_cnf.specs.Formula.{is_lit_over}
-use Rattle.ilk_arena.specs.Arena.{ArenaLists, place, chain_of, is_listed_in, literals_of, cursor_of, number_of_clause, first_of, reference_after, other_watch_of}
-use Rattle.ilk_arena.specs.declared.place.TheConstants.{WORD_LIMIT}
-use Rattle.ilk_arena.specs.Words.{IsMemberOf, HasWatch, left, right, next_reference, other_watch_place, reference_of}
+use Rattle.ilk_arena.specs.Arena.{ArenaLists, place, chain_of, contains_reference, literals_of, cursor_of, number_of_clause, first_of, reference_after, other_watch_of}
+use Rattle.ilk_arena.specs.declared.place.TheConstants.{WORD_VALUE_LIMIT}
+use Rattle.ilk_arena.specs.Words.{IsMemberOf, HasWatch, left, right, next_reference_in_chain, other_watch_place, reference_unless_zero}
 use Rattle.ilk_arena.specs.Linked.{lit_from_place, literal_places_at, chain_for_place, references_in, lists_of, HasWatchChains, HoldsArena}
 use Rattle.ilk_base.proofs.Lists.{find-only}
 use Rattle.ilk_arena.proofs.Blocks.{few-clauses}
@@ -38,13 +37,13 @@ position-at c (r ∷ rs) s =
       ])
     ]
 
-pub stands-known : (vars spare : ℕ) (ws hs : List ℕ) (a : ArenaLists) (c : ℕ) → lists_of vars spare ws hs (references_in ws) ≡ a → is_listed_in c a.references ≡ true → IsMemberOf (references_in ws) c
+pub stands-known : (vars spare : ℕ) (ws hs : List ℕ) (a : ArenaLists) (c : ℕ) → lists_of vars spare ws hs (references_in ws) ≡ a → contains_reference c a.references ≡ true → IsMemberOf (references_in ws) c
 stands-known vars spare ws hs a c e t =
     let refs = references_in ws in
     let rs : a.references ≡ refs = ap (λ (y : ArenaLists). y.references) (sym e) ∙ references-seen vars spare ws hs refs in
-    stands-from c refs (ap (is_listed_in c) (sym rs) ∙ t)
+    stands-from c refs (ap (contains_reference c) (sym rs) ∙ t)
 
-pub known : (vars spare count : ℕ) (ws hs : List ℕ) (a : ArenaLists) (c : ℕ) → HoldsArena ws hs vars count → lists_of vars spare ws hs (references_in ws) ≡ a → is_listed_in c a.references ≡ true → Known ws a c
+pub known : (vars spare count : ℕ) (ws hs : List ℕ) (a : ArenaLists) (c : ℕ) → HoldsArena ws hs vars count → lists_of vars spare ws hs (references_in ws) ≡ a → contains_reference c a.references ≡ true → Known ws a c
 known vars spare count ws hs a c h e t =
     let refs = references_in ws in
     let s = stands-known vars spare ws hs a c e t in
@@ -58,7 +57,7 @@ known vars spare count ws hs a c h e t =
     }
 
 pub record Within (ws hs : List ℕ) (a : ArenaLists) (l : Literal) : Type 0 where
-  pub few : 2 * l.var + 1 < WORD_LIMIT
+  pub few : 2 * l.var + 1 < WORD_VALUE_LIMIT
   pub below : place l < length hs
   pub chain : chain_of a l ≡ chain_for_place ws hs (place l)
 
@@ -76,15 +75,15 @@ within vars spare count ws hs a l h e t =
       chain = ap (λ (x : ArenaLists). chain_of x l) (sym e) ∙ chain-seen vars spare ws hs refs (place l) b;
     }
 
-pub first-seen : (vars spare count : ℕ) (ws hs : List ℕ) (a : ArenaLists) (l : Literal) → HoldsArena ws hs vars count → Within ws hs a l → reference_of (get_or hs (place l) 0) ≡ first_of (chain_of a l)
+pub first-seen : (vars spare count : ℕ) (ws hs : List ℕ) (a : ArenaLists) (l : Literal) → HoldsArena ws hs vars count → Within ws hs a l → reference_unless_zero (get_or hs (place l) 0) ≡ first_of (chain_of a l)
 first-seen vars spare count ws hs a l h w = first-is ws (place l) (get_or hs (place l) 0) (chain_for_place ws hs (place l)) (h.linked.chains.path (place l) w.below) ∙ ap first_of (sym w.chain)
 
-pub watching : (vars spare : ℕ) (ws hs : List ℕ) (a : ArenaLists) (l : Literal) (c : ℕ) → HasWatchChains ws hs (references_in ws) → lists_of vars spare ws hs (references_in ws) ≡ a → is_listed_in c (chain_of a l) ≡ true
+pub watching : (vars spare : ℕ) (ws hs : List ℕ) (a : ArenaLists) (l : Literal) (c : ℕ) → HasWatchChains ws hs (references_in ws) → lists_of vars spare ws hs (references_in ws) ≡ a → contains_reference c (chain_of a l) ≡ true
     → InChain ws hs (references_in ws) l c
-watching vars spare ws hs a l c k e t = chain-has vars spare ws hs (references_in ws) l c k (ap (λ (x : ArenaLists). is_listed_in c (chain_of x l)) e ∙ t)
+watching vars spare ws hs a l c k e t = chain-has vars spare ws hs (references_in ws) l c k (ap (λ (x : ArenaLists). contains_reference c (chain_of x l)) e ∙ t)
 
 pub reference_after-seen : (vars count : ℕ) (ws hs : List ℕ) (a : ArenaLists) (l : Literal) (c : ℕ) → HoldsArena ws hs vars count → Within ws hs a l → InChain ws hs (references_in ws) l c
-    → reference_of (next_reference ws (place l) c) ≡ reference_after c (chain_of a l)
+    → reference_unless_zero (next_reference_in_chain ws (place l) c) ≡ reference_after c (chain_of a l)
 reference_after-seen vars count ws hs a l c h w i = reference_after-is ws (place l) (get_or hs (place l) 0) c (chain_for_place ws hs (place l)) (h.linked.chains.path (place l) w.below) i.stands ∙ ap (reference_after c) (sym w.chain)
 
 pub record OtherWatch (ws : List ℕ) (a : ArenaLists) (c : ℕ) (l : Literal) : Type 0 where
@@ -120,7 +119,8 @@ index-of : (ps : List ℕ) (q : ℕ) → IsMemberOf ps q → (i : ℕ) × (slice
 index-of [] q s = absurd s
 index-of (p ∷ ps) q s = elim s [ inl e ↦ (0, ap (λ (x : ℕ). Some (lit_from_place x)) e) | inr r ↦ (let t = index-of ps q r in (suc t.0, t.1)) ]
 
-pub other_watch_place-seen : (vars spare count : ℕ) (ws hs : List ℕ) (a : ArenaLists) (l : Literal) (c : ℕ) → HoldsArena ws hs vars count → lists_of vars spare ws hs (references_in ws) ≡ a → is_listed_in c (chain_of a l) ≡ true → OtherWatch ws a c l
+pub other_watch_place-seen : (vars spare count : ℕ) (ws hs : List ℕ) (a : ArenaLists) (l : Literal) (c : ℕ) → HoldsArena ws hs vars count → lists_of vars spare ws hs (references_in ws) ≡ a → contains_reference c (chain_of a l) ≡ true →
+    OtherWatch ws a c l
 other_watch_place-seen vars spare count ws hs a l c h e t =
     let refs = references_in ws in
     let k = h.linked in
@@ -134,16 +134,16 @@ other_watch_place-seen vars spare count ws hs a l c h e t =
     let own = watch-place ws hs refs c q k s lg o.watches in
     let x = lit_from_place q in
     let n = index-of (literal_places_at ws c) q own in
-    let p : Literal → Bool = λ m. is_listed_in c (chain_of L m) && not (same_lit l m) in
+    let p : Literal → Bool = λ m. contains_reference c (chain_of L m) && not (same_lit l m) in
     let in-list : slice_get (literals_of L c) n.0 ≡ Some x = ap (λ (ls : List Literal). slice_get ls n.0) (clause-seen vars spare ws hs refs c s) ∙ n.1 in
-    let chained : is_listed_in c (chain_of L x) ≡ true = watch-gets vars spare ws hs refs c q x k s own o.watches refl in
+    let chained : contains_reference c (chain_of L x) ≡ true = watch-gets vars spare ws hs refs c q x k s own o.watches refl in
     let apart : same_lit l x ≡ false = elim (cases_Bool (same_lit l x)) [
       | inl b ↦ absurd (o.differs (sym (place-of-lit q) ∙ ap place (sym (lit-is l x b))))
       | inr b ↦ b
     ] in
-    let passes : p x ≡ true = and_from (is_listed_in c (chain_of L x)) (not (same_lit l x)) chained (not_from_false (same_lit l x) apart) in
+    let passes : p x ≡ true = and_from (contains_reference c (chain_of L x)) (not (same_lit l x)) chained (not_from_false (same_lit l x) apart) in
     let only : (y : Literal) → p y ≡ true → y ≡ x = λ y py. (
-    let parts = and_parts (is_listed_in c (chain_of L y)) (not (same_lit l y)) py in
+    let parts = and_parts (contains_reference c (chain_of L y)) (not (same_lit l y)) py in
     let w = chain-has vars spare ws hs refs y c k parts.0 in
     let differs : place y ≢ f = λ g. (
     let same : y ≡ l = sym (lit-at-place y) ∙ ap lit_from_place g ∙ lit-at-place l in

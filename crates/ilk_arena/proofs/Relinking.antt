@@ -3,7 +3,7 @@ use Rattle.std.proofs.lemmas.List.{get_or-set_other}
 use Rattle.std.proofs.lemmas.Bool.Decides.{nat_tests, eqb_tells}
 use Rattle.std.proofs.lemmas.Bool.{cases_eq, cases_lt}
 use Rattle.std.proofs.Math.ListN.{length-set}
-use Rattle.ilk_arena.specs.Words.{link_index, watch_moved, AllSatisfy, IsMemberOf, HasWatch, left, right, AreChains, AreHeadersApart, with_chain_replaced}
+use Rattle.ilk_arena.specs.Words.{link_index, watch_moved, AllSatisfy, IsMemberOf, HasWatch, left, right, ChainsAreWatchPaths, AreHeadersInsideAndApart, with_chain_replaced}
 use Rattle.ilk_arena.specs.Linked.{literal_places_at, chain_for_place, HasWatchChains}
 use Rattle.ilk_arena.specs.Arena.{without_reference}
 use Rattle.ilk_arena.proofs.HeaderWrites.{link_index-in, moved-reads-left, moved-reads-right}
@@ -56,7 +56,6 @@ moved-differ ws f c t v h n e =
       | inr p ↦ (let r = moved-reads-right ws f c t v h p in n (left (sym r.1 ∙ e ∙ r.3)))
     ]
 
--- Membership after `c` moves from the chain of `f` to that of `t`.
 stands-two : (cs : ℕ → List ℕ) (f t c d l : ℕ) → f ≢ t → ((d ≡ c) × (l ≡ t)) ⊎ (IsMemberOf (cs l) d × ((d ≢ c) ⊎ (l ≢ f)))
     → IsMemberOf (with_chain_replaced (with_chain_replaced cs f (without_reference c (cs f))) t (c ∷ with_chain_replaced cs f (without_reference c (cs f)) t) l) d
 stands-two cs f t c d l n (inl p) =
@@ -99,7 +98,7 @@ pub record Relinked (ws hs refs us ks : List ℕ) (f t c : ℕ) : Type 0 where
 
 pub relinked : (ws hs refs vs gs : List ℕ) (f t c : ℕ) → HasWatchChains ws hs refs → Alike ws vs refs →
     SameWatches ws vs refs → length gs ≡ length hs →
-    AreChains vs gs (IsMemberOf refs) (with_chain_replaced (chain_for_place ws hs) f (without_reference c (chain_for_place ws hs f))) → 2 ≤ f →
+    ChainsAreWatchPaths vs gs (IsMemberOf refs) (with_chain_replaced (chain_for_place ws hs) f (without_reference c (chain_for_place ws hs f))) → 2 ≤ f →
     f < length hs → IsMemberOf (literal_places_at ws c) t → IsMemberOf refs c → HasWatch ws c f → f ≢ t →
     (HasWatch ws c t → ⊥) → Relinked ws hs refs (watch_moved vs f c t (get_or gs t 0)) (set gs t c) f t c
 relinked ws hs refs vs gs f t c k a w g ch lf hf own rc wf ne nw =
@@ -112,7 +111,7 @@ relinked ws hs refs vs gs f t c k a w g ch lf hf own rc wf ne nw =
     let one = with_chain_replaced (chain_for_place ws hs) f (without_reference c (chain_for_place ws hs f)) in
     let two = with_chain_replaced one t (c ∷ one t) in
     let clear1 : Clear vs refs = clear-of ws vs refs a k.clear in
-    let hd : AreHeadersApart vs (IsMemberOf refs) = record {
+    let hd : AreHeadersInsideAndApart vs (IsMemberOf refs) = record {
       room = λ d s. (k.positive d s, omega (arith, a.size, k.whole d s));
       apart = λ d e s r n. (headers-of ws hs refs k).apart d e s r n;
     } in
@@ -121,11 +120,11 @@ relinked ws hs refs vs gs f t c k a w g ch lf hf own rc wf ne nw =
     let hf2 : f < length gs = omega (arith, g) in
     let ht2 : t < length gs = omega (arith, g) in
     let gone : AllSatisfy (λ d. d ≢ c) (one f) = (let e : eqb f f ≡ true = grind (arith, nat_tests) in rw e (without-gone c (chain_for_place ws hs f))) in
-    let pushed : AreChains us ks (IsMemberOf refs) two = push-moved vs gs (IsMemberOf refs) one f t c hf2 ht2 ne rc wv (λ e. nv (left e)) nv gone hd ch in
+    let pushed : ChainsAreWatchPaths us ks (IsMemberOf refs) two = push-moved vs gs (IsMemberOf refs) one f t c hf2 ht2 ne rc wv (λ e. nv (left e)) nv gone hd ch in
     let room = hd.room c rc in
     let am : Alike vs us refs = alike-moved vs refs f c t v clear1 rc in
     let both : Alike ws us refs = alike-join ws vs us refs a am in
-    let hd2 : AreHeadersApart us (IsMemberOf refs) = record {
+    let hd2 : AreHeadersInsideAndApart us (IsMemberOf refs) = record {
       room = λ d s. (k.positive d s, omega (arith, both.size, k.whole d s));
       apart = hd.apart;
     } in

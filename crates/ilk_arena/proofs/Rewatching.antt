@@ -1,11 +1,10 @@
--- The state after a watch is moved.
 use Rattle.std.proofs.Common.{◌≡◌, ◌≢◌, ℕ, zero, suc, ◌+◌, ◌<◌, ◌≤◌, inl, inr, true, false, List, [], ◌∷◌, ◌++◌, length, get_or, set, refl, sym, ap, ◌∙◌, subst, arith, Option, Some, None, IfSome}
 use Rattle.std.specs.List.{slice_get}
 use Rattle.std.proofs.lemmas.List.{length-set}
 use Rattle.ilk_cnf.specs.Literal.{Literal}
 use Rattle.ilk_cnf.specs.Formula.{is_lit_over}
-use Rattle.ilk_arena.specs.Arena.{ArenaLists, place, chain_of, is_listed_in, literals_of, directly_follows, without_reference, chains_with_first, chains_without, with_watch_moved}
-use Rattle.ilk_arena.specs.Words.{IsMemberOf, DirectlyFollows, HasWatch, link_index, next_reference, watch_moved, words_after_unlink, heads_after_unlink, with_chain_replaced}
+use Rattle.ilk_arena.specs.Arena.{ArenaLists, place, chain_of, contains_reference, literals_of, follows_or_is_first, without_reference, chains_with_first, chains_without, with_watch_moved}
+use Rattle.ilk_arena.specs.Words.{IsMemberOf, FollowsOrIsFirst, HasWatch, link_index, next_reference_in_chain, watch_moved, words_after_unlink, heads_after_unlink, with_chain_replaced}
 use Rattle.ilk_arena.specs.Linked.{lit_from_place, literal_places_at, chain_for_place, references_in, lists_of, HasWatchChains, HoldsArena}
 use Rattle.std.specs.Option.{option_map}
 use Rattle.std.proofs.lemmas.Option.{slice_get-map, slice_get-get_or}
@@ -16,7 +15,7 @@ use Rattle.ilk_arena.proofs.Relinking.{relinked}
 use Rattle.ilk_arena.proofs.Law.{place-of-lit, in-chain, chain-gets, clause-length}
 use Rattle.ilk_arena.proofs.Updates.{Gives, gives-set, gives-one, gives-seen, gives-as, holds-alike, lists-alike}
 
-stands-after : (before : Option ℕ) (c : ℕ) (cs : List ℕ) → DirectlyFollows before c cs → IsMemberOf cs c
+stands-after : (before : Option ℕ) (c : ℕ) (cs : List ℕ) → FollowsOrIsFirst before c cs → IsMemberOf cs c
 stands-after None c cs a = (let P : List ℕ → Type 0 = λ ys. IsMemberOf ys c in subst P (sym a.1) (inl refl))
 stands-after (Some b) c cs a = (let P : List ℕ → Type 0 = λ ys. IsMemberOf ys c in subst P (sym a.1.1) (later a.0 b c a.1.0))
   where
@@ -24,21 +23,21 @@ stands-after (Some b) c cs a = (let P : List ℕ → Type 0 = λ ys. IsMemberOf 
     later [] b c post = inr (inl refl)
     later (p ∷ pre) b c post = inr (later pre b c post)
 
-before-ok : (ws hs refs : List ℕ) (before : Option ℕ) (c f : ℕ) → HasWatchChains ws hs refs → f < length hs → DirectlyFollows before c (chain_for_place ws hs f) → IfSome before (λ b. b + 7 ≤ length ws)
+before-ok : (ws hs refs : List ℕ) (before : Option ℕ) (c f : ℕ) → HasWatchChains ws hs refs → f < length hs → FollowsOrIsFirst before c (chain_for_place ws hs f) → IfSome before (λ b. b + 7 ≤ length ws)
 before-ok ws hs refs None c f k h a = tt
 before-ok ws hs refs (Some b) c f k h a =
     let s : IsMemberOf (chain_for_place ws hs f) b = (let P : List ℕ → Type 0 = λ ys. IsMemberOf ys b in subst P (sym a.1.1) (stands-in a.0 b (c ∷ a.1.0))) in
     omega (arith, k.whole b (in-chain ws hs refs f b k h s).0)
 
 after-alike : (ws hs refs : List ℕ) (before : Option ℕ) (c f : ℕ) → HasWatchChains ws hs refs → f < length hs →
-    DirectlyFollows before c (chain_for_place ws hs f) →
+    FollowsOrIsFirst before c (chain_for_place ws hs f) →
     Alike ws (words_after_unlink ws before f c) refs × SameWatches ws (words_after_unlink ws before f c) refs ×
     (length (heads_after_unlink hs ws before f c) ≡ length hs)
 after-alike ws hs refs None c f k h a = (record { size = refl; same = λ d s. record { len = refl; places = refl; number = refl; cursor = refl } }, record { left_same = λ d s. refl; right_same = λ d s. refl }, simp length-set)
 after-alike ws hs refs (Some b) c f k h a =
     let s : IsMemberOf (chain_for_place ws hs f) b = (let P : List ℕ → Type 0 = λ ys. IsMemberOf ys b in subst P (sym a.1.1) (stands-in a.0 b (c ∷ a.1.0))) in
     let r = (in-chain ws hs refs f b k h s).0 in
-    (alike-set ws hs refs b (link_index ws f b) (next_reference ws f c) k r (grind (arith, link_index-in ws f b)) (grind (arith, link_index-in ws f b)), same-set ws hs refs f b (next_reference ws f c) k r, refl)
+    (alike-set ws hs refs b (link_index ws f b) (next_reference_in_chain ws f c) k r (grind (arith, link_index-in ws f b)) (grind (arith, link_index-in ws f b)), same-set ws hs refs f b (next_reference_in_chain ws f c) k r, refl)
 
 abbrev pub words_moved : List ℕ → List ℕ → Option ℕ → ℕ → ℕ → ℕ → List ℕ
 words_moved ws hs before f c t = watch_moved (words_after_unlink ws before f c) f c t (get_or (heads_after_unlink hs ws before f c) t 0)
@@ -46,7 +45,6 @@ words_moved ws hs before f c t = watch_moved (words_after_unlink ws before f c) 
 abbrev pub heads_moved : List ℕ → List ℕ → Option ℕ → ℕ → ℕ → ℕ → List ℕ
 heads_moved ws hs before f c t = set (heads_after_unlink hs ws before f c) t c
 
--- Conditions on a call of `rewatch`.
 pub record Ready (ws hs : List ℕ) (a : ArenaLists) (before : Option ℕ) (c i : ℕ) (f : Literal) : Type 0 where
   pub clause_in : c + 7 ≤ length ws
   pub literal_in : c + 7 + i < length ws
@@ -55,7 +53,7 @@ pub record Ready (ws hs : List ℕ) (a : ArenaLists) (before : Option ℕ) (c i 
   pub to_low : 2 ≤ get_or ws (c + 7 + i) 0
   pub to_in : get_or ws (c + 7 + i) 0 < length hs
   pub known : IsMemberOf (references_in ws) c
-  pub stands : DirectlyFollows before c (chain_for_place ws hs (place f))
+  pub stands : FollowsOrIsFirst before c (chain_for_place ws hs (place f))
   pub own : IsMemberOf (literal_places_at ws c) (get_or ws (c + 7 + i) 0)
   pub is : slice_get (literals_of a c) i ≡ Some (lit_from_place (get_or ws (c + 7 + i) 0))
 
@@ -91,7 +89,7 @@ lit-at vars spare ws hs refs a c i k e s h =
 pub ready :
     (vars spare count : ℕ) (ws hs : List ℕ) (a : ArenaLists) (before : Option ℕ) (c i : ℕ) (f : Literal) →
     HoldsArena ws hs vars count → lists_of vars spare ws hs (references_in ws) ≡ a → is_lit_over a.vars f ≡ true →
-    directly_follows before c (chain_of a f) ≡ true → i < length (literals_of a c) → Ready ws hs a before c i f
+    follows_or_is_first before c (chain_of a f) ≡ true → i < length (literals_of a c) → Ready ws hs a before c i f
 ready vars spare count ws hs a before c i f h e fi af lt =
     let refs = references_in ws in
     let k = h.linked in
@@ -99,9 +97,9 @@ ready vars spare count ws hs a before c i f h e fi af lt =
     let fv : is_lit_over vars f ≡ true = ap (λ (n : ℕ). is_lit_over n f) (sym (vars-seen vars spare ws hs refs)) ∙ subst V (sym e) fi in
     let pw = place-within vars f fv in
     let fin : place f < length hs = omega (arith, h.heads, pw.1) in
-    let F : List ℕ → Type 0 = λ ys. directly_follows before c ys ≡ true in
+    let F : List ℕ → Type 0 = λ ys. follows_or_is_first before c ys ≡ true in
     let ch : chain_of a f ≡ chain_for_place ws hs (place f) = ap (λ (x : ArenaLists). chain_of x f) (sym e) ∙ chain-seen vars spare ws hs refs (place f) fin in
-    let sa : DirectlyFollows before c (chain_for_place ws hs (place f)) = stands-reference_after-from before c (chain_for_place ws hs (place f)) (subst F ch af) in
+    let sa : FollowsOrIsFirst before c (chain_for_place ws hs (place f)) = stands-reference_after-from before c (chain_for_place ws hs (place f)) (subst F ch af) in
     let s = (in-chain ws hs refs (place f) c k fin (stands-after before c (chain_for_place ws hs (place f)) sa)).0 in
     let l = lit-at vars spare ws hs refs a c i k e s lt in
     record {
@@ -125,7 +123,7 @@ pub rewatch-law :
     (vars spare count : ℕ) (ws hs : List ℕ) (a : ArenaLists) (before : Option ℕ) (c i p : ℕ) (f : Literal) →
     HoldsArena ws hs vars count → lists_of vars spare ws hs (references_in ws) ≡ a →
     Ready ws hs a before c i f → is_lit_over a.vars f ≡ true → p ≡ get_or ws (c + 7 + i) 0 →
-    is_listed_in c (chain_of a (lit_from_place p)) ≡ false →
+    contains_reference c (chain_of a (lit_from_place p)) ≡ false →
     Moved vars spare count ws hs (words_moved ws hs before (place f) c p)
     (heads_moved ws hs before (place f) c p) a c f (lit_from_place p)
 rewatch-law vars spare count ws hs a before c i p f h e r fi pe un =
@@ -154,7 +152,7 @@ rewatch-law vars spare count ws hs a before c i p f h e r fi pe un =
     let T : ℕ → Type 0 = λ q. IsMemberOf (chain_for_place ws hs q) c in
     let b : place (lit_from_place p) < length hs = omega (arith, pl, pin) in
     let t = chain-gets vars spare ws hs refs (lit_from_place p) c b (subst T (sym pl) st) in
-    let u : is_listed_in c (chain_of L (lit_from_place p)) ≡ false = ap (λ (y : ArenaLists). is_listed_in c (chain_of y (lit_from_place p))) e ∙ un in
+    let u : contains_reference c (chain_of L (lit_from_place p)) ≡ false = ap (λ (y : ArenaLists). contains_reference c (chain_of y (lit_from_place p))) e ∙ un in
     absurd (cc)) in
     let ne : x ≢ p = λ q. nowatch (let W : ℕ → Type 0 = λ j. HasWatch ws c j in subst W q wf) in
     let m = relinked ws hs refs vs gs x p c k al.0 al.1 al.2 ch lf r.from_in own s wf ne nowatch in

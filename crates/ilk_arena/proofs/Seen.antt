@@ -1,4 +1,3 @@
--- Facts about the words that follow from the lists.
 use Rattle.std.proofs.Common.{◌≡◌, ℕ, ◌+◌, ◌*◌, ◌/◌, ◌%◌, ◌<◌, ◌≤◌, inl, inr, Bool, true, false, ◌&&◌, cond, eqb, List, [], ◌∷◌, length, get_or, map, refl, ap, ◌∙◌, subst, arith, Option, Some, None}
 use Rattle.std.proofs.lemmas.Bool.Decides.{nat_tests, eqb_tells}
 use Rattle.std.proofs.lemmas.Bool.{and_parts, or_cases, or_left, or_right, ltb-true, leb-true, eqb-true, eq-eqb}
@@ -6,17 +5,17 @@ use Rattle.std.proofs.lemmas.Grind.{common_steps}
 use Rattle.std.proofs.lemmas.List.FromFn.{get_or-map-range_with_len, length-map-range_with_len}
 use Rattle.ilk_cnf.specs.Literal.{Literal}
 use Rattle.ilk_cnf.specs.Formula.{is_lit_over}
-use Rattle.ilk_arena.specs.Arena.{place, is_listed_in, item_for_reference, literals_of, cursor_of, first_of, reference_after, directly_follows}
-use Rattle.ilk_arena.specs.Words.{IsChainPath, IsMemberOf, DirectlyFollows, next_reference, reference_of}
+use Rattle.ilk_arena.specs.Arena.{place, contains_reference, item_at_reference_or_default, literals_of, cursor_of, first_of, reference_after, follows_or_is_first}
+use Rattle.ilk_arena.specs.Words.{IsChainPath, IsMemberOf, FollowsOrIsFirst, next_reference_in_chain, reference_unless_zero}
 use Rattle.ilk_arena.specs.Linked.{lit_from_place, literal_places_at, literals_at, cursor_at, chain_for_place, lists_of}
 
-pub stands-from : (c : ℕ) (cs : List ℕ) → is_listed_in c cs ≡ true → IsMemberOf cs c
+pub stands-from : (c : ℕ) (cs : List ℕ) → contains_reference c cs ≡ true → IsMemberOf cs c
 stands-from c [] h = absurd (cc)
-stands-from c (x ∷ cs) h = elim (or_cases (eqb x c) (is_listed_in c cs) h) [ inl e ↦ inl (eqb-true x c e) | inr r ↦ inr (stands-from c cs r) ]
+stands-from c (x ∷ cs) h = elim (or_cases (eqb x c) (contains_reference c cs) h) [ inl e ↦ inl (eqb-true x c e) | inr r ↦ inr (stands-from c cs r) ]
 
-pub stands-to : (c : ℕ) (cs : List ℕ) → IsMemberOf cs c → is_listed_in c cs ≡ true
+pub stands-to : (c : ℕ) (cs : List ℕ) → IsMemberOf cs c → contains_reference c cs ≡ true
 stands-to c [] s = absurd s
-stands-to c (x ∷ cs) s = elim s [ inl e ↦ or_left (eqb x c) (is_listed_in c cs) (eq-eqb x c e) | inr r ↦ or_right (eqb x c) (is_listed_in c cs) (stands-to c cs r) ]
+stands-to c (x ∷ cs) s = elim s [ inl e ↦ or_left (eqb x c) (contains_reference c cs) (eq-eqb x c e) | inr r ↦ or_right (eqb x c) (contains_reference c cs) (stands-to c cs r) ]
 
 pub lit-at-place : (l : Literal) → lit_from_place (place l) ≡ l
 lit-at-place l = go l.var l.positive
@@ -38,7 +37,7 @@ place-within n l h = (let p = and_parts _ _ h in go l.var l.positive (ltb-true 0
     go v true a b = (omega arith, omega arith)
     go v false a b = (omega arith, omega arith)
 
-pub beside-map : {A : Type 0} (f : ℕ → A) (d : A) (refs : List ℕ) (c : ℕ) → IsMemberOf refs c → item_for_reference c refs (map f refs) d ≡ f c
+pub beside-map : {A : Type 0} (f : ℕ → A) (d : A) (refs : List ℕ) (c : ℕ) → IsMemberOf refs c → item_at_reference_or_default c refs (map f refs) d ≡ f c
 beside-map f d [] c s = absurd s
 beside-map f d (r ∷ rs) c s =
     elim (eqb_tells r c) [
@@ -78,28 +77,28 @@ pub places-get : (ws : List ℕ) (c i : ℕ) → c + 7 + get_or ws c 0 ≤ lengt
 unfolding literal_places_at
 places-get ws c i h l = grind (arith, common_steps)
 
-pub first-is : (ws : List ℕ) (l k : ℕ) (cs : List ℕ) → IsChainPath ws l k cs → reference_of k ≡ first_of cs
+pub first-is : (ws : List ℕ) (l k : ℕ) (cs : List ℕ) → IsChainPath ws l k cs → reference_unless_zero k ≡ first_of cs
 first-is ws l k [] p = (let e : eqb k 0 ≡ true = grind (arith, nat_tests) in rw e refl)
 first-is ws l k (c ∷ cs) p =
     let q : 0 < k = omega (arith, p.0, p.1) in
     let e : eqb k 0 ≡ false = grind (arith, nat_tests) in
     rw e (ap Some p.0)
 
-pub reference_after-is : (ws : List ℕ) (l k c : ℕ) (cs : List ℕ) → IsChainPath ws l k cs → IsMemberOf cs c → reference_of (next_reference ws l c) ≡ reference_after c cs
+pub reference_after-is : (ws : List ℕ) (l k c : ℕ) (cs : List ℕ) → IsChainPath ws l k cs → IsMemberOf cs c → reference_unless_zero (next_reference_in_chain ws l c) ≡ reference_after c cs
 reference_after-is ws l k c [] p s = absurd s
 reference_after-is ws l k c (x ∷ xs) p s =
     elim (eqb_tells x c) [
-      | inl e ↦ rw e.0 (let P : ℕ → Type 0 = λ j. reference_of (next_reference ws l j) ≡ first_of xs in subst P e.1 (first-is ws l (next_reference ws l x) xs p.2))
-      | inr e ↦ rw e.0 (elim s [ inl q ↦ absurd (e.1 q) | inr q ↦ reference_after-is ws l (next_reference ws l x) c xs p.2 q ])
+      | inl e ↦ rw e.0 (let P : ℕ → Type 0 = λ j. reference_unless_zero (next_reference_in_chain ws l j) ≡ first_of xs in subst P e.1 (first-is ws l (next_reference_in_chain ws l x) xs p.2))
+      | inr e ↦ rw e.0 (elim s [ inl q ↦ absurd (e.1 q) | inr q ↦ reference_after-is ws l (next_reference_in_chain ws l x) c xs p.2 q ])
     ]
 
-pub stands-reference_after-from : (before : Option ℕ) (c : ℕ) (cs : List ℕ) → directly_follows before c cs ≡ true → DirectlyFollows before c cs
+pub stands-reference_after-from : (before : Option ℕ) (c : ℕ) (cs : List ℕ) → follows_or_is_first before c cs ≡ true → FollowsOrIsFirst before c cs
 stands-reference_after-from None c [] h = absurd (cc)
 stands-reference_after-from None c (x ∷ xs) h = (xs, ap (λ y. y ∷ xs) (eqb-true x c h))
 stands-reference_after-from (Some b) c [] h = absurd (cc)
 stands-reference_after-from (Some b) c (x ∷ xs) h =
-    elim (or_cases (eqb x b && directly_follows None c xs) (directly_follows (Some b) c xs) h) [
-      | inl p ↦ (let q = and_parts (eqb x b) (directly_follows None c xs) p in
+    elim (or_cases (eqb x b && follows_or_is_first None c xs) (follows_or_is_first (Some b) c xs) h) [
+      | inl p ↦ (let q = and_parts (eqb x b) (follows_or_is_first None c xs) p in
           let r = stands-reference_after-from None c xs q.1 in
           ([], (r.0, ap (λ y. y ∷ xs) (eqb-true x b q.0) ∙ ap (λ ys. b ∷ ys) r.1)))
       | inr p ↦ (let r = stands-reference_after-from (Some b) c xs p in (x ∷ r.0, (r.1.0, ap (λ ys. x ∷ ys) r.1.1)))

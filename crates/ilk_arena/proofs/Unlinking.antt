@@ -3,7 +3,7 @@ use Rattle.std.proofs.lemmas.List.{get_or-set_other, drop-set-lt, drop-set-add, 
 use Rattle.std.proofs.lemmas.Bool.Decides.{nat_tests, eqb_tells}
 use Rattle.std.proofs.lemmas.Bool.{cases_eq, cases_order}
 use Rattle.std.proofs.Math.ListN.{length-set}
-use Rattle.ilk_arena.specs.Words.{link_index, watch_moved, words_after_unlink, heads_after_unlink, AllSatisfy, IsMemberOf, DirectlyFollows, HasWatch, left, right, Distinct, AreChains, with_chain_replaced}
+use Rattle.ilk_arena.specs.Words.{link_index, watch_moved, words_after_unlink, heads_after_unlink, AllSatisfy, IsMemberOf, FollowsOrIsFirst, HasWatch, left, right, Distinct, ChainsAreWatchPaths, with_chain_replaced}
 use Rattle.ilk_arena.specs.Linked.{literal_places_at, chain_for_place, HasWatchChains}
 use Rattle.ilk_arena.specs.Arena.{without_reference}
 use Rattle.ilk_arena.proofs.HeaderWrites.{link_index-in, moved-reads-left, moved-reads-right}
@@ -116,7 +116,6 @@ pub watches-to : (ws vs : List ℕ) (c l : ℕ) → get_or vs (c + 1) 0 ≡ get_
 watches-to ws vs c l a b (left p) = left (a ∙ p)
 watches-to ws vs c l a b (right p) = right (b ∙ p)
 
--- After the move `c` watches `t`, and its earlier watches other than `f`.
 pub watch-back : (ws : List ℕ) (f c t v l : ℕ) → c + 7 ≤ length ws → get_or ws (c + 1) 0 ≢ get_or ws (c + 3) 0 → HasWatch ws c f → HasWatch (watch_moved ws f c t v) c l → (l ≡ t) ⊎ (HasWatch ws c l × (l ≢ f))
 watch-back ws f c t v l h n wf w =
     elim (cases_eq (get_or ws (c + 1) 0) f) [
@@ -136,8 +135,8 @@ watch-back ws f c t v l h n wf w =
     pick2 ws vs c f t l p n a b (right x) (right q) = inl (sym q ∙ b)
 
 pub unlinked : (ws hs refs : List ℕ) (before : Option ℕ) (f c : ℕ) → HasWatchChains ws hs refs → f < length hs →
-    DirectlyFollows before c (chain_for_place ws hs f) →
-    AreChains (words_after_unlink ws before f c) (heads_after_unlink hs ws before f c) (IsMemberOf refs)
+    FollowsOrIsFirst before c (chain_for_place ws hs f) →
+    ChainsAreWatchPaths (words_after_unlink ws before f c) (heads_after_unlink hs ws before f c) (IsMemberOf refs)
     (with_chain_replaced (chain_for_place ws hs) f (without_reference c (chain_for_place ws hs f)))
 unlinked ws hs refs None f c k h a =
     let e : without_reference c (chain_for_place ws hs f) ≡ a.0 = rw a.1 (without-first c a.0 (let D : List ℕ → Type 0 = λ ys. Distinct ys in let d : Distinct (c ∷ a.0) = subst D a.1 (k.chains.once f h) in d.0)) in

@@ -1,15 +1,15 @@
--- Used only in proofs: the relation between the words of an arena and its lists.
+-- Used only in proofs: the words `ws` and the heads of chains `hs` of an arena, and its lists.
 use Rattle.std.specs.Prelude.{ℕ, zero, suc, ◌+◌, ◌*◌, ◌/◌, ◌%◌, ◌<◌, ◌≤◌, ◌≡◌, ◌≢◌, true, ◌==◌, List, [], ◌∷◌, cond, nat_lt, slice_index, length, take, drop, map, Some}
 use Rattle.std.specs.List.{slice_get, range_with_len}
 use Rattle.ilk_cnf.specs.Literal.{Literal, has_distinct_vars}
 use Rattle.ilk_arena.specs.Arena.{ArenaLists}
-use Rattle.ilk_arena.specs.declared.place.TheConstants.{WORD_LIMIT}
-use Rattle.ilk_arena.specs.Words.{chain, IsMemberOf, HasWatch, AreChains}
+use Rattle.ilk_arena.specs.declared.place.TheConstants.{WORD_VALUE_LIMIT}
+use Rattle.ilk_arena.specs.Words.{chain, IsMemberOf, HasWatch, ChainsAreWatchPaths}
 
 abbrev pub lit_from_place : ℕ → Literal
 lit_from_place p = record { var = p / 2; positive = p % 2 == 1 }
 
--- The places of the literals of clause `c`.
+-- Returns the places of the literals of clause `c`.
 unfoldable pub literal_places_at : List ℕ → ℕ → List ℕ
 literal_places_at ws c = take (slice_index ws c) (drop (c + 7) ws)
 
@@ -19,11 +19,11 @@ literals_at ws c = map lit_from_place (literal_places_at ws c)
 abbrev pub cursor_at : List ℕ → ℕ → ℕ
 cursor_at ws c = slice_index ws (c + 6)
 
--- The references of the clauses that watch the literal with number `l`, from its head on.
+-- Returns the references in the chain of place `l`, from its head on.
 abbrev pub chain_for_place : List ℕ → List ℕ → ℕ → List ℕ
 chain_for_place ws hs l = chain ws l (length ws) (slice_index hs l)
 
--- The references of the clauses from word `k` on, at most `n` of them.
+-- Returns the references of at most `n` clauses in the block, from word `k` on.
 abbrev pub references_from : List ℕ → ℕ → ℕ → List ℕ
 references_from ws zero k = []
 references_from ws (suc n) k = cond (nat_lt k (length ws)) (k ∷ references_from ws n (k + 7 + slice_index ws k)) []
@@ -31,6 +31,7 @@ references_from ws (suc n) k = cond (nat_lt k (length ws)) (k ∷ references_fro
 abbrev pub references_in : List ℕ → List ℕ
 references_in ws = references_from ws (length ws) 1
 
+-- Returns the arena that the block, the heads and the references store.
 unfoldable pub lists_of : ℕ → ℕ → List ℕ → List ℕ → List ℕ → ArenaLists
 lists_of vars spare ws hs refs = record {
   vars = vars;
@@ -41,13 +42,13 @@ lists_of vars spare ws hs refs = record {
   chains = map (chain_for_place ws hs) (range_with_len 0 (length hs));
 }
 
--- Holds if, from word `k` on, the block consists of the clauses `cs`, without gaps.
+-- Holds if the clauses `cs` fill the block from word `k` to its end, without gaps.
 abbrev pub IsGaplessFrom : List ℕ → ℕ → List ℕ → Type 0
 IsGaplessFrom ws k [] = k ≡ length ws
 IsGaplessFrom ws k (c ∷ cs) = (k ≡ c) × (c + 7 + slice_index ws c ≤ length ws) × IsGaplessFrom ws (c + 7 + slice_index ws c) cs
 
--- Holds if the links in the headers form the chains of the watches. No literal has one of the first
--- two places.
+-- Holds if the links in the headers of clauses `refs` form the chains of their watches. Only
+-- clauses of two or more literals have watches. No literal has place 0 or 1.
 pub record HasWatchChains (ws hs refs : List ℕ) : Type 0 where
   pub started : 0 < length ws
   pub wide : 2 ≤ length hs
@@ -61,23 +62,23 @@ pub record HasWatchChains (ws hs refs : List ℕ) : Type 0 where
   pub right_own : (c : ℕ) → IsMemberOf refs c → 2 ≤ slice_index ws c → IsMemberOf (literal_places_at ws c) (slice_index ws (c + 3))
   pub left_none : (c : ℕ) → IsMemberOf refs c → slice_index ws c < 2 → slice_index ws (c + 1) < 2
   pub right_none : (c : ℕ) → IsMemberOf refs c → slice_index ws c < 2 → slice_index ws (c + 3) < 2
-  pub chains : AreChains ws hs (IsMemberOf refs) (chain_for_place ws hs)
+  pub chains : ChainsAreWatchPaths ws hs (IsMemberOf refs) (chain_for_place ws hs)
   pub empty : (l : ℕ) → l < 2 → chain_for_place ws hs l ≡ []
   pub standing : (c l : ℕ) → IsMemberOf refs c → 2 ≤ l → l < length hs → HasWatch ws c l → IsMemberOf (chain_for_place ws hs l) c
 
--- Holds if the clauses follow each other with their numbers and cursors, and no clause has a
--- variable twice.
+-- Holds if the clauses `refs` fill the block in order. Each has its number, a valid cursor, and
+-- literals over different variables.
 pub record HasClausesInOrder (ws refs : List ℕ) : Type 0 where
   pub blocks : IsGaplessFrom ws 1 refs
   pub number : (i c : ℕ) → slice_get refs i ≡ Some c → slice_index ws (c + 5) ≡ i + 1
   pub cursor : (c : ℕ) → IsMemberOf refs c → slice_index ws (c + 6) ≤ slice_index ws c
   pub apart : (c : ℕ) → IsMemberOf refs c → has_distinct_vars (literals_at ws c) ≡ true
 
--- Holds if the words, the heads and the numbers of variables and clauses store the lists, and each
--- place and reference fits a word.
+-- Holds if the block and the heads store `count` clauses over `vars` variables, and each place and
+-- reference fits a word.
 pub record HoldsArena (ws hs : List ℕ) (vars count : ℕ) : Type 0 where
-  pub few : 2 * vars + 2 ≤ WORD_LIMIT
-  pub addressed : length ws ≤ WORD_LIMIT
+  pub few : 2 * vars + 2 ≤ WORD_VALUE_LIMIT
+  pub addressed : length ws ≤ WORD_VALUE_LIMIT
   pub heads : length hs ≡ 2 * vars + 2
   pub counted : count ≡ length (references_in ws)
   pub linked : HasWatchChains ws hs (references_in ws)

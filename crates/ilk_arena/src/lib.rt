@@ -7,8 +7,8 @@
 //! and writes a few words that were just read, as in A. Biere, "PicoSAT essentials", JSAT 4, 2008.
 //!
 //! A search spends most of its time loading headers, so a word has only 32 bits. References and
-//! places of literals are below 2^32 (`WORD_LIMIT`), so an arena has at most 2^32 words and 2^31 -
-//! 1 variables. Beyond that, `new` and `reserve` report out of memory.
+//! places of literals are below 2^32 (`WORD_VALUE_LIMIT`), so an arena has at most 2^32 words and
+//! 2^31 - 1 variables. Beyond that, `new` and `reserve` report out of memory.
 //!
 //! `reserve` makes room. `add` then adds a clause, cannot fail, and returns the reference that
 //! names the clause in all other calls. `first_watch` and `next_watch` walk the chain of a literal.

@@ -11,7 +11,7 @@ use Rattle.ilk_log.specs.declared.step.Step.{Step}
 use Rattle.ilk_log.specs.Propagation.{clause_numbered, is_false, is_falsified, only_lit_if_unset, unit_lit}
 use Rattle.ilk_log.specs.Derived.{hints_end_in_conflict, is_derived, is_empty_clause, negated_clause}
 use Rattle.ilk_audit.specs.Audited.{AuditState}
-use Rattle.ilk_audit.specs.Taken.{answer_from_fault, fault_of, hints_fault, is_taken, has_hint_left, step_answer}
+use Rattle.ilk_audit.specs.Taken.{answer_from_fault, why_step_not_derived, why_hints_reach_no_conflict, is_taken, has_hint_left, step_answer}
 use Rattle.ilk_audit.specs.declared.taken.Why.{Why}
 use Rattle.ilk_audit.specs.declared.taken.Why.TheVariants.{BadHint, NotUnit, NotFalse}
 
@@ -22,10 +22,9 @@ none-open set (l ∷ c) f = (let p = and_parts (is_false set l) (is_falsified se
 no-unit : (set c : List Literal) → is_falsified set c ≡ true → unit_lit set c ≡ None
 no-unit set c f = ap (only_lit_if_unset set) (none-open set c f)
 
--- The reason why a clause that a hint names, and the hints after it, do not end as they have to.
 abbrev in_clause : List (List Literal) → List Literal → List ℕ → List Literal → Option Why
 in_clause clauses set hints c =
-    cond (is_falsified set c) (then_some (has_hint_left hints) NotFalse) (option_map_or (λ l. hints_fault clauses (l ∷ set) hints) (unit_lit set c) (Some NotUnit))
+    cond (is_falsified set c) (then_some (has_hint_left hints) NotFalse) (option_map_or (λ l. why_hints_reach_no_conflict clauses (l ∷ set) hints) (unit_lit set c) (Some NotUnit))
 
 last-clause : (clauses : List (List Literal)) (set c : List Literal) → is_none (in_clause clauses set [] c) ≡ is_falsified set c
 last-clause clauses set c =
@@ -34,11 +33,11 @@ last-clause clauses set c =
       | inr f ↦ rw f (go (unit_lit set c))
     ]
   where
-    go : (o : Option Literal) → is_none (option_map_or (λ l. hints_fault clauses (l ∷ set) []) o (Some NotUnit)) ≡ false
+    go : (o : Option Literal) → is_none (option_map_or (λ l. why_hints_reach_no_conflict clauses (l ∷ set) []) o (Some NotUnit)) ≡ false
     go None = refl
     go (Some l) = refl
 
-pub hints-derived : (clauses : List (List Literal)) (set : List Literal) (hints : List ℕ) → is_none (hints_fault clauses set hints) ≡ hints_end_in_conflict clauses set hints
+pub hints-derived : (clauses : List (List Literal)) (set : List Literal) (hints : List ℕ) → is_none (why_hints_reach_no_conflict clauses set hints) ≡ hints_end_in_conflict clauses set hints
 hints-derived clauses set [] = refl
 hints-derived clauses set (h ∷ []) = go (clause_numbered clauses h)
   where
@@ -49,16 +48,16 @@ hints-derived clauses set (h ∷ (k ∷ hints)) = go (λ l. hints-derived clause
   where
     by_unit :
         ((l : Literal) →
-        is_none (hints_fault clauses (l ∷ set) (k ∷ hints)) ≡ hints_end_in_conflict clauses (l ∷ set) (k ∷ hints)) →
+        is_none (why_hints_reach_no_conflict clauses (l ∷ set) (k ∷ hints)) ≡ hints_end_in_conflict clauses (l ∷ set) (k ∷ hints)) →
         (o : Option Literal) →
-        is_none (option_map_or (λ l. hints_fault clauses (l ∷ set) (k ∷ hints)) o (Some NotUnit))
+        is_none (option_map_or (λ l. why_hints_reach_no_conflict clauses (l ∷ set) (k ∷ hints)) o (Some NotUnit))
         ≡ is_some_and (o >>= (λ l. Some (l ∷ set))) (λ s. hints_end_in_conflict clauses s (k ∷ hints))
     by_unit next None = refl
     by_unit next (Some l) = next l
 
     go :
         ((l : Literal) →
-        is_none (hints_fault clauses (l ∷ set) (k ∷ hints)) ≡ hints_end_in_conflict clauses (l ∷ set) (k ∷ hints)) →
+        is_none (why_hints_reach_no_conflict clauses (l ∷ set) (k ∷ hints)) ≡ hints_end_in_conflict clauses (l ∷ set) (k ∷ hints)) →
         (o : Option (List Literal)) →
         is_none (option_map_or (in_clause clauses set (k ∷ hints)) o (Some BadHint))
         ≡ is_some_and (o >>= (λ c. unit_lit set c >>= (λ l. Some (l ∷ set))))
@@ -74,7 +73,7 @@ answer_from_fault-taken : (s : Step) (o : Option Why) → is_taken (answer_from_
 answer_from_fault-taken s (Some why) = refl
 answer_from_fault-taken s None = elim (cases_Bool (is_empty_clause s.clause)) [ inl t ↦ rw t refl | inr f ↦ rw f refl ]
 
-pub fault-derived : (n : ℕ) (clauses : List (List Literal)) (s : Step) → is_none (fault_of n clauses s) ≡ is_derived n clauses s
+pub fault-derived : (n : ℕ) (clauses : List (List Literal)) (s : Step) → is_none (why_step_not_derived n clauses s) ≡ is_derived n clauses s
 fault-derived n clauses s =
     elim (cases_Bool (is_clause_over n s.clause)) [
       | inl a ↦ elim (cases_Bool (has_distinct_vars s.clause)) [
@@ -85,4 +84,4 @@ fault-derived n clauses s =
     ]
 
 pub taken_derived : (a : AuditState) (s : Step) → is_taken (step_answer a s) ≡ is_derived a.vars a.clauses s
-taken_derived a s = answer_from_fault-taken s (fault_of a.vars a.clauses s) ∙ fault-derived a.vars a.clauses s
+taken_derived a s = answer_from_fault-taken s (why_step_not_derived a.vars a.clauses s) ∙ fault-derived a.vars a.clauses s

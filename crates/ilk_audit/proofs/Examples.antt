@@ -17,14 +17,12 @@ four = record {
 abbrev step : List Literal → List ℕ → Step
 step clause hints = record { clause = clause; hints = hints }
 
--- A unit by two clauses, then the empty clause by it and the other two.
 unit-follows : step_answer four (step (positive_lit 1 ∷ []) (1 ∷ 2 ∷ [])) ≡ Good
 unit-follows = refl
 
 empty-follows : step_answer (after_step four (step (positive_lit 1 ∷ []) (1 ∷ 2 ∷ []))) (step [] (5 ∷ 3 ∷ 4 ∷ [])) ≡ Closed
 empty-follows = refl
 
--- Clause 3 has a true literal if 1 is false.
 true-literal : step_answer four (step (positive_lit 1 ∷ []) (3 ∷ [])) ≡ Bad NotUnit
 true-literal = refl
 

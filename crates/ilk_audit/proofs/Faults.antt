@@ -8,8 +8,8 @@ use Rattle.ilk_cnf.specs.Formula.{is_clause_over, is_lit_over}
 use Rattle.ilk_cnf.proofs.SameLiterals.{has-var}
 use Rattle.ilk_log.specs.Derived.{negated_clause}
 use Rattle.ilk_log.specs.Propagation.{is_false}
-use Rattle.ilk_audit.specs.Hinted.{clause_status_at}
-use Rattle.ilk_audit.specs.Taken.{hints_fault, has_hint_left}
+use Rattle.ilk_audit.specs.Hinted.{status_of_hinted_clause}
+use Rattle.ilk_audit.specs.Taken.{why_hints_reach_no_conflict, has_hint_left}
 use Rattle.ilk_audit.specs.declared.hinted.ClauseStatus.{ClauseStatus}
 use Rattle.ilk_cnf.proofs.Gates.{negated_lit-negated_lit}
 use Rattle.ilk_audit.proofs.Scans.{by_found, hints-found}
@@ -76,19 +76,19 @@ bad-literal n c i l at is bad =
     clause-bad_end n c i (ap (is_clause n) e ∙ clause-bad n l (drop (i + 1) c) o)
 
 pub record AtHints (clauses : List (List Literal)) (start : List Literal) (whole : List ℕ) (set : List Literal) (rest : List ℕ) : Type 0 where
-  pub fault : hints_fault clauses set rest ≡ hints_fault clauses start whole
+  pub fault : why_hints_reach_no_conflict clauses set rest ≡ why_hints_reach_no_conflict clauses start whole
 
 pub hint-next :
     (clauses : List (List Literal)) (start : List Literal) (whole : List ℕ) (set : List Literal) (i h : ℕ)
     (found : ClauseStatus) →
     AtHints clauses start whole set (drop i whole) → i < length whole → h ≡ get_or whole i 0 →
-    found ≡ clause_status_at clauses set h →
-    by_found clauses set (drop (i + 1) whole) found ≡ hints_fault clauses start whole
+    found ≡ status_of_hinted_clause clauses set h →
+    by_found clauses set (drop (i + 1) whole) found ≡ why_hints_reach_no_conflict clauses start whole
 hint-next clauses start whole set i h found a at is e =
     ap (by_found clauses set (drop (i + 1) whole)) e
     ∙ sym (hints-found clauses set h (drop (i + 1) whole))
-    ∙ ap (λ k. hints_fault clauses set (k ∷ drop (i + 1) whole)) is
-    ∙ sym (ap (hints_fault clauses set) (drop_more whole i 0 at))
+    ∙ ap (λ k. why_hints_reach_no_conflict clauses set (k ∷ drop (i + 1) whole)) is
+    ∙ sym (ap (why_hints_reach_no_conflict clauses set) (drop_more whole i 0 at))
     ∙ a.fault
 
 pub some-left_drop : (hints : List ℕ) (i : ℕ) → i < length hints → has_hint_left (drop i hints) ≡ true

@@ -10,9 +10,9 @@ use Rattle.ilk_cnf.specs.Literal.{Literal, has_lit}
 use Rattle.ilk_cnf.specs.Code.{literal_of}
 use Rattle.ilk_cnf.specs.Formula.{is_clause_over, are_clauses_over, is_lit_over}
 use Rattle.ilk_log.specs.Propagation.{clause_numbered, is_false, is_falsified, only_lit_if_unset, unit_lit}
-use Rattle.ilk_audit.specs.Hinted.{clause_status_at, clause_status, status_from_unfalsified, IsUnitLitSettable, unfalsified_lits}
+use Rattle.ilk_audit.specs.Hinted.{status_of_hinted_clause, clause_status, status_from_unfalsified, IsUnitLitSettable, unfalsified_lits}
 use Rattle.ilk_audit.specs.Stored.{literals_of}
-use Rattle.ilk_audit.specs.Taken.{hints_fault, has_hint_left}
+use Rattle.ilk_audit.specs.Taken.{why_hints_reach_no_conflict, has_hint_left}
 use Rattle.ilk_audit.specs.declared.hinted.ClauseStatus.{ClauseStatus}
 use Rattle.ilk_audit.specs.declared.hinted.ClauseStatus.TheVariants.{Missing, AllFalse, OneUnset, Other}
 use Rattle.ilk_audit.specs.declared.taken.Why.{Why}
@@ -20,7 +20,6 @@ use Rattle.ilk_audit.specs.declared.taken.Why.TheVariants.{BadHint, NotUnit, Not
 use Rattle.ilk_audit.proofs.Derived.{none-open}
 use Rattle.ilk_audit.proofs.Tables.{var-unset}
 
--- The invariant of a scan: at most one open literal so far, and the rest determines the result.
 pub record AtCodes (n : ℕ) (set : List Literal) (whole : List ℕ) (lone : Option Literal) (rest : List ℕ) : Type 0 where
   pub found : status_from_unfalsified set (option_to_list lone ++ unfalsified_lits set (literals_of rest)) ≡ clause_status set (literals_of whole)
   pub within : is_clause_over n (option_to_list lone) ≡ true
@@ -77,13 +76,13 @@ some-open set c l ls e = elim (cases_Bool (is_falsified set c)) [
 abbrev pub by_found : List (List Literal) → List Literal → List ℕ → ClauseStatus → Option Why
 by_found clauses set hints Missing = Some BadHint
 by_found clauses set hints AllFalse = then_some (has_hint_left hints) NotFalse
-by_found clauses set hints (OneUnset l) = hints_fault clauses (l ∷ set) hints
+by_found clauses set hints (OneUnset l) = why_hints_reach_no_conflict clauses (l ∷ set) hints
 by_found clauses set hints Other = Some NotUnit
 
 in-clause : (clauses : List (List Literal)) (set : List Literal) (hints : List ℕ) (c ls : List Literal) →
     unfalsified_lits set c ≡ ls →
     cond (is_falsified set c) (then_some (has_hint_left hints) NotFalse)
-    (option_map_or (λ l. hints_fault clauses (l ∷ set) hints) (only_lit_if_unset set ls) (Some NotUnit))
+    (option_map_or (λ l. why_hints_reach_no_conflict clauses (l ∷ set) hints) (only_lit_if_unset set ls) (Some NotUnit))
     ≡ by_found clauses set hints (status_from_unfalsified set ls)
 in-clause clauses set hints c [] e = rw (all-false set c e) refl
 in-clause clauses set hints c (l ∷ []) e =
@@ -94,13 +93,13 @@ in-clause clauses set hints c (l ∷ []) e =
     ])
 in-clause clauses set hints c (l ∷ (m ∷ ls)) e = rw (some-open set c l (m ∷ ls) e) refl
 
-pub hints-found : (clauses : List (List Literal)) (set : List Literal) (h : ℕ) (hints : List ℕ) → hints_fault clauses set (h ∷ hints) ≡ by_found clauses set hints (clause_status_at clauses set h)
+pub hints-found : (clauses : List (List Literal)) (set : List Literal) (h : ℕ) (hints : List ℕ) → why_hints_reach_no_conflict clauses set (h ∷ hints) ≡ by_found clauses set hints (status_of_hinted_clause clauses set h)
 hints-found clauses set h hints = go (clause_numbered clauses h)
   where
     go : (o : Option (List Literal)) →
         option_map_or
         (λ c. cond (is_falsified set c) (then_some (has_hint_left hints) NotFalse)
-        (option_map_or (λ l. hints_fault clauses (l ∷ set) hints) (unit_lit set c) (Some NotUnit))) o
+        (option_map_or (λ l. why_hints_reach_no_conflict clauses (l ∷ set) hints) (unit_lit set c) (Some NotUnit))) o
         (Some BadHint)
         ≡ by_found clauses set hints (option_map_or (clause_status set) o Missing)
     go None = refl
@@ -128,7 +127,7 @@ settable-in n set c (l ∷ []) e w =
     by_true false f p = (p.1, var-unset l set f p.0)
 settable-in n set c (l ∷ (m ∷ ls)) e w = tt
 
-pub settable-at : (n : ℕ) (clauses : List (List Literal)) (set : List Literal) (h : ℕ) → are_clauses_over n clauses ≡ true → IsUnitLitSettable n set (clause_status_at clauses set h)
+pub settable-at : (n : ℕ) (clauses : List (List Literal)) (set : List Literal) (h : ℕ) → are_clauses_over n clauses ≡ true → IsUnitLitSettable n set (status_of_hinted_clause clauses set h)
 settable-at n clauses set zero w = tt
 settable-at n clauses set (suc i) w = go (slice_get clauses i) refl
   where

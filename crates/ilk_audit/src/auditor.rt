@@ -6,7 +6,7 @@ ghost use Rattle.ilk_audit.specs.declared.taken.Taken.TheVariants.{Closed, Good}
 ghost use Rattle.ilk_audit.specs.Taken.{after_step, step_answer};
 
 use crate::block::ClauseDb;
-use crate::fault::find_fault;
+use crate::fault::why_step_not_derived;
 use crate::partial::PartialAssignment;
 use crate::taken::Taken;
 use ilk_cnf::{Cnf, Lit};
@@ -14,12 +14,11 @@ use ilk_log::Step;
 use std::alloc::{AllocError, Global};
 use std::marker::Model;
 
-/// A formula and the steps taken so far, each of which follows from the formula and the steps
-/// before it.
+/// A checker of the steps of a refutation log: a formula and the steps taken so far, each of which
+/// follows from the formula and the steps before it.
 #[derive(Drop)]
 pub struct Auditor {
     clauses: ClauseDb,
-    // Nothing is set between two steps.
     partial: PartialAssignment,
     closed: bool,
 }
@@ -47,8 +46,8 @@ fn clauses_of(alloc: Global, cnf: &Cnf) -> Result<ClauseDb, AllocError>
 }
 
 impl Auditor {
-    /// Creates an auditor of the formula, with no step. Clauses are numbered from 1, in order, and
-    /// the steps after them.
+    /// Creates a checker of `cnf` that has taken no step. Hints will name its clauses by their
+    /// numbers, from 1, and steps by the numbers after them.
     pub fn new(alloc: Global, cnf: &Cnf) -> Result<Auditor, AllocError>
         ensures { IfOk result
             (λ a. a ≡ record { vars = cnf.now.vars; clauses = cnf.now.clauses; closed = false }) }
@@ -60,7 +59,7 @@ impl Auditor {
         })
     }
 
-    /// Returns whether a step was answered with `Closed`.
+    /// Returns whether the empty clause was taken, so that the formula is refuted.
     pub fn closed(&self) -> bool
         ensures closed { result ≡ self.now.closed }
         ensures formula { IsFormula (record { vars = self.now.vars; clauses = self.now.clauses }) }
@@ -93,19 +92,21 @@ impl Auditor {
         })
     }
 
-    /// Takes the next step if it follows. Checks its literals first, then its hints in order. After
-    /// `Bad`, or if memory runs out, the auditor is unchanged.
+    /// Takes the next step if it follows by its hints, otherwise returns the reason. The literals
+    /// are checked first, then the hints in order. If the step is bad or memory runs out, the
+    /// checker is unchanged.
     pub fn take(&mut self, step: &Step) -> Result<Taken, AllocError>
         requires open { self.old.closed ≡ false }
         ensures taken { IfOk result (λ taken. taken ≡ step_answer self.old step.now) }
         ensures after { OnOk result (self.new ≡ after_step self.old step.now) }
         ensures err { OnErr result (self.new ≡ self.old) }
     {
-        self.audit_step_from_slices(step.clause.as_slice(), step.hints.as_slice())
+        self.add_step_if_derived(step.clause.as_slice(), step.hints.as_slice())
     }
 
-    /// Checks the step that two slices give, and takes it if it follows.
-    pub fn audit_step_from_slices(
+    /// Takes the step with this clause and these hints if it follows, otherwise returns the reason.
+    /// If the step is bad or memory runs out, the checker is unchanged.
+    pub fn add_step_if_derived(
         &mut self,
         clause: &[Lit],
         hints: &[u64],
@@ -118,7 +119,7 @@ impl Auditor {
             (self.new ≡ after_step self.old (record { clause = clause.now; hints = hints.now })) }
         ensures err { OnErr result (self.new ≡ self.old) }
     {
-        let fault = find_fault(&self.clauses, &mut self.partial, clause, hints);
+        let fault = why_step_not_derived(&self.clauses, &mut self.partial, clause, hints);
         self.partial.clear();
         match fault? {
             Some(why) => Ok(Taken::Bad(why)),

@@ -1,11 +1,11 @@
-//! All clauses in one block of memory: the numbers of their literals, one clause after another, and
-//! the end of each. A number takes four bytes, unless there are too many variables.
+//! All clauses in one block of memory: their literals, encoded as numbers, one clause after
+//! another, and the end of each. A number takes four bytes, unless there are too many variables.
 
 ghost use Rattle.std.specs.Prelude.{◌≡◌, ◌≤◌, ◌<◌, ◌-◌, ◌^◌, ◌⊎◌, ◌∷◌, [], Some, drop, length, option_to_list, slice_get, take, IfNone, IfOk, IfSome, IsTrue, OnOk, OnErr};
-ghost use Rattle.ilk_cnf.specs.Formula.{is_clause_over, with_clauses, IsFormula};
+ghost use Rattle.ilk_cnf.specs.Formula.{is_clause_over, with_vars_and_clauses, IsFormula};
 ghost use Rattle.ilk_cnf.specs.Literal.{has_distinct_vars};
 ghost use Rattle.ilk_audit.specs.Codes.{codes_in};
-ghost use Rattle.ilk_audit.specs.Hinted.{clause_status_at, clause_status, status_from_unfalsified, IsUnitLitSettable};
+ghost use Rattle.ilk_audit.specs.Hinted.{status_of_hinted_clause, clause_status, status_from_unfalsified, IsUnitLitSettable};
 ghost use Rattle.ilk_audit.specs.Stored.{literals_of};
 
 use crate::codes::{LitCodes, literal_of};
@@ -15,9 +15,10 @@ use ilk_cnf::Lit;
 use std::alloc::{AllocError, Global};
 use std::marker::Model;
 
-/// Clauses over the variables 1 to `vars`, each over different ones.
+/// A list of clauses over the variables 1 to `vars`, in one block of memory. No clause has a
+/// variable twice.
 #[derive(Drop)]
-pub struct ClauseDb {
+pub(crate) struct ClauseDb {
     vars: u64,
     codes: LitCodes,
     // The start of the first clause, and the end of each.
@@ -28,17 +29,16 @@ impl Model for ClauseDb {
     ghost use Rattle.std.specs.Prelude.{length};
     ghost use Rattle.ilk_cnf.specs.Formula.{Formula};
     ghost use Rattle.ilk_audit.specs.Codes.{codes_in};
-    ghost use Rattle.ilk_audit.specs.Stored.{IsClauseDb, split_into_clauses};
+    ghost use Rattle.ilk_audit.specs.Stored.{BoundsSplitCodesIntoClauses, split_into_clauses};
 
     ghost Value = { Formula };
 
     ghost view = { λ b. record
         { vars = b.vars; clauses = split_into_clauses b.bounds.items (codes_in b.codes) } };
 
-    ghost invariant = { λ b. IsClauseDb b.vars b.codes b.bounds.items };
+    ghost invariant = { λ b. BoundsSplitCodesIntoClauses b.vars b.codes b.bounds.items };
 }
 
-// Returns the result for a clause whose only literal that is not false, if any, is `lone`.
 fn found_open(partial: &PartialAssignment, lone: Option<Lit>) -> ClauseStatus
     requires { IsTrue (is_clause_over partial.now.vars (option_to_list lone)) }
     ensures { result ≡ status_from_unfalsified partial.now.set (option_to_list lone) }
@@ -108,7 +108,6 @@ fn found_between(
     }
 }
 
-// Returns the bounds of part `number`, from 1, or `None` if there are fewer.
 fn part_at(bounds: &[usize], number: u64) -> Option<(usize, usize)>
     ensures some { IfSome result
         (λ part. (0 < number) × (slice_get bounds.now (number - 1) ≡ Some part.0) ×
@@ -123,7 +122,7 @@ fn part_at(bounds: &[usize], number: u64) -> Option<(usize, usize)>
 }
 
 impl ClauseDb {
-    /// Creates a block without clauses over the variables 1 to `vars`.
+    /// Creates an empty list of clauses over the variables 1 to `vars`.
     pub fn new(alloc: Global, vars: u64) -> Result<ClauseDb, AllocError>
         requires { vars ≤ 2 ^ 62 }
         ensures { IfOk result (λ b. b ≡ record { vars = vars; clauses = [] }) }
@@ -146,25 +145,26 @@ impl ClauseDb {
         self.vars
     }
 
-    /// Adds a clause at the end.
+    /// Adds a clause at the end. It has to be over these variables, with none twice.
     pub fn push(&mut self, clause: &[Lit]) -> Result<(), AllocError>
         requires within { IsTrue (is_clause_over self.old.vars clause.now) }
         requires differ { IsTrue (has_distinct_vars clause.now) }
         ensures ok { OnOk result (self.new
-            ≡ with_clauses self.old self.old.vars (clause.now ∷ [])) }
+            ≡ with_vars_and_clauses self.old self.old.vars (clause.now ∷ [])) }
         ensures err { OnErr result (self.new ≡ self.old) }
     {
         self.codes.reserve(clause.len())?;
         self.bounds.reserve(1)?;
-        self.codes.push_lit_codes(self.vars, clause);
+        self.codes.push_lit_codes_within_capacity(self.vars, clause);
         self.bounds.push(self.codes.len()).unwrap();
         Ok(())
     }
 
-    /// Returns the status of clause `number`, from 1, under `partial`.
+    /// Returns the status of the clause with `number`, from 1, if the literals of `partial` are
+    /// true.
     pub fn clause_status(&self, partial: &PartialAssignment, number: u64) -> ClauseStatus
         requires { partial.now.vars ≡ self.now.vars }
-        ensures found { result ≡ clause_status_at self.now.clauses partial.now.set number }
+        ensures found { result ≡ status_of_hinted_clause self.now.clauses partial.now.set number }
         ensures unit { IsUnitLitSettable partial.now.vars partial.now.set result }
     {
         match part_at(self.bounds.as_slice(), number) {

@@ -1,34 +1,31 @@
-//! The numbers of literals, four bytes each if all numbers fit.
-
 ghost use Rattle.std.specs.Prelude.{ℕ, ◌≡◌, ◌≤◌, ◌<◌, ◌+◌, ◌*◌, ◌/◌, ◌^◌, ◌++◌, [], map, length, vec_len, vec_capacity, OnOk, IsTrue};
 ghost use Rattle.ilk_cnf.specs.Code.{code_of, literal_of};
 ghost use Rattle.ilk_cnf.specs.Formula.{is_clause_over};
-ghost use Rattle.ilk_audit.specs.Codes.{codes_in, fits_lits_of_vars, HasRoom};
+ghost use Rattle.ilk_audit.specs.Codes.{codes_in, fits_lits_of_vars, HasCapacityForMore};
 
 use ilk_cnf::Lit;
 use std::alloc::{AllocError, Global};
 
-/// The numbers of literals, in one of two widths.
+/// A list of literals, encoded as numbers of 32 or 64 bits.
 #[derive(Drop)]
-pub enum LitCodes {
+pub(crate) enum LitCodes {
     /// Numbers below 2^32.
     Narrow(Vec<u32>),
-    /// Numbers of any size.
     Wide(Vec<u64>),
 }
 
-/// Returns the number of a literal.
+/// Returns the number that encodes a literal: twice its variable, plus one if it is positive.
 #[inline]
-pub fn code_of(l: Lit) -> u64
+pub(crate) fn code_of(l: Lit) -> u64
     requires { l.var ≤ 2 ^ 62 }
     ensures { result ≡ code_of l }
 {
     2 * l.var() + l.positive() as u64
 }
 
-/// Returns the literal of a number.
+/// Returns the literal that a number encodes.
 #[inline]
-pub fn literal_of(code: u64) -> Lit
+pub(crate) fn literal_of(code: u64) -> Lit
     requires from_1 { 1 < code }
     requires numbered { code / 2 ≤ 2 ^ 62 }
     ensures { result ≡ literal_of code }
@@ -59,7 +56,8 @@ fn append_wide(codes: &mut Vec<u64>, vars: u64, clause: &[Lit])
 }
 
 impl LitCodes {
-    /// Creates an empty list with the width that the variables 1 to `vars` need.
+    /// Creates an empty list. Its numbers have 32 bits if that suffices for the variables 1 to
+    /// `vars`.
     pub fn new(alloc: Global, vars: u64) -> LitCodes
         ensures empty { codes_in result ≡ [] }
         ensures fit { IsTrue (fits_lits_of_vars vars result) }
@@ -71,7 +69,7 @@ impl LitCodes {
         }
     }
 
-    /// Returns how many numbers there are.
+    /// Returns the number of literals.
     pub fn len(&self) -> usize
         ensures { result ≡ length (codes_in self.now) }
     {
@@ -81,11 +79,11 @@ impl LitCodes {
         }
     }
 
-    /// Reserves memory for `count` more.
+    /// Reserves memory for `count` more literals.
     pub fn reserve(&mut self, count: usize) -> Result<(), AllocError>
         ensures same { codes_in self.new ≡ codes_in self.old }
         ensures fit { (n : ℕ) → fits_lits_of_vars n self.new ≡ fits_lits_of_vars n self.old }
-        ensures room { OnOk result (HasRoom count self.new) }
+        ensures room { OnOk result (HasCapacityForMore count self.new) }
     {
         match self {
             LitCodes::Narrow(codes) => codes.reserve(count),
@@ -93,13 +91,13 @@ impl LitCodes {
         }
     }
 
-    /// Appends the numbers of literals over the variables 1 to `vars`, for which memory is
-    /// reserved.
-    pub fn push_lit_codes(&mut self, vars: u64, clause: &[Lit])
+    /// Appends the literals of `clause`, which are over the variables 1 to `vars`. Memory for them
+    /// has to be reserved.
+    pub fn push_lit_codes_within_capacity(&mut self, vars: u64, clause: &[Lit])
         requires numbered { vars ≤ 2 ^ 62 }
         requires fit { IsTrue (fits_lits_of_vars vars self.old) }
         requires within { IsTrue (is_clause_over vars clause.now) }
-        requires room { HasRoom (length clause.now) self.old }
+        requires room { HasCapacityForMore (length clause.now) self.old }
         ensures codes { codes_in self.new ≡ codes_in self.old ++ map code_of clause.now }
         ensures fit { IsTrue (fits_lits_of_vars vars self.new) }
     {

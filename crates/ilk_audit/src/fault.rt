@@ -2,7 +2,7 @@ ghost use Rattle.std.specs.Prelude.{◌≡◌, ◌&&◌, true, [], not, IfOk, Is
 ghost use Rattle.ilk_cnf.specs.Formula.{is_clause_over, is_lit_over};
 ghost use Rattle.ilk_cnf.specs.Literal.{has_var, has_distinct_vars};
 ghost use Rattle.ilk_log.specs.Derived.{negated_clause};
-ghost use Rattle.ilk_audit.specs.Taken.{fault_of, hints_fault};
+ghost use Rattle.ilk_audit.specs.Taken.{why_step_not_derived, why_hints_reach_no_conflict};
 
 use crate::block::ClauseDb;
 use crate::hinted::ClauseStatus;
@@ -18,7 +18,6 @@ fn is_unset(partial: &PartialAssignment, l: Lit) -> bool
     !partial.is_false(l) && !partial.is_false(l.negated())
 }
 
-// Returns whether the variable of a literal belongs to the formula and is unset.
 fn is_settable(partial: &PartialAssignment, l: Lit) -> bool
     ensures { result ≡ (is_lit_over partial.now.vars l && not (has_var l.var partial.now.set)) }
 {
@@ -46,15 +45,15 @@ fn set_opposites(partial: &mut PartialAssignment, clause: &[Lit]) -> Result<bool
     Ok(true)
 }
 
-// Returns why the hints do not end at a false clause, or `None` if they do.
-fn hints_fault(
+fn why_hints_reach_no_conflict(
     clauses: &ClauseDb,
     partial: &mut PartialAssignment,
     hints: &[u64],
 ) -> Result<Option<Why>, AllocError>
     requires { partial.old.vars ≡ clauses.now.vars }
     ensures fault { IfOk result
-        (λ fault. fault ≡ hints_fault clauses.now.clauses partial.old.set hints.now) }
+        (λ fault. fault ≡ why_hints_reach_no_conflict clauses.now.clauses partial.old.set
+        hints.now) }
     ensures vars { partial.new.vars ≡ partial.old.vars }
 {
     for (i, hint) in hints.iter().enumerate() {
@@ -69,8 +68,9 @@ fn hints_fault(
     Ok(Some(Why::NotFalse))
 }
 
-/// Returns why a step does not follow, or `None` if it does. The literals that it set stay set.
-pub fn find_fault(
+/// Returns why the step with this clause and these hints does not follow from `clauses`, or `None`
+/// if it does. `partial` has to be empty before; literals set by the check stay set in it.
+pub(crate) fn why_step_not_derived(
     clauses: &ClauseDb,
     partial: &mut PartialAssignment,
     clause: &[Lit],
@@ -80,12 +80,12 @@ pub fn find_fault(
     requires none { partial.old.set ≡ [] }
     ensures fault { IfOk result
         (λ fault. fault
-        ≡ fault_of clauses.now.vars clauses.now.clauses
+        ≡ why_step_not_derived clauses.now.vars clauses.now.clauses
         (record { clause = clause.now; hints = hints.now })) }
     ensures vars { partial.new.vars ≡ partial.old.vars }
 {
     if !set_opposites(partial, clause)? {
         return Ok(Some(Why::BadLiteral));
     }
-    hints_fault(clauses, partial, hints)
+    why_hints_reach_no_conflict(clauses, partial, hints)
 }

@@ -10,10 +10,9 @@
 //! defines when a step follows, and `specs/Taken` the cause if it does not.
 //!
 //! A certificate has millions of hints, each a pass over one clause. So all clauses are in one
-//! block of 32-bit numbers, and a byte for each literal says whether it is false. It is cleared
-//! after each step.
+//! block of 32-bit numbers, and a byte for each literal says whether it is false.
 //!
-//! `Auditor::new` takes a formula, `take` and `audit_step_from_slices` its steps. `closed` returns
+//! `Auditor::new` takes a formula, `take` and `add_step_if_derived` its steps. `closed` returns
 //! whether the empty clause was taken: then no assignment satisfies the formula. If every step is
 //! taken and the last one closes, the log is a refutation (`accepts_exactly_derived_steps`).
 #![tactic(auto)]

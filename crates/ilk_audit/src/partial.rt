@@ -1,32 +1,29 @@
-//! The literals that are set during the check of a step. Each literal of each clause that a hint
-//! names needs one look-up, whether it is false, so that has a byte of its own.
-
 ghost use Rattle.std.specs.Prelude.{◌≡◌, ◌<◌, ◌≤◌, ◌^◌, ◌∷◌, [], false, length, true, IfOk, IsTrue, OnOk, OnErr};
 ghost use Rattle.ilk_cnf.specs.Formula.{is_lit_over};
 ghost use Rattle.ilk_cnf.specs.Literal.{has_var};
 ghost use Rattle.ilk_log.specs.Propagation.{is_false};
-ghost use Rattle.ilk_audit.specs.Stored.{IsPartialAssignment};
+ghost use Rattle.ilk_audit.specs.Stored.{AssignsVarsAtMostOnce};
 
 use crate::codes::code_of;
 use ilk_cnf::Lit;
 use std::alloc::{AllocError, Global};
 use std::marker::Model;
 
-/// Literals that are set, over different variables.
+/// A partial assignment: literals that are set, over different variables. A table says for each
+/// literal whether it is false, so that each look-up is one read.
 #[derive(Drop)]
-pub struct PartialAssignment {
+pub(crate) struct PartialAssignment {
     vars: u64,
     // By the number of a literal: whether it is false.
     falses: Vec<bool>,
-    // The set literals, in order.
     trail: Vec<Lit>,
 }
 
 impl Model for PartialAssignment {
     ghost use Rattle.std.specs.Prelude.{reverse};
-    ghost use Rattle.ilk_audit.specs.Stored.{AssignedLits, IsFalseLitTable};
+    ghost use Rattle.ilk_audit.specs.Stored.{VarsAndAssignedLits, IsFalseLitTable};
 
-    ghost Value = { AssignedLits };
+    ghost Value = { VarsAndAssignedLits };
 
     ghost view = { λ p. record { vars = p.vars; set = reverse p.trail.items } };
 
@@ -35,7 +32,7 @@ impl Model for PartialAssignment {
 }
 
 impl PartialAssignment {
-    /// Creates an empty assignment of the variables 1 to `vars`.
+    /// Creates an assignment over the variables 1 to `vars` that sets none.
     pub fn new(alloc: Global, vars: u64) -> Result<PartialAssignment, AllocError>
         requires { vars ≤ 2 ^ 62 }
         ensures { IfOk result (λ p. p ≡ record { vars = vars; set = [] }) }
@@ -50,12 +47,12 @@ impl PartialAssignment {
     /// Returns the number of variables.
     pub fn vars(&self) -> u64
         ensures count { result ≡ self.now.vars }
-        ensures set { IsPartialAssignment self.now }
+        ensures set { AssignsVarsAtMostOnce self.now }
     {
         self.vars
     }
 
-    /// Returns whether a literal is false.
+    /// Returns whether literal `l` is set to false.
     #[inline]
     pub fn is_false(&self, l: Lit) -> bool
         requires { IsTrue (is_lit_over self.now.vars l) }
@@ -64,7 +61,7 @@ impl PartialAssignment {
         self.falses[code_of(l) as usize]
     }
 
-    /// Sets a literal, whose variable has to be unset.
+    /// Sets literal `l` to true. Its variable has to be unset.
     pub fn set(&mut self, l: Lit) -> Result<(), AllocError>
         requires within { IsTrue (is_lit_over self.old.vars l) }
         requires unset { has_var l.var self.old.set ≡ false }
@@ -76,7 +73,6 @@ impl PartialAssignment {
         Ok(())
     }
 
-    // Unsets the last literal, if one is set.
     fn take_last(&mut self) -> bool
         ensures vars { self.new.vars ≡ self.old.vars }
         ensures some { result ≡ true → length self.new.set < length self.old.set }
@@ -89,7 +85,7 @@ impl PartialAssignment {
         true
     }
 
-    /// Unsets all literals.
+    /// Unsets all variables.
     pub fn clear(&mut self)
         ensures { self.new ≡ record self.old { set = [] } }
     {

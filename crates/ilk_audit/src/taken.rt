@@ -1,15 +1,15 @@
-/// The answer to a step.
+/// The answer to a step of a log.
 #[derive(Clone, Copy, PartialEq, Eq, Debug)]
 pub enum Taken {
-    /// It follows, and its clause has a literal.
+    /// The step follows, and its clause has a literal.
     Good,
-    /// It follows, and its clause is empty: the formula is refuted.
+    /// The step follows, and its clause is empty: the formula is refuted.
     Closed,
-    /// It does not follow, and is not taken.
+    /// The step does not follow, and is not taken.
     Bad(Why),
 }
 
-/// The reason why a step does not follow.
+/// The reason why a step of a log does not follow by its hints.
 #[derive(Clone, Copy, PartialEq, Eq, Debug)]
 pub enum Why {
     /// A hint is 0, or not the number of an earlier clause.

@@ -2,10 +2,10 @@
 use Rattle.std.specs.Prelude.{ℕ, Bool}
 use Rattle.std.specs.List.{list_any, list_all, range_with_len}
 
--- Returns whether each number below `n` passes.
+-- Returns whether a test passes for every number below `n`.
 abbrev pub all_below : ℕ → (ℕ → Bool) → Bool
 all_below n test = list_all test (range_with_len 0 n)
 
--- Returns whether some number below `n` passes.
+-- Returns whether a test passes for some number below `n`.
 abbrev pub any_below : ℕ → (ℕ → Bool) → Bool
 any_below n test = list_any test (range_with_len 0 n)

@@ -5,11 +5,11 @@ infixl 10 ◌>>=◌
 abbrev pub ◌>>=◌ : {A B : Type 0} → Option A → (A → Option B) → Option B
 o >>= f = option_and_then f o
 
--- The value `x`, if the test `b` passes.
+-- The value `x` if `b` is true, otherwise `None`.
 abbrev pub then_some : {A : Type 0} → Bool → A → Option A
 then_some b x = if b then Some x else None
 
--- Returns whether there is a value and it passes the test.
+-- Returns whether the option has a value and the value passes the test.
 abbrev pub is_some_and : {A : Type 0} → Option A → (A → Bool) → Bool
 is_some_and None test = false
 is_some_and (Some x) test = test x

@@ -6,7 +6,8 @@ abbrev pub ◌>>=◌ : {A B E : Type 0} → Result A E → (A → Result B E) �
 Ok x >>= f = f x
 Err e >>= f = Err e
 
--- The results for the items of a list, numbered from `i`, or the first fault.
+-- The list of results of a function for each index, from `i`, and item of a list; or the first
+-- fault.
 abbrev pub try_map_numbered : {X A E : Type 0} → (ℕ → X → Result A E) → ℕ → List X → Result (List A) E
 try_map_numbered one i [] = Ok []
 try_map_numbered one i (x ∷ xs) = do

@@ -1,8 +1,7 @@
 ghost use Rattle.std.specs.Prelude.{◌≡◌};
 ghost use Rattle.ilk_base.specs.Numbers.{has_number};
 
-/// Returns whether `numbers` contains `n`. The numbers are those of sections, routes, boards or
-/// other things.
+/// Returns whether `numbers` contains `n`.
 pub fn has_number(numbers: &[u32], n: u32) -> bool
     ensures { result ≡ has_number n numbers.now }
 {

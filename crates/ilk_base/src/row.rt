@@ -1,11 +1,11 @@
 ghost use Rattle.std.specs.Prelude.{◌≡◌, ◌+◌, ◌<◌, ◌∷◌, ◌++◌, [], if◌then◌else◌, IsTrue, length, remove as remove_at, slice_get, Some, IfOk, OnOk, OnErr};
 ghost use Rattle.std.specs.Borrow.{sem};
-ghost use Rattle.ilk_base.specs.Row.{LendsItem};
+ghost use Rattle.ilk_base.specs.Row.{BorrowWritesToItem};
 
 use std::alloc::{AllocError, Global};
 use std::marker::Model;
 
-/// A list of items. Contracts see it as that list.
+/// A list of items that may grow. Contracts see it as a plain list.
 #[derive(Drop)]
 pub struct Row<T> {
     items: Vec<T>,
@@ -29,8 +29,8 @@ impl<T> Row<T> {
         }
     }
 
-    /// Creates an empty row and requests memory for `items` items at once. The capacity itself
-    /// isn't promised.
+    /// Creates an empty row and requests memory for `items` items at once. Contracts don't promise
+    /// this capacity. Fails only if memory runs out.
     pub fn with_capacity(alloc: Global, items: u64) -> Result<Self, AllocError>
         ensures { IfOk result (λ row. row ≡ []) }
     {
@@ -58,7 +58,7 @@ impl<T> Row<T> {
         self.items.as_slice()
     }
 
-    /// Returns item `i`.
+    /// Returns item `i`, from 0.
     pub fn at(&self, i: u64) -> &T
         requires { i < length self.now }
         ensures { slice_get self.now i ≡ Some result.now }
@@ -66,16 +66,16 @@ impl<T> Row<T> {
         &self.items[i as usize]
     }
 
-    /// Returns item `i` for writing.
+    /// Returns item `i`, from 0, for writing.
     pub fn at_mut(&mut self, i: u64) -> &mut T
         requires { i < length self.old }
-        ensures* writes_back { sem 𝓛 (LendsItem T.row self.entry i result) }
+        ensures* writes_back { sem 𝓛 (BorrowWritesToItem T.row self.entry i result) }
         ensures value { slice_get self.old i ≡ Some result.now }
     {
         &mut self.items[i as usize]
     }
 
-    /// Removes and returns item `i`; the later items move up.
+    /// Removes item `i` and returns it. The index of each later item falls by 1.
     pub fn remove(&mut self, i: u64) -> T
         requires { i < length self.old }
         ensures taken { slice_get self.old i ≡ Some result }
@@ -86,7 +86,7 @@ impl<T> Row<T> {
 }
 
 impl<T: Drop> Row<T> {
-    /// Adds `item` at the end.
+    /// Adds `item` at the end. Fails only if memory runs out; the row is then unchanged.
     pub fn push(&mut self, item: T) -> Result<(), AllocError>
         ensures ok { OnOk result (self.new ≡ self.old ++ item ∷ []) }
         ensures err { OnErr result (self.new ≡ self.old) }
@@ -95,7 +95,8 @@ impl<T: Drop> Row<T> {
         Ok(())
     }
 
-    /// Adds `item` at the end if `is_wanted`. Fails only if it is wanted and memory runs out.
+    /// Adds `item` at the end if `is_wanted`; otherwise does nothing. Fails only if memory runs
+    /// out; the row is then unchanged.
     pub fn push_if(&mut self, is_wanted: bool, item: T) -> Result<(), AllocError>
         ensures ok { OnOk result (self.new ≡ self.old ++ (if is_wanted then item ∷ [] else [])) }
         ensures err { OnErr result (self.new ≡ self.old) }
@@ -109,7 +110,7 @@ impl<T: Drop> Row<T> {
 }
 
 impl<T: Copy> Row<T> {
-    /// Returns a copy of the row.
+    /// Returns a copy of the row. Fails only if memory runs out.
     pub fn copy(&self) -> Result<Self, AllocError>
         ensures { IfOk result (λ row. row ≡ self.now) }
     {

@@ -3,7 +3,7 @@ ghost use Rattle.std.specs.Prelude.{◌≡◌, IfOk, string_bytes};
 use std::alloc::AllocError;
 use std::marker::Model;
 
-/// A text. Contracts see it as its bytes.
+/// A text. Contracts see it as the list of its bytes.
 #[derive(Drop)]
 pub struct Text {
     text: String,
@@ -18,7 +18,7 @@ impl Model for Text {
 }
 
 impl Text {
-    /// Creates the text of a string.
+    /// Creates a text from a string.
     pub fn of(text: String) -> Text
         ensures { result ≡ string_bytes text }
     {
@@ -40,7 +40,7 @@ impl Text {
         text
     }
 
-    /// Returns a copy of the text.
+    /// Returns a copy of the text. Fails only if memory runs out.
     pub fn copy(&self) -> Result<Text, AllocError>
         ensures { IfOk result (λ text. text ≡ self.now) }
     {

@@ -24,20 +24,20 @@ use Rattle.ilk_plant.specs.declared.table.Route.{Route}
 use Rattle.ilk_plant.proofs.PointNumbers.{point_number-below}
 use Rattle.ilk_plant.proofs.Shapes.{seen_and_released_fit_path-counts, seen_and_released_fit_path-from_counts}
 use Rattle.ilk_model.specs.Hazard.{hazard}
-use Rattle.ilk_routes.specs.Boards.{has_aspect, is_held_closed, is_protecting_board}
+use Rattle.ilk_routes.specs.Boards.{has_aspect, is_protecting_locked_route, is_protecting_board}
 use Rattle.ilk_routes.specs.Claims.{required_points}
 use Rattle.ilk_routes.specs.Lies.{lie_from_position, is_detected_as_listed, is_lie_at_position, with_commands}
 use Rattle.ilk_routes.specs.Locks.{with_locks}
 use Rattle.ilk_routes.specs.Modes.{has_mode, is_allocating_or_locked, same_mode}
-use Rattle.ilk_routes.specs.Routes.{after_allocate, after_lock, can_reserve_sections, can_lock}
+use Rattle.ilk_routes.specs.Routes.{after_allocate, after_lock, can_allocate_if_marked, can_lock_if_allocating}
 use Rattle.ilk_routes.proofs.Locks.{length-with_locks}
 use Rattle.ilk_layout.specs.Image.{image_of, occupancy_values}
 use Rattle.ilk_layout.specs.Variables.{board_var}
 use Rattle.ilk_layout.proofs.Writes.{board-written, image_with, mode-written}
-use Rattle.ilk_layout.specs.Conditions.{board_is, section_point_is_detected, listed_is_detected, mode_is}
+use Rattle.ilk_layout.specs.Conditions.{is_board_aspect, section_point_is_detected, is_listed_point_detected, mode_is}
 use Rattle.ilk_behave.specs.Guards.{free_and_vacant_at, not_alloc_or_locked}
 use Rattle.ilk_behave.specs.RouteRules.{routes_protected_by, rules_of_allocate, rules_of_lock}
-use Rattle.ilk_behave.specs.Settings.{set_board, command_as_listed, set_locks, set_mode, rule}
+use Rattle.ilk_behave.specs.Settings.{set_board_aspect, command_as_listed, set_locks, set_mode, rule}
 use Rattle.ilk_behave.specs.Steps.{RulesMatchEvent}
 use Rattle.ilk_behave.proofs.RouteSteps.{locked-known, state-of}
 use Rattle.ilk_base.proofs.ListTests.{all-at, filtered-none, list_all-alike, list_all-flat_map, list_all-not}
@@ -78,7 +78,7 @@ module _ (p : PlantLists) (plant : IsPlant p) (s : State) (shape : HasShape p s)
       list_all (tree_holds (image_of p s))
       (mode_is r Marked ∷ flat_map not_alloc_or_locked route.conflicts
       ++ flat_map (free_and_vacant_at p) (sections_locked_for route))
-      ≡ (same_mode now.mode Marked && can_reserve_sections s route)
+      ≡ (same_mode now.mode Marked && can_allocate_if_marked s route)
   allocate-guard r route now known here =
       let of = plant.routes_known r route known in
       let conflicts : list_all (tree_holds (image_of p s)) (flat_map not_alloc_or_locked route.conflicts) ≡ not (list_any (is_allocating_or_locked s) route.conflicts) =
@@ -137,7 +137,7 @@ module _ (p : PlantLists) (plant : IsPlant p) (s : State) (shape : HasShape p s)
           let allocated = record s { routes = set s.routes r (record now.0 { mode = Allocating }); locks = with_locks s.locks (sections_locked_for route) LockedLock; points = with_commands p s.points (required_points route) } in
           let conditions : List Tree = mode_is r Marked ∷ flat_map not_alloc_or_locked route.conflicts ++ flat_map (free_and_vacant_at p) (sections_locked_for route) in
           let sets : List Setting = set_mode r Allocating ∷ set_locks p (sections_locked_for route) LockedLock ++ flat_map (command_as_listed p) (required_points route) in
-          rw (e, now.1) (rule_step p s allocated (same_mode now.0.mode Marked && can_reserve_sections s route) (rule conditions sets)
+          rw (e, now.1) (rule_step p s allocated (same_mode now.0.mode Marked && can_allocate_if_marked s route) (rule conditions sets)
           (all_of-holds (image_of p s) conditions ∙ allocate-guard r route now.0 e now.1)
           (λ h. by_image p s allocated sets (allocate-sets r route now.0 e now.1)))
 
@@ -146,22 +146,23 @@ module _ (p : PlantLists) (plant : IsPlant p) (s : State) (shape : HasShape p s)
       list_all (tree_holds (image_of p s))
       (mode_is r Allocating
       ∷
-      ((map (listed_is_detected p) (required_points route)
-      ++ map (λ m. board_is p m Closed) route.protecting_boards)
+      ((map (is_listed_point_detected p) (required_points route)
+      ++ map (λ m. is_board_aspect p m Closed) route.protecting_boards)
       ++ map (λ q. negation (mode_is q Locked)) (routes_protected_by p route.source)))
-      ≡ (same_mode now.mode Allocating && can_lock p s route)
+      ≡ (same_mode now.mode Allocating && can_lock_if_allocating p s route)
   lock-guard r route now known here =
       let of = plant.routes_known r route known in
       let holds = tree_holds (image_of p s) in
-      let lies : list_all holds (map (listed_is_detected p) (required_points route)) ≡ list_all (is_detected_as_listed p s) (required_points route) =
-      list_all-map holds (listed_is_detected p) (required_points route) ∙ list_all-alike (λ listed. holds (listed_is_detected p listed)) (is_detected_as_listed p s) (required_points route) (λ i listed at. lie-holds listed.point listed.at) in
-      let boards : list_all holds (map (λ m. board_is p m Closed) route.protecting_boards) ≡ list_all (λ m. has_aspect s m Closed) route.protecting_boards =
-      list_all-map holds (λ m. board_is p m Closed) route.protecting_boards
-      ∙ list_all-alike (λ m. holds (board_is p m Closed)) (λ m. has_aspect s m Closed)
+      let lies : list_all holds (map (is_listed_point_detected p) (required_points route)) ≡ list_all (is_detected_as_listed p s) (required_points route) =
+      list_all-map holds (is_listed_point_detected p) (required_points route) ∙ list_all-alike (λ listed. holds (is_listed_point_detected p listed)) (is_detected_as_listed p s) (required_points route) (λ i listed at. lie-holds listed.point
+      listed.at) in
+      let boards : list_all holds (map (λ m. is_board_aspect p m Closed) route.protecting_boards) ≡ list_all (λ m. has_aspect s m Closed) route.protecting_boards =
+      list_all-map holds (λ m. is_board_aspect p m Closed) route.protecting_boards
+      ∙ list_all-alike (λ m. holds (is_board_aspect p m Closed)) (λ m. has_aspect s m Closed)
       route.protecting_boards
       (λ i m at. board-holds p s shape m Closed
       (all-at (λ m. m < length p.boards) route.protecting_boards i m of.protecting_boards at)) in
-      let free : list_all holds (map (λ q. negation (mode_is q Locked)) (routes_protected_by p route.source)) ≡ not (is_held_closed p s route.source) =
+      let free : list_all holds (map (λ q. negation (mode_is q Locked)) (routes_protected_by p route.source)) ≡ not (is_protecting_locked_route p s route.source) =
       list_all-map holds (λ q. negation (mode_is q Locked)) (routes_protected_by p route.source)
       ∙ list_all-alike (λ q. not (holds (mode_is q Locked))) (λ q. not (has_mode s q Locked))
       (routes_protected_by p route.source)
@@ -172,16 +173,16 @@ module _ (p : PlantLists) (plant : IsPlant p) (s : State) (shape : HasShape p s)
       omega (arith, less))))
       ∙ filtered-none (λ q. has_mode s q Locked) (λ q. is_protecting_board p q route.source) (range_with_len 0 (length p.routes)) in
       let first =
-      list_all-append holds (map (listed_is_detected p) (required_points route))
-      (map (λ m. board_is p m Closed) route.protecting_boards)
-      ∙ ap (λ b. b && list_all holds (map (λ m. board_is p m Closed) route.protecting_boards)) lies
+      list_all-append holds (map (is_listed_point_detected p) (required_points route))
+      (map (λ m. is_board_aspect p m Closed) route.protecting_boards)
+      ∙ ap (λ b. b && list_all holds (map (λ m. is_board_aspect p m Closed) route.protecting_boards)) lies
       ∙ ap (λ b. list_all (is_detected_as_listed p s) (required_points route) && b) boards in
-      let parts = list_all-append holds (map (listed_is_detected p) (required_points route) ++ map (λ m. board_is p m Closed) route.protecting_boards) (map (λ q. negation (mode_is q Locked)) (routes_protected_by p route.source)) in
+      let parts = list_all-append holds (map (is_listed_point_detected p) (required_points route) ++ map (λ m. is_board_aspect p m Closed) route.protecting_boards) (map (λ q. negation (mode_is q Locked)) (routes_protected_by p route.source)) in
       ap
       (λ b. b
       && list_all holds
-      ((map (listed_is_detected p) (required_points route)
-      ++ map (λ m. board_is p m Closed) route.protecting_boards)
+      ((map (is_listed_point_detected p) (required_points route)
+      ++ map (λ m. is_board_aspect p m Closed) route.protecting_boards)
       ++ map (λ q. negation (mode_is q Locked)) (routes_protected_by p route.source)))
       (mode-holds p s shape r now Allocating here)
       ∙ ap (λ b. same_mode now.mode Allocating && b)
@@ -198,7 +199,7 @@ module _ (p : PlantLists) (plant : IsPlant p) (s : State) (shape : HasShape p s)
   lock-sets : (r : ℕ) (route : Route) (now : RouteState) → slice_get p.routes r ≡ Some route →
       slice_get s.routes r ≡ Some now →
       after_settings (image_with s (occupancy_values p s))
-      (set_mode r Locked ∷ set_board p route.source Open ∷ [])
+      (set_mode r Locked ∷ set_board_aspect p route.source Open ∷ [])
       ≡ image_with
       (record s {
         routes = set s.routes r (record now { mode = Locked });
@@ -223,8 +224,8 @@ module _ (p : PlantLists) (plant : IsPlant p) (s : State) (shape : HasShape p s)
           let now = state-of p plant s shape calm r route e in
           let locked = record s { routes = set s.routes r (record now.0 { mode = Locked }); boards = set s.boards route.source Open } in
           let conditions : List Tree = mode_is r Allocating ∷
-          ((map (listed_is_detected p) (required_points route) ++ map (λ m. board_is p m Closed) route.protecting_boards) ++ map (λ q. negation (mode_is q Locked)) (routes_protected_by p route.source)) in
-          let sets : List Setting = set_mode r Locked ∷ set_board p route.source Open ∷ [] in
-          rw (e, now.1) (rule_step p s locked (same_mode now.0.mode Allocating && can_lock p s route) (rule conditions sets)
+          ((map (is_listed_point_detected p) (required_points route) ++ map (λ m. is_board_aspect p m Closed) route.protecting_boards) ++ map (λ q. negation (mode_is q Locked)) (routes_protected_by p route.source)) in
+          let sets : List Setting = set_mode r Locked ∷ set_board_aspect p route.source Open ∷ [] in
+          rw (e, now.1) (rule_step p s locked (same_mode now.0.mode Allocating && can_lock_if_allocating p s route) (rule conditions sets)
           (all_of-holds (image_of p s) conditions ∙ lock-guard r route now.0 e now.1)
           (λ h. by_image p s locked sets (lock-sets r route now.0 e now.1)))

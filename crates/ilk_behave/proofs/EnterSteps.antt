@@ -9,7 +9,7 @@ use Rattle.ilk_base.proofs.Positions.{is_some-position, position-at}
 use Rattle.ilk_base.proofs.Tested.{list_any-from}
 use Rattle.ilk_ir.specs.Tree.{tree_holds}
 use Rattle.ilk_ir.specs.System.{PlainRule, after_settings}
-use Rattle.ilk_plant.specs.Network.{has_section}
+use Rattle.ilk_plant.specs.Network.{contains_section}
 use Rattle.ilk_plant.specs.Plant.{IsPlant, PlantLists, section_inward_if_border}
 use Rattle.ilk_plant.specs.Shape.{HasShape}
 use Rattle.ilk_plant.specs.Sound.{IsAcyclic}
@@ -25,7 +25,7 @@ use Rattle.ilk_motion.specs.Body.{occupies_only, new_train_on}
 use Rattle.ilk_motion.specs.Trains.{after_enter, after_leave, has_neighbour}
 use Rattle.ilk_model.specs.Hazard.{hazard, has_two_trains, is_wrong_under_train, is_wrong_under_body}
 use Rattle.ilk_layout.specs.Image.{image_of, occupancy_values}
-use Rattle.ilk_layout.specs.Occupancy.{occupancy_of}
+use Rattle.ilk_layout.specs.Occupancy.{occupancy_or_crash}
 use Rattle.ilk_layout.specs.Standing.{is_point_wrong_under}
 use Rattle.ilk_layout.specs.Values.{occupancy_value}
 use Rattle.ilk_layout.specs.Variables.{occupancy_var}
@@ -36,8 +36,8 @@ use Rattle.ilk_layout.proofs.Trains.{has_x, occupancy-more, with_trains}
 use Rattle.ilk_layout.proofs.Writes.{image_with}
 use Rattle.ilk_layout.specs.Conditions.{lock_is, no_train_at, occupancy_is}
 use Rattle.ilk_behave.specs.Settings.{set_occupancy, rule}
-use Rattle.ilk_behave.specs.Steps.{RulesMatchEvent, can_fire}
-use Rattle.ilk_behave.specs.TrainRules.{leave_rule, rules_of_enter, rules_of_leave}
+use Rattle.ilk_behave.specs.Steps.{RulesMatchEvent, guard_holds_in_image}
+use Rattle.ilk_behave.specs.TrainRules.{leave_rule_in_direction, rules_of_enter, rules_of_leave}
 use Rattle.ilk_layout.proofs.Calm.{calm-at, occupancy-in, taken-in}
 use Rattle.ilk_behave.proofs.Tools.{no_rules, none_step, rule_step, rules_step}
 use Rattle.ilk_layout.proofs.ConditionValues.{lock-holds, occupancy-holds, vacant-holds}
@@ -45,12 +45,12 @@ use Rattle.ilk_behave.proofs.Writing.{by_image}
 use Rattle.ilk_behave.proofs.OneSection.{none-counted, one-written, only-body, only-of, position-some, removed-any, removed-count, removed-find, taken-parts, vacant-as}
 
 module _ (p : PlantLists) (plant : IsPlant p) (never : IsAcyclic p) (s : State) (shape : HasShape p s) (calm : hazard p s ≡ None) where
-  entered-other : (x y : ℕ) (d : Dir) → (y ≡ x → ⊥) → occupancy_of p (with_trains s (s.trains ++ new_train_on x d ∷ [])) y ≡ occupancy_of p s y
+  entered-other : (x y : ℕ) (d : Dir) → (y ≡ x → ⊥) → occupancy_or_crash p (with_trains s (s.trains ++ new_train_on x d ∷ [])) y ≡ occupancy_or_crash p s y
   entered-other x y d apart =
       let nay : (x == y) ≡ false = ne_eqb x y (λ e. apart (sym e)) in
       occupancy-more p s s.trains (new_train_on x d) y ∙ rw nay refl
 
-  entered-here : (x : ℕ) (d : Dir) → section_inward_if_border p x ≡ Some d → is_occupied s x ≡ false → occupancy_of p (with_trains s (s.trains ++ new_train_on x d ∷ [])) x ≡ Taken d true true
+  entered-here : (x : ℕ) (d : Dir) → section_inward_if_border p x ≡ Some d → is_occupied s x ≡ false → occupancy_or_crash p (with_trains s (s.trains ++ new_train_on x d ∷ [])) x ≡ Taken d true true
   entered-here x d edge none =
       let own : (x == x) ≡ true = eq-eqb x x refl in
       let vacant = vacant-as p s x none in
@@ -97,10 +97,9 @@ module _ (p : PlantLists) (plant : IsPlant p) (never : IsAcyclic p) (s : State) 
           (sym (entered-here x d e (free (has_lock_state s x FreeLock) (is_occupied s x) h)))
           ∙ one-written p s (s.trains ++ new_train_on x d ∷ []) x shape within (λ y apart. entered-other x y d apart))))
 
-  -- A train that is only on `x` leaves.
-  left-other : (i x y : ℕ) (t : Train) → slice_get s.trains i ≡ Some t → has_section y t.body ≡ false → occupancy_of p (with_trains s (remove s.trains i)) y ≡ occupancy_of p s y
+  left-other : (i x y : ℕ) (t : Train) → slice_get s.trains i ≡ Some t → contains_section y t.body ≡ false → occupancy_or_crash p (with_trains s (remove s.trains i)) y ≡ occupancy_or_crash p s y
   left-other i x y t at away =
-      let none : ◌≡◌ {A = ℕ} (cond (has_section y t.body) 1 0) 0 = ap (λ b. cond b 1 0) away in
+      let none : ◌≡◌ {A = ℕ} (cond (contains_section y t.body) 1 0) 0 = ap (λ b. cond b 1 0) away in
       let counted = removed-count (has_x y) s.trains i t 0 at none in
       let count : count_by (has_x y) (remove s.trains i) ≡ count_by (has_x y) s.trains = omega (arith, counted) in
       let two : has_two_trains (with_trains s (remove s.trains i)) y ≡ has_two_trains s y = ap (λ n. nat_lt 1 n) count in
@@ -120,9 +119,9 @@ module _ (p : PlantLists) (plant : IsPlant p) (never : IsAcyclic p) (s : State) 
       by_section (Some (Point stem plus minus faces)) e =
           rw e (removed-any (λ (train : Train). is_wrong_under_body y plus minus (detected_position p s y) train.body) s.trains i t at (right plus minus))
 
-  left-here : (i x : ℕ) (t : Train) → slice_get s.trains i ≡ Some t → has_section x t.body ≡ true → x < length p.sections → occupancy_of p (with_trains s (remove s.trains i)) x ≡ Vacant
+  left-here : (i x : ℕ) (t : Train) → slice_get s.trains i ≡ Some t → contains_section x t.body ≡ true → x < length p.sections → occupancy_or_crash p (with_trains s (remove s.trains i)) x ≡ Vacant
   left-here i x t at has within =
-      let one : ◌≡◌ {A = ℕ} (cond (has_section x t.body) 1 0) 1 = ap (λ b. cond b 1 0) has in
+      let one : ◌≡◌ {A = ℕ} (cond (contains_section x t.body) 1 0) 1 = ap (λ b. cond b 1 0) has in
       let counted = removed-count (has_x x) s.trains i t 1 at one in
       let few : count_by (has_x x) s.trains ≤ 1 = ltb-false 1 (count_by (has_x x) s.trains) (or_parts (has_two_trains s x) (is_wrong_under_train p s x) (calm-at p s x calm within)).0 in
       let none : count_by (has_x x) (remove s.trains i) ≡ 0 = omega (arith, counted, few) in
@@ -135,19 +134,18 @@ module _ (p : PlantLists) (plant : IsPlant p) (never : IsAcyclic p) (s : State) 
       (occupancy_values p (with_trains s (remove s.trains i)))
   leave-sets i x t at body within =
       let own : (x == x) ≡ true = eq-eqb x x refl in
-      let has : has_section x t.body ≡ true = ap (has_section x) body ∙ rw own refl in
+      let has : contains_section x t.body ≡ true = ap (contains_section x) body ∙ rw own refl in
       let here = left-here i x t at has within in
       ap (λ o. set (image_with s (occupancy_values p s)) (occupancy_var p x) (occupancy_value o)) (sym here)
-      ∙ one-written p s (remove s.trains i) x shape within (λ y apart. left-other i x y t at (ap (has_section y) body ∙ (let nay : (x == y) ≡ false = ne_eqb x y (λ e. apart (sym e)) in rw nay refl)))
+      ∙ one-written p s (remove s.trains i) x shape within (λ y apart. left-other i x y t at (ap (contains_section y) body ∙ (let nay : (x == y) ≡ false = ne_eqb x y (λ e. apart (sym e)) in rw nay refl)))
 
   pub leave-steps : (x : ℕ) → RulesMatchEvent p s (after_leave p s x) (rules_of_leave p x)
   leave-steps x = by_section (slice_get p.sections x) refl
     where
-      -- No train is only on `x`.
-      nay-other : (d : Dir) → position (occupies_only x) s.trains ≡ None → (occupancy_value (occupancy_of p s x) == occupancy_value (Taken d true true)) ≡ false
-      nay-other d none = by_value (occupancy_of p s x) refl
+      nay-other : (d : Dir) → position (occupies_only x) s.trains ≡ None → (occupancy_value (occupancy_or_crash p s x) == occupancy_value (Taken d true true)) ≡ false
+      nay-other d none = by_value (occupancy_or_crash p s x) refl
         where
-          stands : (e : Dir) → occupancy_of p s x ≡ Taken e true true → ⊥
+          stands : (e : Dir) → occupancy_or_crash p s x ≡ Taken e true true → ⊥
           stands e is =
               let found = taken-in p plant never s shape calm x e true true is in
               let same = sym (occupancy-in p plant never s shape calm found.0 found.2 x found.1 found.3 found.4) ∙ is in
@@ -157,7 +155,7 @@ module _ (p : PlantLists) (plant : IsPlant p) (never : IsAcyclic p) (s : State) 
               let is_it : is_some (position (occupies_only x) s.trains) ≡ true = is_some-position (occupies_only x) s.trains ∙ some in
               (let bad : false ≡ true = rw none at is_it in false≢true bad)
 
-          by_value : (o : Occupancy) → occupancy_of p s x ≡ o → (occupancy_value o == occupancy_value (Taken d true true)) ≡ false
+          by_value : (o : Occupancy) → occupancy_or_crash p s x ≡ o → (occupancy_value o == occupancy_value (Taken d true true)) ≡ false
           by_value (Taken Up true true) e = absurd (stands Up e)
           by_value (Taken Down true true) e = absurd (stands Down e)
           by_value Vacant e = by_dir d
@@ -196,7 +194,7 @@ module _ (p : PlantLists) (plant : IsPlant p) (never : IsAcyclic p) (s : State) 
       and-true true = refl
       and-true false = refl
 
-      guard : (d : Dir) → x < length p.sections → can_fire p s (leave_rule p x d) ≡ (occupancy_value (occupancy_of p s x) == occupancy_value (Taken d true true))
+      guard : (d : Dir) → x < length p.sections → guard_holds_in_image p s (leave_rule_in_direction p x d) ≡ (occupancy_value (occupancy_or_crash p s x) == occupancy_value (Taken d true true))
       guard d within = and-true (tree_holds (image_of p s) (occupancy_is p x (Taken d true true))) ∙ occupancy-holds p s shape x (Taken d true true) within
 
       passing : (f : Dir → Bool) (e : Dir) → list_any (λ d. occupancy_value (Taken e true true) == occupancy_value (Taken d true true)) (filter f (Up ∷ Down ∷ [])) ≡ f e
@@ -212,31 +210,31 @@ module _ (p : PlantLists) (plant : IsPlant p) (never : IsAcyclic p) (s : State) 
           by_tests false false u v Up = rw (u, v) refl
           by_tests false false u v Down = rw (u, v) refl
 
-      any-rule : x < length p.sections → (ds : List Dir) → list_any (can_fire p s) (map (leave_rule p x) ds) ≡ list_any (λ d. occupancy_value (occupancy_of p s x) == occupancy_value (Taken d true true)) ds
+      any-rule : x < length p.sections → (ds : List Dir) → list_any (guard_holds_in_image p s) (map (leave_rule_in_direction p x) ds) ≡ list_any (λ d. occupancy_value (occupancy_or_crash p s x) == occupancy_value (Taken d true true)) ds
       any-rule within [] = refl
       any-rule within (d ∷ ds) =
-          ap (λ b. b || list_any (can_fire p s) (map (leave_rule p x) ds)) (guard d within) ∙ ap (λ b. (occupancy_value (occupancy_of p s x) == occupancy_value (Taken d true true)) || b) (any-rule within ds)
+          ap (λ b. b || list_any (guard_holds_in_image p s) (map (leave_rule_in_direction p x) ds)) (guard d within) ∙ ap (λ b. (occupancy_value (occupancy_or_crash p s x) == occupancy_value (Taken d true true)) || b) (any-rule within ds)
 
-      none-fires : x < length p.sections → position (occupies_only x) s.trains ≡ None → (ds : List Dir) → list_any (λ d. occupancy_value (occupancy_of p s x) == occupancy_value (Taken d true true)) ds ≡ false
+      none-fires : x < length p.sections → position (occupies_only x) s.trains ≡ None → (ds : List Dir) → list_any (λ d. occupancy_value (occupancy_or_crash p s x) == occupancy_value (Taken d true true)) ds ≡ false
       none-fires within none [] = refl
       none-fires within none (d ∷ ds) = (let nay = nay-other d none in rw nay (none-fires within none ds))
 
-      rule-sets : (ds : List Dir) (i : ℕ) (r : PlainRule) → slice_get (map (leave_rule p x) ds) i ≡ Some r → r.sets ≡ set_occupancy p x Vacant ∷ []
+      rule-sets : (ds : List Dir) (i : ℕ) (r : PlainRule) → slice_get (map (leave_rule_in_direction p x) ds) i ≡ Some r → r.sets ≡ set_occupancy p x Vacant ∷ []
       rule-sets [] i r at = cc
-      rule-sets (d ∷ ds) zero r at = (let same : leave_rule p x d ≡ r = same_Some (leave_rule p x d) r at in ap (λ (q : PlainRule). q.sets) (sym same))
+      rule-sets (d ∷ ds) zero r at = (let same : leave_rule_in_direction p x d ≡ r = same_Some (leave_rule_in_direction p x d) r at in ap (λ (q : PlainRule). q.sets) (sym same))
       rule-sets (d ∷ ds) (suc i) r at = rule-sets ds i r at
 
       by_train : (section : Section) (i : ℕ) (t : Train) → x < length p.sections →
           position (occupies_only x) s.trains ≡ Some i → slice_get s.trains i ≡ Some t →
           RulesMatchEvent p s (then_some (not (has_neighbour section t.dir)) (with_trains s (remove s.trains i)))
-          (map (leave_rule p x) (filter (λ d. not (has_neighbour section d)) (Up ∷ Down ∷ [])))
+          (map (leave_rule_in_direction p x) (filter (λ d. not (has_neighbour section d)) (Up ∷ Down ∷ [])))
       by_train section i t within first at =
           let body = only-body x t.body (position-at (occupies_only x) s.trains i t first at) in
           let place : slice_get t.body 0 ≡ Some x = ap (λ b. slice_get b 0) body in
           let long : length t.body ≡ 1 = ap length body in
           let ends : (0 + 1 == length t.body) ≡ true = grind (arith, nat_tests) in
-          let is : occupancy_of p s x ≡ Taken t.dir true true = occupancy-in p plant never s shape calm i 0 x t at place ∙ ap (Taken t.dir true) ends in
-          rules_step p s (with_trains s (remove s.trains i)) (not (has_neighbour section t.dir)) (map (leave_rule p x) (filter (λ d. not (has_neighbour section d)) (Up ∷ Down ∷ [])))
+          let is : occupancy_or_crash p s x ≡ Taken t.dir true true = occupancy-in p plant never s shape calm i 0 x t at place ∙ ap (Taken t.dir true) ends in
+          rules_step p s (with_trains s (remove s.trains i)) (not (has_neighbour section t.dir)) (map (leave_rule_in_direction p x) (filter (λ d. not (has_neighbour section d)) (Up ∷ Down ∷ [])))
           (any-rule within (filter (λ d. not (has_neighbour section d)) (Up ∷ Down ∷ []))
           ∙ ap
           (λ o. list_any (λ d. occupancy_value o == occupancy_value (Taken d true true))
@@ -254,9 +252,9 @@ module _ (p : PlantLists) (plant : IsPlant p) (never : IsAcyclic p) (s : State) 
           (o >>=
           (λ i. slice_get s.trains i >>=
           (λ t. then_some (not (has_neighbour section t.dir)) (with_trains s (remove s.trains i)))))
-          (map (leave_rule p x) (filter (λ d. not (has_neighbour section d)) (Up ∷ Down ∷ [])))
+          (map (leave_rule_in_direction p x) (filter (λ d. not (has_neighbour section d)) (Up ∷ Down ∷ [])))
       by_place section None within none =
-          none_step p s (map (leave_rule p x) (filter (λ d. not (has_neighbour section d)) (Up ∷ Down ∷ [])))
+          none_step p s (map (leave_rule_in_direction p x) (filter (λ d. not (has_neighbour section d)) (Up ∷ Down ∷ [])))
           (any-rule within (filter (λ d. not (has_neighbour section d)) (Up ∷ Down ∷ []))
           ∙ none-fires within none (filter (λ d. not (has_neighbour section d)) (Up ∷ Down ∷ [])))
       by_place section (Some i) within first = by_item (slice_get s.trains i) refl
@@ -265,7 +263,7 @@ module _ (p : PlantLists) (plant : IsPlant p) (never : IsAcyclic p) (s : State) 
               RulesMatchEvent p s
               (o >>=
               (λ t. then_some (not (has_neighbour section t.dir)) (with_trains s (remove s.trains i))))
-              (map (leave_rule p x) (filter (λ d. not (has_neighbour section d)) (Up ∷ Down ∷ [])))
+              (map (leave_rule_in_direction p x) (filter (λ d. not (has_neighbour section d)) (Up ∷ Down ∷ [])))
           by_item None e = absurd (none-some ((position-some (occupies_only x) s.trains i first).0) (sym e ∙ (position-some (occupies_only x) s.trains i first).1))
           by_item (Some t) e = by_train section i t within first e
 

@@ -10,7 +10,7 @@ use Rattle.ilk_base.proofs.Options.{some-and}
 use Rattle.ilk_base.proofs.Tested.{list_any-map}
 use Rattle.ilk_ir.specs.Tree.{Tree, any_of, negation, tree_holds, trees_from_list}
 use Rattle.ilk_ir.proofs.Trees.{any_of-holds}
-use Rattle.ilk_plant.specs.Network.{has_section, same_direction}
+use Rattle.ilk_plant.specs.Network.{contains_section, same_direction}
 use Rattle.ilk_plant.specs.Plant.{IsPlant, PlantLists, board_of, next_to, point_number}
 use Rattle.ilk_plant.specs.Shape.{HasShape}
 use Rattle.ilk_plant.specs.Sound.{IsAcyclic}
@@ -30,7 +30,7 @@ use Rattle.ilk_plant.proofs.PointNumbers.{point_number-below}
 use Rattle.ilk_plant.proofs.Sides.{back-opposite}
 use Rattle.ilk_plant.proofs.InLists.{only-one}
 use Rattle.ilk_motion.specs.Ahead.{ahead}
-use Rattle.ilk_motion.specs.Trains.{is_open, may_pass}
+use Rattle.ilk_motion.specs.Trains.{is_open, may_pass_board}
 use Rattle.ilk_routes.specs.Boards.{same_aspect}
 use Rattle.ilk_routes.specs.Lies.{is_detected_moving, lie_from_position, is_lie_at_position}
 use Rattle.ilk_model.specs.Hazard.{hazard}
@@ -39,16 +39,15 @@ use Rattle.ilk_layout.specs.Standing.{is_point_wrong_between}
 use Rattle.ilk_layout.specs.declared.values.Occupancy.TheVariants.{Taken}
 use Rattle.ilk_layout.proofs.Calm.{lie-known, occupancy-in, taken-in}
 use Rattle.ilk_layout.proofs.Made.{legs-differ}
-use Rattle.ilk_layout.specs.Conditions.{board_is, section_point_is_detected, occupancy_is}
+use Rattle.ilk_layout.specs.Conditions.{is_board_aspect, section_point_is_detected, occupancy_is}
 use Rattle.ilk_layout.proofs.ConditionValues.{at-holds, board-holds, moving-test, vacant-holds}
-use Rattle.ilk_behave.specs.Guards.{leads_towards, leg_position, board_open_if_any, not_wrong_from}
-use Rattle.ilk_behave.specs.TrainRules.{no_hazard_for_train, head_conditions}
+use Rattle.ilk_behave.specs.Guards.{leg_set_if_facing, leg_position, board_open_if_any, not_wrong_from}
+use Rattle.ilk_behave.specs.TrainRules.{no_hazard_for_train, head_move_conditions}
 use Rattle.ilk_behave.proofs.AllocateSteps.{lie-holds}
 use Rattle.ilk_behave.proofs.Fired.{has-neighbour-known, occupancy-known, parts-of-taken}
 use Rattle.ilk_behave.proofs.TailSteps.{leads-holds}
 use Rattle.ilk_behave.proofs.TailTests.{lies-nowhere}
 
--- The conditions under which a train from `x` would be right on `y`, by the kind of `y`.
 abbrev taking : PlantLists → ℕ → ℕ → Dir → Option Section → List Tree
 taking p x y d None = []
 taking p x y d (Some (Linear down up b c)) = []
@@ -59,7 +58,6 @@ takes-by p x y d None e = rw e refl
 takes-by p x y d (Some (Linear down up b c)) e = rw e refl
 takes-by p x y d (Some (Point stem plus minus faces)) e = rw e refl
 
--- Returns whether a train from `x` is wrong on a point with these legs in this position.
 abbrev wrong_from : ℕ → ℕ → ℕ → Lie → Bool
 wrong_from x plus minus Moving = true
 wrong_from x plus minus LiesPlus = (x == minus) || false
@@ -73,7 +71,6 @@ some-fails holds (t ∷ ts) = ap (λ b. not (holds t) || b) (some-fails holds ts
     either true b = refl
     either false b = refl
 
--- A train in direction `d` with its head at `x` that may move to `y`.
 pub record IsHead (p : PlantLists) (s : State) (x y : ℕ) (d : Dir) (tail : Bool) : Type 0 where
   pub number : ℕ
   pub train : Train
@@ -84,10 +81,10 @@ pub record IsHead (p : PlantLists) (s : State) (x y : ℕ) (d : Dir) (tail : Boo
   pub dir : train.dir ≡ d
   pub begins : (place == 0) ≡ tail
   pub led : ahead p s x train.dir ≡ Some y
-  pub passes : may_pass s (board_of p x train.dir) ≡ true
+  pub passes : may_pass_board s (board_of p x train.dir) ≡ true
 
 module _ (p : PlantLists) (plant : IsPlant p) (never : IsAcyclic p) (s : State) (shape : HasShape p s) (calm : hazard p s ≡ None) where
-  pub passes-holds : (o : Option ℕ) → ((m : ℕ) → o ≡ Some m → m < length p.boards) → list_all (tree_holds (image_of p s)) (map (λ m. board_is p m Open) (option_to_list o)) ≡ may_pass s o
+  pub passes-holds : (o : Option ℕ) → ((m : ℕ) → o ≡ Some m → m < length p.boards) → list_all (tree_holds (image_of p s)) (map (λ m. is_board_aspect p m Open) (option_to_list o)) ≡ may_pass_board s o
   passes-holds None known = refl
   passes-holds (Some m) known = ap (λ b. b && true) (board-holds p s shape m Open (known m refl)) ∙ same (slice_get s.boards m)
     where
@@ -106,7 +103,7 @@ module _ (p : PlantLists) (plant : IsPlant p) (never : IsAcyclic p) (s : State) 
           let point = item_at s.points n below in
           rw (e, point.1) (at-holds p s shape n point.0 Moving point.1 ∙ moving-test point.0.at)
 
-  pub takes-holds : (x y : ℕ) (d : Dir) → has_section y (next_to p x d) ≡ true → list_all (tree_holds (image_of p s)) (not_wrong_from p x d y) ≡ not (is_point_wrong_between p s y (Some x) None)
+  pub takes-holds : (x y : ℕ) (d : Dir) → contains_section y (next_to p x d) ≡ true → list_all (tree_holds (image_of p s)) (not_wrong_from p x d y) ≡ not (is_point_wrong_between p s y (Some x) None)
   takes-holds x y d near = by_section (slice_get p.sections y) refl (back-opposite p plant x y d near)
     where
       wrong-known : (stem plus minus : ℕ) (faces : Dir) (l : Lie) → slice_get p.sections y ≡ Some (Point stem plus minus faces) → detected_position p s y ≡ Some l → is_point_wrong_between p s y (Some x) None ≡ wrong_from x plus minus l
@@ -114,14 +111,12 @@ module _ (p : PlantLists) (plant : IsPlant p) (never : IsAcyclic p) (s : State) 
       wrong-known stem plus minus faces LiesPlus e f = rw (e, f) refl
       wrong-known stem plus minus faces LiesMinus e f = rw (e, f) refl
 
-      -- From the stem.
       stem : (plus minus : ℕ) (l : Lie) → (x == minus) ≡ false → (x == plus) ≡ false → (not (is_detected_moving l) && true) ≡ not (wrong_from x plus minus l)
       stem plus minus Moving not_minus not_plus = refl
       stem plus minus LiesPlus not_minus not_plus = rw not_minus refl
       stem plus minus LiesMinus not_minus not_plus = rw not_plus refl
 
-      -- From a leg.
-      leg : (plus minus : ℕ) (l : Lie) (b : Bool) → (plus == x) ≡ b → (plus ≡ minus → ⊥) → has_section x (plus ∷ minus ∷ []) ≡ true → (is_lie_at_position l (leg_position plus x) && true) ≡ not (wrong_from x plus minus l)
+      leg : (plus minus : ℕ) (l : Lie) (b : Bool) → (plus == x) ≡ b → (plus ≡ minus → ⊥) → contains_section x (plus ∷ minus ∷ []) ≡ true → (is_lie_at_position l (leg_position plus x) && true) ≡ not (wrong_from x plus minus l)
       leg plus minus LiesPlus true e apart h = (let other : (x == minus) ≡ false = ne_eqb x minus (λ same. apart (eqb-true plus x e ∙ same)) in rw (e, other) refl)
       leg plus minus LiesPlus false e apart h = (let rest : ((minus == x) || false) ≡ true = rw e at h in let own : (x == minus) ≡ true = eq-eqb x minus (sym (only-one x minus rest)) in rw (e, own) refl)
       leg plus minus LiesMinus true e apart h = (let own : (x == plus) ≡ true = eq-eqb x plus (sym (eqb-true plus x e)) in rw (e, own) refl)
@@ -130,7 +125,7 @@ module _ (p : PlantLists) (plant : IsPlant p) (never : IsAcyclic p) (s : State) 
 
       from-stem : (stem_of plus minus : ℕ) (faces : Dir) →
           slice_get p.sections y ≡ Some (Point stem_of plus minus faces) →
-          has_section x (stem_of ∷ []) ≡ true → not_wrong_from p x d y ≡ negation (section_point_is_detected p y Moving) ∷ [] →
+          contains_section x (stem_of ∷ []) ≡ true → not_wrong_from p x d y ≡ negation (section_point_is_detected p y Moving) ∷ [] →
           list_all (tree_holds (image_of p s)) (not_wrong_from p x d y)
           ≡ not (is_point_wrong_between p s y (Some x) None)
       from-stem stem_of plus minus faces e h takes =
@@ -144,7 +139,7 @@ module _ (p : PlantLists) (plant : IsPlant p) (never : IsAcyclic p) (s : State) 
 
       from-leg : (stem_of plus minus : ℕ) (faces : Dir) →
           slice_get p.sections y ≡ Some (Point stem_of plus minus faces) →
-          has_section x (plus ∷ minus ∷ []) ≡ true →
+          contains_section x (plus ∷ minus ∷ []) ≡ true →
           not_wrong_from p x d y ≡ section_point_is_detected p y (lie_from_position (leg_position plus x)) ∷ [] →
           list_all (tree_holds (image_of p s)) (not_wrong_from p x d y)
           ≡ not (is_point_wrong_between p s y (Some x) None)
@@ -160,7 +155,8 @@ module _ (p : PlantLists) (plant : IsPlant p) (never : IsAcyclic p) (s : State) 
           → not_wrong_from p x d y ≡ cond (same_direction faces d) (negation (section_point_is_detected p y Moving)) (section_point_is_detected p y (lie_from_position (leg_position plus x))) ∷ []
       takes stem_of plus minus faces e = takes-by p x y d (slice_get p.sections y) refl ∙ ap (taking p x y d) e
 
-      turned : (stem_of plus minus : ℕ) (faces e : Dir) → slice_get p.sections y ≡ Some (Point stem_of plus minus faces) → same_direction faces e ≡ true → has_section x (next_to p y (opposite_direction e)) ≡ true → has_section x (stem_of ∷ []) ≡ true
+      turned : (stem_of plus minus : ℕ) (faces e : Dir) → slice_get p.sections y ≡ Some (Point stem_of plus minus faces) → same_direction faces e ≡ true → contains_section x (next_to p y (opposite_direction e)) ≡ true →
+          contains_section x (stem_of ∷ []) ≡ true
       turned stem_of plus minus Up Up e f h = rw e at h
       turned stem_of plus minus Down Down e f h = rw e at h
       turned stem_of plus minus Up Down e f h = cc
@@ -168,13 +164,13 @@ module _ (p : PlantLists) (plant : IsPlant p) (never : IsAcyclic p) (s : State) 
 
       straight : (stem_of plus minus : ℕ) (faces e : Dir) →
           slice_get p.sections y ≡ Some (Point stem_of plus minus faces) → same_direction faces e ≡ false →
-          has_section x (next_to p y (opposite_direction e)) ≡ true → has_section x (plus ∷ minus ∷ []) ≡ true
+          contains_section x (next_to p y (opposite_direction e)) ≡ true → contains_section x (plus ∷ minus ∷ []) ≡ true
       straight stem_of plus minus Up Down e f h = rw e at h
       straight stem_of plus minus Down Up e f h = rw e at h
       straight stem_of plus minus Up Up e f h = cc
       straight stem_of plus minus Down Down e f h = cc
 
-      by_section : (o : Option Section) → slice_get p.sections y ≡ o → has_section x (next_to p y (opposite_direction d)) ≡ true → list_all (tree_holds (image_of p s)) (not_wrong_from p x d y) ≡ not (is_point_wrong_between p s y (Some x) None)
+      by_section : (o : Option Section) → slice_get p.sections y ≡ o → contains_section x (next_to p y (opposite_direction d)) ≡ true → list_all (tree_holds (image_of p s)) (not_wrong_from p x d y) ≡ not (is_point_wrong_between p s y (Some x) None)
       by_section None e h = rw e refl
       by_section (Some (Linear a b c f)) e h = rw e refl
       by_section (Some (Point stem_of plus minus faces)) e h = facing (same_direction faces d) refl
@@ -185,8 +181,7 @@ module _ (p : PlantLists) (plant : IsPlant p) (never : IsAcyclic p) (s : State) 
           facing false f = from-leg stem_of plus minus faces e (straight stem_of plus minus faces d e f h)
               (takes stem_of plus minus faces e ∙ ap (λ b. cond b (negation (section_point_is_detected p y Moving)) (section_point_is_detected p y (lie_from_position (leg_position plus x))) ∷ []) f)
 
-  -- `y` is free if and only if the train would cause no hazard there.
-  pub free-holds : (x y : ℕ) (d : Dir) → has_section y (next_to p x d) ≡ true → list_all (tree_holds (image_of p s)) (no_hazard_for_train p x d y) ≡ not (is_occupied s y || is_point_wrong_between p s y (Some x) None)
+  pub free-holds : (x y : ℕ) (d : Dir) → contains_section y (next_to p x d) ≡ true → list_all (tree_holds (image_of p s)) (no_hazard_for_train p x d y) ≡ not (is_occupied s y || is_point_wrong_between p s y (Some x) None)
   free-holds x y d near =
       ap (λ b. b && list_all (tree_holds (image_of p s)) (not_wrong_from p x d y)) (vacant-holds p s shape calm y (plant.neighbours x y d near))
       ∙ ap (λ b. not (is_occupied s y) && b) (takes-holds x y d near)
@@ -196,7 +191,7 @@ module _ (p : PlantLists) (plant : IsPlant p) (never : IsAcyclic p) (s : State) 
       neither true b = refl
       neither false b = refl
 
-  pub bars-holds : (x y : ℕ) (d : Dir) → has_section y (next_to p x d) ≡ true → tree_holds (image_of p s) (any_of (trees_from_list (map negation (no_hazard_for_train p x d y)))) ≡ (is_occupied s y || is_point_wrong_between p s y (Some x) None)
+  pub bars-holds : (x y : ℕ) (d : Dir) → contains_section y (next_to p x d) ≡ true → tree_holds (image_of p s) (any_of (trees_from_list (map negation (no_hazard_for_train p x d y)))) ≡ (is_occupied s y || is_point_wrong_between p s y (Some x) None)
   bars-holds x y d near =
       any_of-holds (image_of p s) (map negation (no_hazard_for_train p x d y))
       ∙ list_any-map (tree_holds (image_of p s)) negation (no_hazard_for_train p x d y)
@@ -208,16 +203,16 @@ module _ (p : PlantLists) (plant : IsPlant p) (never : IsAcyclic p) (s : State) 
       twice true = refl
       twice false = refl
 
-  pub goes-on : (x y : ℕ) (d : Dir) (tail : Bool) → has_section y (next_to p x d) ≡ true → list_all (tree_holds (image_of p s)) (head_conditions p x d y tail) ≡ true → IsHead p s x y d tail
+  pub goes-on : (x y : ℕ) (d : Dir) (tail : Bool) → contains_section y (next_to p x d) ≡ true → list_all (tree_holds (image_of p s)) (head_move_conditions p x d y tail) ≡ true → IsHead p s x y d tail
   goes-on x y d tail near h =
       let within_x = has-neighbour-known p plant x y d near in
-      let one = and_parts (tree_holds (image_of p s) (occupancy_is p x (Taken d tail true))) (list_all (tree_holds (image_of p s)) (board_open_if_any p x d ++ leads_towards p x d y)) h in
-      let two = and_parts (list_all (tree_holds (image_of p s)) (board_open_if_any p x d)) (list_all (tree_holds (image_of p s)) (leads_towards p x d y))
-      (sym (list_all-append (tree_holds (image_of p s)) (board_open_if_any p x d) (leads_towards p x d y)) ∙ one.1) in
+      let one = and_parts (tree_holds (image_of p s) (occupancy_is p x (Taken d tail true))) (list_all (tree_holds (image_of p s)) (board_open_if_any p x d ++ leg_set_if_facing p x d y)) h in
+      let two = and_parts (list_all (tree_holds (image_of p s)) (board_open_if_any p x d)) (list_all (tree_holds (image_of p s)) (leg_set_if_facing p x d y))
+      (sym (list_all-append (tree_holds (image_of p s)) (board_open_if_any p x d) (leg_set_if_facing p x d y)) ∙ one.1) in
       let at_x = occupancy-known p s shape x (Taken d tail true) within_x one.0 in
       let led = some-and (ahead p s x d) (λ z. z == y) (sym (leads-holds p plant s shape calm x y d near) ∙ two.1) in
       let leads : ahead p s x d ≡ Some y = led.1 ∙ ap Some (eqb-true led.0 y led.2) in
-      let passes : may_pass s (board_of p x d) ≡ true = sym (passes-holds (board_of p x d) (λ m e. plant.boards_known x m d e)) ∙ two.0 in
+      let passes : may_pass_board s (board_of p x d) ≡ true = sym (passes-holds (board_of p x d) (λ m e. plant.boards_known x m d e)) ∙ two.0 in
       let found = taken-in p plant never s shape calm x d tail true at_x in
       let is = parts-of-taken found.1.dir d (found.2 == 0) (found.2 + 1 == length found.1.body) tail true (sym (occupancy-in p plant never s shape calm found.0 found.2 x found.1 found.3 found.4) ∙ at_x) in
       record {
@@ -230,5 +225,5 @@ module _ (p : PlantLists) (plant : IsPlant p) (never : IsAcyclic p) (s : State) 
         dir = is.0;
         begins = is.1;
         led = ap (ahead p s x) is.0 ∙ leads;
-        passes = ap (λ e. may_pass s (board_of p x e)) is.0 ∙ passes;
+        passes = ap (λ e. may_pass_board s (board_of p x e)) is.0 ∙ passes;
       }

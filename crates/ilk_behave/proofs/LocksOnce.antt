@@ -9,7 +9,7 @@ use Rattle.ilk_base.proofs.ListTests.{all-at}
 use Rattle.ilk_base.proofs.Lists.{at-before, at-either, at-past, map-at}
 use Rattle.ilk_base.proofs.Once.{EachOnce}
 use Rattle.ilk_ir.specs.declared.system.Setting.{Setting}
-use Rattle.ilk_plant.specs.Network.{has_section}
+use Rattle.ilk_plant.specs.Network.{contains_section}
 use Rattle.ilk_plant.specs.Plant.{IsValidRouteOf, PlantLists, point_count, point_number}
 use Rattle.ilk_plant.specs.TableRules.{sections_locked_for}
 use Rattle.ilk_plant.specs.declared.state.Hold.{Hold}
@@ -17,11 +17,11 @@ use Rattle.ilk_plant.specs.declared.table.Listed.{Listed}
 use Rattle.ilk_plant.specs.declared.table.Route.{Route}
 use Rattle.ilk_plant.proofs.Once.{numbers_differ-places}
 use Rattle.ilk_plant.proofs.PointNumbers.{point_number-below}
-use Rattle.ilk_plant.proofs.Rows.{has_section-at}
+use Rattle.ilk_plant.proofs.Rows.{contains_section-at}
 use Rattle.ilk_routes.specs.Claims.{sections_outside_path, required_points}
 use Rattle.ilk_layout.specs.Variables.{lock_var, commanded_var}
 use Rattle.ilk_layout.proofs.Valid.{lock_is-valid, is_point_commanded-valid}
-use Rattle.ilk_behave.specs.Settings.{command_as_listed, set_lock, set_locks, set_commanded}
+use Rattle.ilk_behave.specs.Settings.{command_as_listed, set_section_lock, set_locks, set_commanded}
 use Rattle.ilk_plant.proofs.PointNumbers.{number-once}
 use Rattle.ilk_behave.proofs.RulesValid.{all-flat_map, all-map, fits}
 use Rattle.ilk_behave.proofs.SetOnce.{SetElsewhere, SetOnce, elsewhere-flat_map, elsewhere-map, once-append, once-flat_map, once-map}
@@ -36,24 +36,24 @@ module _ (p : PlantLists) where
 
   pub locks-fit : (xs : List ℕ) (hold : Hold) → ((i x : ℕ) → slice_get xs i ≡ Some x → x < length p.sections) → list_all (fits p) (set_locks p xs hold) ≡ true
   locks-fit xs hold within =
-      all-map (fits p) (λ x. set_lock p x hold) xs (λ i x at. lock_is-valid p x hold (within i x at))
+      all-map (fits p) (λ x. set_section_lock p x hold) xs (λ i x at. lock_is-valid p x hold (within i x at))
 
   pub locks-elsewhere : (v : ℕ) (xs : List ℕ) (hold : Hold) → ((i x : ℕ) → slice_get xs i ≡ Some x → lock_var p x ≡ v → ⊥) → SetElsewhere v (set_locks p xs hold)
-  locks-elsewhere v xs hold other = elsewhere-map v (λ x. set_lock p x hold) xs other
+  locks-elsewhere v xs hold other = elsewhere-map v (λ x. set_section_lock p x hold) xs other
 
   pub locks-once : (xs : List ℕ) (hold : Hold) → EachOnce xs → SetOnce (set_locks p xs hold)
   locks-once xs hold once =
-      once-map (λ x. set_lock p x hold) xs (λ i j x y at also same. (let one : x ≡ y = omega (arith, same) in once i j y (at ∙ ap Some one) also))
+      once-map (λ x. set_section_lock p x hold) xs (λ i j x y at also same. (let one : x ≡ y = omega (arith, same) in once i j y (at ∙ ap Some one) also))
 
   pub two_locks-once : (xs ys : List ℕ) (hold : Hold) → EachOnce xs → EachOnce ys → ((i j x : ℕ) → slice_get xs i ≡ Some x → slice_get ys j ≡ Some x → ⊥) → SetOnce (set_locks p (xs ++ ys) hold)
   two_locks-once xs ys hold once also apart =
-      subst SetOnce (sym (map-append (λ x. set_lock p x hold) xs ys))
+      subst SetOnce (sym (map-append (λ x. set_section_lock p x hold) xs ys))
       (once-append (locks xs hold) (locks ys hold) (locks-once xs hold once) (locks-once ys hold also)
       (λ i s at. locks-elsewhere s.var ys hold (λ j y there same. cross i s at j y there same)))
     where
       cross : (i : ℕ) (s : Setting) → slice_get (set_locks p xs hold) i ≡ Some s → (j y : ℕ) → slice_get ys j ≡ Some y → lock_var p y ≡ s.var → ⊥
       cross i s at j y there same =
-          let made = map-at (λ x. set_lock p x hold) xs i s at in
+          let made = map-at (λ x. set_section_lock p x hold) xs i s at in
           let var : lock_var p made.0 ≡ s.var = ap (λ (z : Setting). z.var) made.2 in
           let one : made.0 ≡ y = omega (arith, var, same) in
           apart i j y (made.1 ∙ ap Some one) there
@@ -113,13 +113,12 @@ module _ (p : PlantLists) where
       pointed entries i listed at = slice_get-map (λ (listed : Listed). listed.point) entries i ∙ ap (option_map (λ (listed : Listed). listed.point)) at
 
   module _ (route : Route) (of : IsValidRouteOf p route) where
-    -- A protecting point is on no section of path and overlap.
     pub protecting-apart : (i j x : ℕ) → slice_get (route.path ++ route.overlap) i ≡ Some x → slice_get (map (λ (listed : Listed). listed.point) route.protecting_points) j ≡ Some x → ⊥
     protecting-apart i j x at also =
         let listed = map-at (λ (listed : Listed). listed.point) route.protecting_points j x also in
-        let away = all-at (λ (listed : Listed). has_section listed.point (route.path ++ route.overlap) ≡ false) route.protecting_points j listed.0 of.protecting_points_apart listed.1 in
-        let there : has_section x (route.path ++ route.overlap) ≡ true = has_section-at (route.path ++ route.overlap) i x at in
-        false≢true (sym away ∙ ap (λ y. has_section y (route.path ++ route.overlap)) listed.2 ∙ there)
+        let away = all-at (λ (listed : Listed). contains_section listed.point (route.path ++ route.overlap) ≡ false) route.protecting_points j listed.0 of.protecting_points_apart listed.1 in
+        let there : contains_section x (route.path ++ route.overlap) ≡ true = contains_section-at (route.path ++ route.overlap) i x at in
+        false≢true (sym away ∙ ap (λ y. contains_section y (route.path ++ route.overlap)) listed.2 ∙ there)
 
     pub all_locks-once : (hold : Hold) → SetOnce (set_locks p (sections_locked_for route) hold)
     all_locks-once hold =
@@ -175,6 +174,6 @@ module _ (p : PlantLists) where
             let first = command_as_listed-sets found.1 found.2 s found.4 in
             let number : first.0 ≡ n = (let var = first.2 in omega (arith, var, same)) in
             let section : found.1.point ≡ y.point = number-once p found.1.point y.point n (first.1 ∙ ap Some number) e in
-            let passed = all-at (λ (listed : Listed). IsTrue (has_section listed.point (route.path ++ route.overlap))) route.points found.0 found.1 of.points_passed found.3 in
-            let away = all-at (λ (listed : Listed). has_section listed.point (route.path ++ route.overlap) ≡ false) route.protecting_points j y of.protecting_points_apart there in
-            false≢true (sym away ∙ ap (λ z. has_section z (route.path ++ route.overlap)) (sym section) ∙ passed))))
+            let passed = all-at (λ (listed : Listed). IsTrue (contains_section listed.point (route.path ++ route.overlap))) route.points found.0 found.1 of.points_passed found.3 in
+            let away = all-at (λ (listed : Listed). contains_section listed.point (route.path ++ route.overlap) ≡ false) route.protecting_points j y of.protecting_points_apart there in
+            false≢true (sym away ∙ ap (λ z. contains_section z (route.path ++ route.overlap)) (sym section) ∙ passed))))

@@ -4,14 +4,14 @@ use Rattle.std.proofs.lemmas.Bool.{or_cases}
 use Rattle.std.proofs.lemmas.List.Folds.{list_any-append}
 use Rattle.std.proofs.lemmas.Option.{slice_get_within}
 use Rattle.ilk_base.proofs.Lists.{at-before, item_at}
-use Rattle.ilk_plant.specs.Network.{has_section}
+use Rattle.ilk_plant.specs.Network.{contains_section}
 use Rattle.ilk_plant.proofs.InLists.{only-one}
-use Rattle.ilk_layout.specs.Standing.{section_before}
+use Rattle.ilk_layout.specs.Standing.{section_before_index}
 use Rattle.ilk_layout.proofs.Bodies.{before-suc}
 
-pub had-before : (z y : ℕ) (body : List ℕ) → (z ≡ y → ⊥) → has_section z (body ++ y ∷ []) ≡ true → has_section z body ≡ true
+pub had-before : (z y : ℕ) (body : List ℕ) → (z ≡ y → ⊥) → contains_section z (body ++ y ∷ []) ≡ true → contains_section z body ≡ true
 had-before z y body apart h =
-    elim (or_cases (has_section z body) (has_section z (y ∷ [])) (sym (list_any-append (λ v. v == z) body (y ∷ [])) ∙ h)) [
+    elim (or_cases (contains_section z body) (contains_section z (y ∷ [])) (sym (list_any-append (λ v. v == z) body (y ∷ [])) ∙ h)) [
       | inl e ↦ e
       | inr e ↦ absurd (apart (sym (only-one z y e)))
     ]
@@ -21,7 +21,7 @@ same-place body y k less =
     let there = item_at body k less in
     at-before body (y ∷ []) k there.0 there.1 ∙ sym there.1
 
-pub before-more : (body : List ℕ) (y k z : ℕ) → slice_get body k ≡ Some z → section_before (body ++ y ∷ []) k ≡ section_before body k
+pub before-more : (body : List ℕ) (y k z : ℕ) → slice_get body k ≡ Some z → section_before_index (body ++ y ∷ []) k ≡ section_before_index body k
 before-more body y zero z at = refl
 before-more body y (suc k) z at =
     let within = slice_get_within body (suc k) z at in

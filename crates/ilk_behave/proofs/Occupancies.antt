@@ -10,7 +10,7 @@ use Rattle.ilk_plant.specs.declared.state.PointState.{PointState}
 use Rattle.ilk_plant.specs.declared.state.State.{State}
 use Rattle.ilk_plant.proofs.PointNumbers.{number-once, point_number-below}
 use Rattle.ilk_layout.specs.Image.{occupancy_values}
-use Rattle.ilk_layout.specs.Occupancy.{occupancy_of}
+use Rattle.ilk_layout.specs.Occupancy.{occupancy_or_crash}
 use Rattle.ilk_layout.specs.Values.{occupancy_value}
 use Rattle.ilk_layout.proofs.Changes.{occupancy-kept, table-one}
 use Rattle.ilk_layout.proofs.Trains.{wrong-none}
@@ -34,10 +34,10 @@ module _ (p : PlantLists) (s : State) (x n : ℕ) (point : PointState) (number :
           let other = slice_get-set_other s.points n m point (λ same. apart (number-once p y x n (e ∙ ap Some (sym same)) number)) in
           rw (e, other) refl
 
-  pub occupancy-other : (y : ℕ) → (y ≡ x → ⊥) → occupancy_of p (with_point s n point) y ≡ occupancy_of p s y
+  pub occupancy-other : (y : ℕ) → (y ≡ x → ⊥) → occupancy_or_crash p (with_point s n point) y ≡ occupancy_or_crash p s y
   occupancy-other y apart = occupancy-kept p s (with_point s n point) y refl (lie-other y apart)
 
-  pub occupancy-alone : is_occupied s x ≡ false → occupancy_of p (with_point s n point) x ≡ occupancy_of p s x
+  pub occupancy-alone : is_occupied s x ≡ false → occupancy_or_crash p (with_point s n point) x ≡ occupancy_or_crash p s x
   occupancy-alone none =
       let now = wrong-none p (with_point s n point) s.trains x none in
       let before = wrong-none p s s.trains x none in
@@ -45,12 +45,12 @@ module _ (p : PlantLists) (s : State) (x n : ℕ) (point : PointState) (number :
 
   pub occupancies-alone : is_occupied s x ≡ false → occupancy_values p (with_point s n point) ≡ occupancy_values p s
   occupancies-alone none =
-      map-range-congr (λ y. occupancy_value (occupancy_of p (with_point s n point) y)) (λ y. occupancy_value (occupancy_of p s y)) 0 (length p.sections) (λ y low high. ap occupancy_value (by_section (cases_eq y x)))
+      map-range-congr (λ y. occupancy_value (occupancy_or_crash p (with_point s n point) y)) (λ y. occupancy_value (occupancy_or_crash p s y)) 0 (length p.sections) (λ y low high. ap occupancy_value (by_section (cases_eq y x)))
     where
-      by_section : {y : ℕ} → (y ≡ x) ⊎ (y ≡ x → ⊥) → occupancy_of p (with_point s n point) y ≡ occupancy_of p s y
-      by_section {y} (inl same) = ap (occupancy_of p (with_point s n point)) same ∙ occupancy-alone none ∙ ap (occupancy_of p s) (sym same)
+      by_section : {y : ℕ} → (y ≡ x) ⊎ (y ≡ x → ⊥) → occupancy_or_crash p (with_point s n point) y ≡ occupancy_or_crash p s y
+      by_section {y} (inl same) = ap (occupancy_or_crash p (with_point s n point)) same ∙ occupancy-alone none ∙ ap (occupancy_or_crash p s) (sym same)
       by_section {y} (inr apart) = occupancy-other y apart
 
-  pub occupancies-set : x < length p.sections → set (occupancy_values p s) x (occupancy_value (occupancy_of p (with_point s n point) x)) ≡ occupancy_values p (with_point s n point)
+  pub occupancies-set : x < length p.sections → set (occupancy_values p s) x (occupancy_value (occupancy_or_crash p (with_point s n point) x)) ≡ occupancy_values p (with_point s n point)
   occupancies-set within =
-      table-one (λ y. occupancy_value (occupancy_of p s y)) (λ y. occupancy_value (occupancy_of p (with_point s n point) y)) (length p.sections) x within (λ y less apart. ap occupancy_value (occupancy-other y apart))
+      table-one (λ y. occupancy_value (occupancy_or_crash p s y)) (λ y. occupancy_value (occupancy_or_crash p (with_point s n point) y)) (length p.sections) x within (λ y less apart. ap occupancy_value (occupancy-other y apart))

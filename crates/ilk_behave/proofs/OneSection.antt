@@ -16,7 +16,7 @@ use Rattle.ilk_plant.specs.declared.state.Train.{Train}
 use Rattle.ilk_motion.specs.Body.{is_only_section}
 use Rattle.ilk_model.specs.Hazard.{has_two_trains}
 use Rattle.ilk_layout.specs.Image.{occupancy_values}
-use Rattle.ilk_layout.specs.Occupancy.{occupancy_of}
+use Rattle.ilk_layout.specs.Occupancy.{occupancy_or_crash}
 use Rattle.ilk_layout.specs.Values.{occupancy_value}
 use Rattle.ilk_layout.specs.Variables.{occupancy_var}
 use Rattle.ilk_layout.specs.declared.values.Occupancy.TheVariants.{Vacant, Taken}
@@ -26,15 +26,15 @@ use Rattle.ilk_layout.proofs.Changes.{table-one}
 
 pub one-written : (p : PlantLists) (s : State) (trains : List Train) (x : ℕ) → HasShape p s →
     x < length p.sections →
-    ((y : ℕ) → (y ≡ x → ⊥) → occupancy_of p (with_trains s trains) y ≡ occupancy_of p s y) →
+    ((y : ℕ) → (y ≡ x → ⊥) → occupancy_or_crash p (with_trains s trains) y ≡ occupancy_or_crash p s y) →
     set (image_with s (occupancy_values p s)) (occupancy_var p x)
-    (occupancy_value (occupancy_of p (with_trains s trains) x))
+    (occupancy_value (occupancy_or_crash p (with_trains s trains) x))
     ≡ image_with (with_trains s trains) (occupancy_values p (with_trains s trains))
 one-written p s trains x shape within others =
-    occupancy-written p s (occupancy_values p s) shape x (occupancy_value (occupancy_of p (with_trains s trains) x))
-    ∙ ap (image_with s) (table-one (λ y. occupancy_value (occupancy_of p s y)) (λ y. occupancy_value (occupancy_of p (with_trains s trains) y)) (length p.sections) x within (λ y less apart. ap occupancy_value (others y apart)))
+    occupancy-written p s (occupancy_values p s) shape x (occupancy_value (occupancy_or_crash p (with_trains s trains) x))
+    ∙ ap (image_with s) (table-one (λ y. occupancy_value (occupancy_or_crash p s y)) (λ y. occupancy_value (occupancy_or_crash p (with_trains s trains) y)) (length p.sections) x within (λ y less apart. ap occupancy_value (others y apart)))
 
-pub vacant-as : (p : PlantLists) (s : State) (x : ℕ) → is_occupied s x ≡ false → occupancy_of p s x ≡ Vacant
+pub vacant-as : (p : PlantLists) (s : State) (x : ℕ) → is_occupied s x ≡ false → occupancy_or_crash p s x ≡ Vacant
 vacant-as p s x none =
     let count = count-none (has_x x) s.trains none in
     let two : has_two_trains s x ≡ false = ap (λ n. nat_lt 1 n) count in

@@ -9,10 +9,9 @@ use Rattle.ilk_base.proofs.Ranges.{listed_all-more, range-at}
 use Rattle.ilk_plant.specs.Plant.{PlantLists}
 use Rattle.ilk_model.specs.declared.event.Event.{Event}
 use Rattle.ilk_model.specs.declared.event.Event.TheVariants.{Mark, Allocate, Lock, Sense, Release, Finish, Throw, Settle, Enter, Head, Tail, Leave, Cancel}
-use Rattle.ilk_behave.specs.Behaviour.{events_of, events_of_route, events_of_section}
+use Rattle.ilk_behave.specs.Behaviour.{events_of_plant, events_of_route, events_of_section}
 use Rattle.ilk_behave.specs.Numbered.{IsEventOfPlant, AreEventsOfPlant}
 
--- The events of the routes below `n`; the events of all routes and of the sections below `n`.
 abbrev pub events_before_route : ℕ → List Event
 events_before_route n = flat_map events_of_route (range_with_len 0 n)
 
@@ -41,10 +40,9 @@ pub section-numbered : (p : PlantLists) (x : ℕ) (events : List Event) → x < 
 section-numbered p x events within is =
     All-same (IsEventOfPlant p) events (events_of_section x) is (All-from_recursion (IsEventOfPlant p) (events_of_section x) (within, (within, (within, (within, (within, (within, tt)))))))
 
--- The events of a plant begin with these.
 pub record Begins (p : PlantLists) (events : List Event) : Type 0 where
   pub rest : List Event
-  pub is : events_of p ≡ events ++ rest
+  pub is : events_of_plant p ≡ events ++ rest
 
 range-split : (a n k : ℕ) → range_with_len a (n + k) ≡ range_with_len a n ++ range_with_len (a + n) k
 range-split a zero k = (let none : zero + k ≡ k = omega arith in let here : a ≡ a + zero = omega arith in ap (range_with_len a) none ∙ ap (λ b. range_with_len b k) here)
@@ -87,9 +85,8 @@ of-one f (z ∷ xs) (suc k) x j y at there =
     let later = of-one f xs k x j y at there in
     (length (f z) + later.0, at-past (f z) (flat_map f xs) later.0 y later.1)
 
--- The event is one of the plant's.
 abbrev pub IsListed : PlantLists → Event → Type 0
-IsListed p event = (i : ℕ) × (slice_get (events_of p) i ≡ Some event)
+IsListed p event = (i : ℕ) × (slice_get (events_of_plant p) i ≡ Some event)
 
 of-route : (p : PlantLists) (r k : ℕ) (event : Event) → r < length p.routes → slice_get (events_of_route r) k ≡ Some event → IsListed p event
 of-route p r k event within here =

@@ -23,7 +23,7 @@ use Rattle.ilk_model.specs.Hazard.{hazard, is_section_hazardous, has_two_trains,
 use Rattle.ilk_routes.specs.Lies.{is_detected_moving, lie_from_position, is_lie_at_position}
 use Rattle.ilk_routes.specs.Points.{after_settle, after_throw}
 use Rattle.ilk_layout.specs.Image.{image_of, occupancy_values}
-use Rattle.ilk_layout.specs.Occupancy.{occupancy_of}
+use Rattle.ilk_layout.specs.Occupancy.{occupancy_or_crash}
 use Rattle.ilk_layout.specs.Values.{detected_value, occupancy_value, commanded_value}
 use Rattle.ilk_layout.specs.Variables.{occupancy_var}
 use Rattle.ilk_layout.specs.declared.values.Occupancy.TheVariants.{Crash}
@@ -31,7 +31,7 @@ use Rattle.ilk_layout.proofs.Writes.{at-written, image_with, occupancy-written}
 use Rattle.ilk_layout.specs.Conditions.{is_point_detected, no_train_at, is_point_commanded, train_at}
 use Rattle.ilk_behave.specs.PointRules.{rests_out_of_position, rules_of_settle, rules_of_throw}
 use Rattle.ilk_behave.specs.Settings.{set_detected, set_occupancy, rule}
-use Rattle.ilk_behave.specs.Steps.{RulesMatchEvent, can_fire}
+use Rattle.ilk_behave.specs.Steps.{RulesMatchEvent, guard_holds_in_image}
 use Rattle.ilk_layout.proofs.Calm.{calm-at}
 use Rattle.ilk_plant.proofs.PointNumbers.{numbered-section}
 use Rattle.ilk_behave.proofs.Occupancies.{occupancies-alone, occupancies-set, point-of, with_point}
@@ -40,7 +40,6 @@ use Rattle.ilk_layout.proofs.ConditionValues.{at-holds, to-holds, vacant-holds}
 use Rattle.ilk_behave.proofs.Writing.{by_image, with_lists}
 
 module _ (p : PlantLists) (plant : IsPlant p) (s : State) (shape : HasShape p s) (calm : hazard p s ≡ None) where
-  -- No train is on a moving point.
   moving-alone : (x n : ℕ) → point_number p x ≡ Some n → detected_position p s x ≡ Some Moving → is_occupied s x ≡ false
   moving-alone x n number moves =
       let section = numbered-section p x n number in
@@ -66,7 +65,7 @@ module _ (p : PlantLists) (plant : IsPlant p) (s : State) (shape : HasShape p s)
   settle-steps x = by_number (point_number p x) refl
     where
       guard : (n : ℕ) (point : PointState) (to : Position) → slice_get s.points n ≡ Some point →
-          can_fire p s (rule (is_point_detected p n Moving ∷ is_point_commanded p n to ∷ []) (set_detected p n (lie_from_position to) ∷ []))
+          guard_holds_in_image p s (rule (is_point_detected p n Moving ∷ is_point_commanded p n to ∷ []) (set_detected p n (lie_from_position to) ∷ []))
           ≡ ((detected_value point.at == 2) && ((commanded_value point.to == commanded_value to) && true))
       guard n point to at =
           let one = at-holds p s shape n point Moving at in
@@ -107,7 +106,7 @@ module _ (p : PlantLists) (plant : IsPlant p) (s : State) (shape : HasShape p s)
           (λ h. by_image p s t (set_detected p n (lie_from_position Plus) ∷ []) (settle-sets x n point.0 Plus e point.1 (alone ((commanded_value point.0.to == 0) && true) h) (is-to (detected_value point.0.at == 2) point.0.to Plus h)))
           (λ h. by_image p s t (set_detected p n (lie_from_position Minus) ∷ []) (settle-sets x n point.0 Minus e point.1 (alone ((commanded_value point.0.to == 1) && true) h) (is-to (detected_value point.0.at == 2) point.0.to Minus h))))
 
-  crashes : (x n : ℕ) (point : PointState) → point_number p x ≡ Some n → slice_get s.points n ≡ Some point → is_occupied s x ≡ true → occupancy_of p (with_point s n (record point { at = Moving })) x ≡ Crash
+  crashes : (x n : ℕ) (point : PointState) → point_number p x ≡ Some n → slice_get s.points n ≡ Some point → is_occupied s x ≡ true → occupancy_or_crash p (with_point s n (record point { at = Moving })) x ≡ Crash
   crashes x n point number at some =
       let t = with_point s n (record point { at = Moving }) in
       let shaped : HasShape p t = with_lists p s (set s.points n (record point { at = Moving })) s.boards s.locks shape (length-set s.points n (record point { at = Moving })) refl refl in
@@ -151,7 +150,7 @@ module _ (p : PlantLists) (plant : IsPlant p) (s : State) (shape : HasShape p s)
 
       parts : (n : ℕ) (point : PointState) → slice_get s.points n ≡ Some point → (v : Bool) (last : Tree) →
           tree_holds (image_of p s) last ≡ v →
-          can_fire p s (rule (rests_out_of_position p n ++ last ∷ []) [])
+          guard_holds_in_image p s (rule (rests_out_of_position p n ++ last ∷ []) [])
           ≡ ((not (is_detected_moving point.at) && not (is_lie_at_position point.at point.to)) && v)
       parts n point at v last is =
           let moving = at-holds p s shape n point Moving at in

@@ -35,7 +35,6 @@ pub made_next : {E R : Type 0} (made : E → List R) (before these after : List 
 made_next made before these after now next is sofar grown =
     grown ∙ ap (λ rs. rs ++ flat_map made these) sofar ∙ sym (ap (flat_map made) is ∙ flat_map-append made before these)
 
--- A section has at most two neighbours on each side.
 pub two_beside : (section : Section) (d : Dir) → neighbours_on section d ≡ option_to_list (slice_get (neighbours_on section d) 0) ++ option_to_list (slice_get (neighbours_on section d) 1)
 two_beside (Linear None up b c) Down = refl
 two_beside (Linear (Some y) up b c) Down = refl

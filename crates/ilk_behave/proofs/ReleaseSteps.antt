@@ -29,12 +29,12 @@ use Rattle.ilk_routes.specs.Modes.{same_mode}
 use Rattle.ilk_routes.specs.Routes.{after_finish, after_release}
 use Rattle.ilk_routes.proofs.Locks.{length-with_locks, with_locks-first}
 use Rattle.ilk_layout.specs.Image.{image_of, occupancy_values}
-use Rattle.ilk_layout.specs.Variables.{mode_var, rel_var, seen_var}
+use Rattle.ilk_layout.specs.Variables.{mode_var, released_count_var, seen_count_var}
 use Rattle.ilk_layout.proofs.Writes.{image_with, lock-written, mode-written, rel-written, seen-written}
-use Rattle.ilk_layout.specs.Conditions.{mode_is, rel_is, seen_is}
-use Rattle.ilk_behave.specs.RouteRules.{finish_rule, release_rule, rules_of_finish, rules_of_release, seen_at_least}
-use Rattle.ilk_behave.specs.Settings.{set_locks, set_mode, set_rel, map_or_no_rules, set_seen}
-use Rattle.ilk_behave.specs.Steps.{RulesMatchEvent, can_fire}
+use Rattle.ilk_layout.specs.Conditions.{mode_is, is_released_count, is_seen_count}
+use Rattle.ilk_behave.specs.RouteRules.{finish_rule, release_rule_at_index, rules_of_finish, rules_of_release, seen_at_least}
+use Rattle.ilk_behave.specs.Settings.{set_locks, set_mode, set_released_count, map_or_no_rules, set_seen_count}
+use Rattle.ilk_behave.specs.Steps.{RulesMatchEvent, guard_holds_in_image}
 use Rattle.ilk_behave.proofs.RouteSteps.{state-of}
 use Rattle.ilk_base.proofs.ListTests.{all-at, counted-from, last-at, list_any-alike}
 use Rattle.ilk_behave.proofs.Tools.{no_rules, place_steps, rule_step}
@@ -59,20 +59,20 @@ take-none (x ∷ xs) (suc i) (suc j) less = take-none xs i j (omega arith)
 module _ (p : PlantLists) (plant : IsPlant p) (s : State) (shape : HasShape p s) (calm : hazard p s ≡ None) where
   seen-enough : (r : ℕ) (now : RouteState) (k n : ℕ) → slice_get s.routes r ≡ Some now → now.seen ≤ n → k ≤ n → tree_holds (image_of p s) (seen_at_least r k n) ≡ nat_le k now.seen
   seen-enough r now k n here few less =
-      any_of-holds (image_of p s) (map (seen_is r) (range_with_len k (n + 1 - k)))
-      ∙ list_any-map (tree_holds (image_of p s)) (seen_is r) (range_with_len k (n + 1 - k))
-      ∙ list_any-alike (λ c. tree_holds (image_of p s) (seen_is r c)) (λ c. now.seen == c) (range_with_len k (n + 1 - k)) (λ i c at. seen-holds p s shape r now c here)
+      any_of-holds (image_of p s) (map (is_seen_count r) (range_with_len k (n + 1 - k)))
+      ∙ list_any-map (tree_holds (image_of p s)) (is_seen_count r) (range_with_len k (n + 1 - k))
+      ∙ list_any-alike (λ c. tree_holds (image_of p s) (is_seen_count r c)) (λ c. now.seen == c) (range_with_len k (n + 1 - k)) (λ i c at. seen-holds p s shape r now c here)
       ∙ counted-from k (n + 1 - k) now.seen (omega arith)
 
   release-guard : (r : ℕ) (route : Route) (now : RouteState) (x : ℕ) → slice_get s.routes r ≡ Some now →
       now.seen ≤ length route.path → now.rel + 2 ≤ length route.path → x < length p.sections →
-      can_fire p s (release_rule p r route now.rel x)
+      guard_holds_in_image p s (release_rule_at_index p r route now.rel x)
       ≡
       (((same_mode now.mode Occupied && nat_le (now.rel + 2) now.seen) && not (is_occupied s x))
       && has_lock_state s x UsedLock)
   release-guard r route now x here few place inside =
       let mode = mode-holds p s shape r now Occupied here in
-      let rel : tree_holds (image_of p s) (rel_is r now.rel) ≡ true = rel-holds p s shape r now now.rel here ∙ eq-eqb now.rel now.rel refl in
+      let rel : tree_holds (image_of p s) (is_released_count r now.rel) ≡ true = rel-holds p s shape r now now.rel here ∙ eq-eqb now.rel now.rel refl in
       let seen = seen-enough r now (now.rel + 2) (length route.path) here few place in
       let vacant = vacant-holds p s shape calm x inside in
       let lock = lock-holds p s shape x UsedLock inside in
@@ -85,9 +85,9 @@ module _ (p : PlantLists) (plant : IsPlant p) (s : State) (shape : HasShape p s)
       shuffle true false c d = refl
       shuffle false b c d = refl
 
-  release-other : (r : ℕ) (route : Route) (now : RouteState) (k x : ℕ) → slice_get s.routes r ≡ Some now → (now.rel ≡ k → ⊥) → can_fire p s (release_rule p r route k x) ≡ false
+  release-other : (r : ℕ) (route : Route) (now : RouteState) (k x : ℕ) → slice_get s.routes r ≡ Some now → (now.rel ≡ k → ⊥) → guard_holds_in_image p s (release_rule_at_index p r route k x) ≡ false
   release-other r route now k x here apart =
-      let rel : tree_holds (image_of p s) (rel_is r k) ≡ false = rel-holds p s shape r now k here ∙ ne_eqb now.rel k apart in
+      let rel : tree_holds (image_of p s) (is_released_count r k) ≡ false = rel-holds p s shape r now k here ∙ ne_eqb now.rel k apart in
       rw rel (fails (tree_holds (image_of p s) (mode_is r Occupied)))
     where
       fails : (a : Bool) → (a && false) ≡ false
@@ -96,7 +96,7 @@ module _ (p : PlantLists) (plant : IsPlant p) (s : State) (shape : HasShape p s)
 
   release-sets : (r : ℕ) (route : Route) (now : RouteState) (x : ℕ) → slice_get s.routes r ≡ Some now →
       x < length p.sections →
-      after_settings (image_with s (occupancy_values p s)) (release_rule p r route now.rel x).sets
+      after_settings (image_with s (occupancy_values p s)) (release_rule_at_index p r route now.rel x).sets
       ≡ image_with
       (record s {
         routes = set s.routes r (record now { rel = now.rel + 1 });
@@ -107,7 +107,7 @@ module _ (p : PlantLists) (plant : IsPlant p) (s : State) (shape : HasShape p s)
       let e = occupancy_values p s in
       let s1 = record s { locks = set s.locks x FreeLock } in
       let shape1 = with_lists p s s.points s.boards (set s.locks x FreeLock) shape refl refl (length-set s.locks x FreeLock) in
-      ap (λ values. set values (rel_var r) (now.rel + 1)) (lock-written p s e shape x FreeLock inside)
+      ap (λ values. set values (released_count_var r) (now.rel + 1)) (lock-written p s e shape x FreeLock inside)
       ∙ rel-written p s1 e shape1 r now (now.rel + 1) here
 
   pub release-steps : (r : ℕ) → RulesMatchEvent p s (after_release p s r) (rules_of_release p r)
@@ -124,7 +124,7 @@ module _ (p : PlantLists) (plant : IsPlant p) (s : State) (shape : HasShape p s)
           path = route.path
 
           rules : List PlainRule
-          rules = map (λ place. release_rule p r route place.0 place.1) (enumerate_from 0 (all_but_last route.path))
+          rules = map (λ place. release_rule_at_index p r route place.0 place.1) (enumerate_from 0 (all_but_last route.path))
 
           test : ℕ → Bool
           test x = ((same_mode now.0.mode Occupied && nat_le (now.0.rel + 2) now.0.seen) && not (is_occupied s x)) && has_lock_state s x UsedLock
@@ -147,10 +147,10 @@ module _ (p : PlantLists) (plant : IsPlant p) (s : State) (shape : HasShape p s)
 
           steps : RulesMatchEvent p s (slice_get (all_but_last route.path) now.0.rel >>= (λ x. then_some (test x) (then x))) rules
           steps =
-              place_steps p s (release_rule p r route) (all_but_last route.path) now.0.rel test then
+              place_steps p s (release_rule_at_index p r route) (all_but_last route.path) now.0.rel test then
               (λ k x apart. release-other r route now.0 k x now.1 apart)
               (λ x at. (let it = before-last now.0.rel x at in release-guard r route now.0 x now.1 counts.0 it.0 (inside now.0.rel x it.1)))
-              (λ x at. (let it = before-last now.0.rel x at in by_image p s (then x) (release_rule p r route now.0.rel x).sets (release-sets r route now.0 x now.1 (inside now.0.rel x it.1))))
+              (λ x at. (let it = before-last now.0.rel x at in by_image p s (then x) (release_rule_at_index p r route now.0.rel x).sets (release-sets r route now.0 x now.1 (inside now.0.rel x it.1))))
 
           none-there : (o : Option ℕ) → length route.path - 1 ≤ now.0.rel → None ≡ (o >>= (λ x. then_some (test x) (then x)))
           none-there None past = refl
@@ -172,7 +172,7 @@ module _ (p : PlantLists) (plant : IsPlant p) (s : State) (shape : HasShape p s)
 
   finish-guard : (r : ℕ) (route : Route) (now : RouteState) (x : ℕ) → slice_get s.routes r ≡ Some now →
       0 < length route.path →
-      can_fire p s (finish_rule p r route x)
+      guard_holds_in_image p s (finish_rule p r route x)
       ≡
       ((same_mode now.mode Occupied && (now.seen == length route.path))
       && (now.rel + 1 == length route.path))
@@ -223,10 +223,10 @@ module _ (p : PlantLists) (plant : IsPlant p) (s : State) (shape : HasShape p s)
       let one = mode-written p s0 e shape0 r now Free here in
       let two = seen-written p s1 e shape1 r now1 0 (slice_get-set_same s.routes r now1 within) ∙ ap (λ routes. image_with (record s0 { routes = routes }) e) (set-set s.routes r now1 now2) in
       let three = rel-written p s2 e shape2 r now2 0 (slice_get-set_same s.routes r now2 within) ∙ ap (λ routes. image_with (record s0 { routes = routes }) e) (set-set s.routes r now2 now3) in
-      after_settings-append (image_with s e) (set_locks p (x ∷ sections_outside_path route) FreeLock) (set_mode r Free ∷ set_seen r 0 ∷ set_rel r 0 ∷ [])
-      ∙ ap (λ values. set (set (set values (mode_var r) 0) (seen_var r) 0) (rel_var r) 0) (locks-written p s e (x ∷ sections_outside_path route) FreeLock shape (λ i y at. listed i y at))
-      ∙ ap (λ values. set (set values (seen_var r) 0) (rel_var r) 0) one
-      ∙ ap (λ values. set values (rel_var r) 0) two
+      after_settings-append (image_with s e) (set_locks p (x ∷ sections_outside_path route) FreeLock) (set_mode r Free ∷ set_seen_count r 0 ∷ set_released_count r 0 ∷ [])
+      ∙ ap (λ values. set (set (set values (mode_var r) 0) (seen_count_var r) 0) (released_count_var r) 0) (locks-written p s e (x ∷ sections_outside_path route) FreeLock shape (λ i y at. listed i y at))
+      ∙ ap (λ values. set (set values (seen_count_var r) 0) (released_count_var r) 0) one
+      ∙ ap (λ values. set values (released_count_var r) 0) two
       ∙ three
       ∙ ap (λ locks. image_with (record s { routes = set s.routes r now3; locks = locks }) e) (sym (with_locks-first s.locks x (sections_outside_path route) FreeLock lock.0 lock.1))
     where

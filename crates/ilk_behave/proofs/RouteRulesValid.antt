@@ -16,11 +16,11 @@ use Rattle.ilk_plant.specs.declared.table.Route.{Route}
 use Rattle.ilk_routes.specs.Boards.{is_protecting_board}
 use Rattle.ilk_routes.specs.Claims.{required_points}
 use Rattle.ilk_layout.specs.Variables.{lock_var, mode_var}
-use Rattle.ilk_layout.specs.Conditions.{board_is, listed_is_detected, lock_is, mode_is, no_train_at}
-use Rattle.ilk_layout.proofs.Valid.{board_is-valid, listed_is_detected-valid, lock_is-valid, mode_is-valid, no_train_at-valid}
+use Rattle.ilk_layout.specs.Conditions.{is_board_aspect, is_listed_point_detected, lock_is, mode_is, no_train_at}
+use Rattle.ilk_layout.proofs.Valid.{is_board_aspect-valid, is_listed_point_detected-valid, lock_is-valid, mode_is-valid, no_train_at-valid}
 use Rattle.ilk_behave.specs.Guards.{free_and_vacant_at, not_alloc_or_locked}
 use Rattle.ilk_behave.specs.RouteRules.{routes_protected_by, rules_of_allocate, rules_of_cancel, rules_of_lock, rules_of_mark}
-use Rattle.ilk_behave.specs.Settings.{set_board, command_as_listed, set_lock, set_locks, set_mode, rule}
+use Rattle.ilk_behave.specs.Settings.{set_board_aspect, command_as_listed, set_section_lock, set_locks, set_mode, rule}
 use Rattle.ilk_behave.proofs.LocksOnce.{all_locks-once, commands-elsewhere, commands-fit, locks-elsewhere, locks-fit, wanted-once}
 use Rattle.ilk_behave.proofs.RouteSteps.{locked-known}
 use Rattle.ilk_behave.proofs.RulesValid.{all-append, all-cons, all-flat_map, all-map, fits, is_valid, is_valid_rule, one_rule-valid, rule-valid, two_rules-valid}
@@ -112,7 +112,7 @@ module _ (p : PlantLists) (plant : IsPlant p) where
               commands-elsewhere p s.var (required_points route) (λ n less same. (let var : mode_var r ≡ s.var = ap (λ (z : Setting). z.var) (same_Some (set_mode r Allocating) s at) in omega (arith, within, less, same, var)))
           cross within route (suc i) s at =
               commands-elsewhere p s.var (required_points route) (λ n less same. (
-              let made = map-at (λ x. set_lock p x LockedLock) (sections_locked_for route) i s at in
+              let made = map-at (λ x. set_section_lock p x LockedLock) (sections_locked_for route) i s at in
               let var : lock_var p made.0 ≡ s.var = ap (λ (z : Setting). z.var) made.2 in
               omega (arith, less, same, var)))
 
@@ -124,19 +124,19 @@ module _ (p : PlantLists) (plant : IsPlant p) where
       by_route (Some route) e =
           let within = slice_get_within p.routes r route e in
           let of = plant.routes_known r route e in
-          let lies : List Tree = map (listed_is_detected p) (required_points route) in
-          let boards : List Tree = map (λ m. board_is p m Closed) route.protecting_boards in
+          let lies : List Tree = map (is_listed_point_detected p) (required_points route) in
+          let boards : List Tree = map (λ m. is_board_aspect p m Closed) route.protecting_boards in
           let free : List Tree = map (λ q. negation (mode_is q Locked)) (routes_protected_by p route.source) in
           let conditions : List Tree = mode_is r Allocating ∷ ((lies ++ boards) ++ free) in
-          let sets : List Setting = set_mode r Locked ∷ set_board p route.source Open ∷ [] in
+          let sets : List Setting = set_mode r Locked ∷ set_board_aspect p route.source Open ∷ [] in
           rw e (one_rule-valid p (rule conditions sets) (rule-valid p conditions sets
           (all-cons (is_valid p) (mode_is r Allocating) ((lies ++ boards) ++ free) (mode_is-valid p r Allocating within)
           (all-append (is_valid p) (lies ++ boards) free
           (all-append (is_valid p) lies boards
-          (all-map (is_valid p) (listed_is_detected p) (required_points route) (λ i listed at. listed_is_detected-valid p listed))
-          (all-map (is_valid p) (λ m. board_is p m Closed) route.protecting_boards (λ i m at. board_is-valid p m Closed (all-at (λ m. m < length p.boards) route.protecting_boards i m of.protecting_boards at))))
+          (all-map (is_valid p) (is_listed_point_detected p) (required_points route) (λ i listed at. is_listed_point_detected-valid p listed))
+          (all-map (is_valid p) (λ m. is_board_aspect p m Closed) route.protecting_boards (λ i m at. is_board_aspect-valid p m Closed (all-at (λ m. m < length p.boards) route.protecting_boards i m of.protecting_boards at))))
           (all-map (is_valid p) (λ q. negation (mode_is q Locked)) (routes_protected_by p route.source)
           (λ i q at. mode_is-valid p q Locked (let less = passing_within (λ q. is_protecting_board p q route.source) 0 (length p.routes) i q at in omega (arith, less))))))
-          (all-cons (fits p) (set_mode r Locked) (set_board p route.source Open ∷ []) (mode_is-valid p r Locked within)
-          (all-cons (fits p) (set_board p route.source Open) [] (board_is-valid p route.source Open of.source) refl))
+          (all-cons (fits p) (set_mode r Locked) (set_board_aspect p route.source Open ∷ []) (mode_is-valid p r Locked within)
+          (all-cons (fits p) (set_board_aspect p route.source Open) [] (is_board_aspect-valid p route.source Open of.source) refl))
           (((λ same. omega (arith, within, same)), tt), (tt, tt))))

@@ -28,10 +28,10 @@ use Rattle.ilk_routes.specs.Routes.{after_cancel, after_mark, after_sense}
 use Rattle.ilk_layout.specs.Image.{image_of, occupancy_values}
 use Rattle.ilk_layout.proofs.Writes.{board-written, image_with, lock-written, mode-written, seen-written}
 use Rattle.ilk_layout.specs.Conditions.{mode_is}
-use Rattle.ilk_behave.specs.RouteRules.{rules_of_cancel, rules_of_mark, rules_of_sense, sense_rule}
-use Rattle.ilk_layout.specs.Variables.{mode_var, seen_var}
-use Rattle.ilk_behave.specs.Settings.{set_board, set_locks, set_mode, rule}
-use Rattle.ilk_behave.specs.Steps.{RulesMatchEvent, can_fire}
+use Rattle.ilk_behave.specs.RouteRules.{rules_of_cancel, rules_of_mark, rules_of_sense, sense_rule_at_index}
+use Rattle.ilk_layout.specs.Variables.{mode_var, seen_count_var}
+use Rattle.ilk_behave.specs.Settings.{set_board_aspect, set_locks, set_mode, rule}
+use Rattle.ilk_behave.specs.Steps.{RulesMatchEvent, guard_holds_in_image}
 use Rattle.ilk_base.proofs.ListTests.{all-at}
 use Rattle.ilk_behave.proofs.Tools.{no_rules, place_steps, rule_step, two_rules_step}
 use Rattle.ilk_layout.proofs.ConditionValues.{lock-holds, mode-holds, seen-holds, vacant-holds}
@@ -112,7 +112,7 @@ module _ (p : PlantLists) (plant : IsPlant p) (s : State) (shape : HasShape p s)
 
   sense-guard : (r : ℕ) (route : Route) (now : RouteState) (k x : ℕ) → slice_get s.routes r ≡ Some now →
       x < length p.sections →
-      can_fire p s (sense_rule p r route k x)
+      guard_holds_in_image p s (sense_rule_at_index p r route k x)
       ≡
       ((now.seen == k)
       &&
@@ -138,8 +138,7 @@ module _ (p : PlantLists) (plant : IsPlant p) (s : State) (shape : HasShape p s)
       shuffle false false true d e = refl
       shuffle false false false d e = refl
 
-  -- A guard for another number of seen sections fails.
-  sense-other : (r : ℕ) (route : Route) (now : RouteState) (k x : ℕ) → slice_get s.routes r ≡ Some now → (now.seen ≡ k → ⊥) → can_fire p s (sense_rule p r route k x) ≡ false
+  sense-other : (r : ℕ) (route : Route) (now : RouteState) (k x : ℕ) → slice_get s.routes r ≡ Some now → (now.seen ≡ k → ⊥) → guard_holds_in_image p s (sense_rule_at_index p r route k x) ≡ false
   sense-other r route now k x here apart =
       let seen = seen-holds p s shape r now k here in
       let nay : (now.seen == k) ≡ false = ne_eqb now.seen k apart in
@@ -151,7 +150,7 @@ module _ (p : PlantLists) (plant : IsPlant p) (s : State) (shape : HasShape p s)
 
   sense-sets : (r : ℕ) (route : Route) (now : RouteState) (x : ℕ) → slice_get p.routes r ≡ Some route →
       slice_get s.routes r ≡ Some now → slice_get route.path now.seen ≡ Some x → x < length p.sections →
-      after_settings (image_with s (occupancy_values p s)) (sense_rule p r route now.seen x).sets
+      after_settings (image_with s (occupancy_values p s)) (sense_rule_at_index p r route now.seen x).sets
       ≡ image_with
       (record s {
         routes = set s.routes r (record now { mode = Occupied; seen = now.seen + 1 });
@@ -176,15 +175,15 @@ module _ (p : PlantLists) (plant : IsPlant p) (s : State) (shape : HasShape p s)
       let one = lock-written p s e shape x UsedLock inside in
       let two = seen-written p s1 e shape1 r now (now.seen + 1) here in
       let three = mode-written p s2 e shape2 r now2 Occupied (slice_get-set_same s.routes r now2 within) ∙ ap (λ routes. image_with (record s1 { routes = routes }) e) (set-set s.routes r now2 now3) in
-      let rest = cond (now.seen == 0) (set_board p route.source Closed ∷ []) [] in
-      ap (λ values. after_settings (set (set values (seen_var r) (now.seen + 1)) (mode_var r) 4) rest) one
+      let rest = cond (now.seen == 0) (set_board_aspect p route.source Closed ∷ []) [] in
+      ap (λ values. after_settings (set (set values (seen_count_var r) (now.seen + 1)) (mode_var r) 4) rest) one
       ∙ ap (λ values. after_settings (set values (mode_var r) 4) rest) two
       ∙ ap (λ values. after_settings values rest) three
       ∙ last s3 shape3 (now.seen == 0)
     where
       last : (s3 : State) → HasShape p s3 → (b : Bool) →
           after_settings (image_with s3 (occupancy_values p s))
-          (cond b (set_board p route.source Closed ∷ []) [])
+          (cond b (set_board_aspect p route.source Closed ∷ []) [])
           ≡ image_with (record s3 { boards = cond b (set s3.boards route.source Closed) s3.boards })
           (occupancy_values p s)
       last s3 shape3 true = board-written p s3 (occupancy_values p s) shape3 route.source Closed (plant.routes_known r route known).source
@@ -197,7 +196,7 @@ module _ (p : PlantLists) (plant : IsPlant p) (s : State) (shape : HasShape p s)
       by_route None e = rw e (no_rules p s)
       by_route (Some route) e =
           let now = state-of r route e in
-          rw (e, now.1) (place_steps p s (sense_rule p r route) route.path now.0.seen
+          rw (e, now.1) (place_steps p s (sense_rule_at_index p r route) route.path now.0.seen
           (λ x. ((same_mode now.0.mode Locked || same_mode now.0.mode Occupied) && is_occupied s x) && has_lock_state s x LockedLock)
           (sensed now.0)
           (λ k x apart. sense-other r route now.0 k x now.1 apart)
@@ -209,7 +208,7 @@ module _ (p : PlantLists) (plant : IsPlant p) (s : State) (shape : HasShape p s)
           && is_occupied s x)
           && has_lock_state s x LockedLock))
           (eq-eqb now.0.seen now.0.seen refl))
-          (λ x at. by_image p s (sensed now.0 x) (sense_rule p r route now.0.seen x).sets (sense-sets r route now.0 x e now.1 at (inside now.0.seen x at))))
+          (λ x at. by_image p s (sensed now.0 x) (sense_rule_at_index p r route now.0.seen x).sets (sense-sets r route now.0 x e now.1 at (inside now.0.seen x at))))
         where
           sensed : RouteState → ℕ → State
           sensed now x = record s { routes = set s.routes r (record now { mode = Occupied; seen = now.seen + 1 }); locks = set s.locks x UsedLock; boards = (cond (now.seen == 0) (set s.boards route.source Closed) s.boards) }

@@ -16,10 +16,10 @@ use Rattle.ilk_plant.specs.declared.table.Route.{Route}
 use Rattle.ilk_model.specs.declared.event.Event.{Event}
 use Rattle.ilk_model.specs.declared.event.Event.TheVariants as event
 use Rattle.ilk_motion.specs.Trains.{has_neighbour}
-use Rattle.ilk_behave.specs.Behaviour.{events_of, events_of_route, events_of_section, rules_of, system_of_plant}
+use Rattle.ilk_behave.specs.Behaviour.{events_of_plant, events_of_route, events_of_section, rules_of_event, system_of_plant}
 use Rattle.ilk_behave.specs.PointRules.{rules_of_settle, rules_of_throw}
 use Rattle.ilk_behave.specs.RouteRules.{rules_of_allocate, rules_of_cancel, rules_of_finish, rules_of_lock, rules_of_mark, rules_of_release, rules_of_sense}
-use Rattle.ilk_behave.specs.TrainRules.{both_directions, head_rules_to_neighbour, leave_rule, rules_of_enter, rules_of_head, rules_of_leave, rules_of_tail, tail_rule}
+use Rattle.ilk_behave.specs.TrainRules.{all_directions, head_rules_to_neighbour, leave_rule_in_direction, rules_of_enter, rules_of_head, rules_of_leave, rules_of_tail, tail_rule_to_neighbour}
 use Rattle.ilk_behave.proofs.RuleCounts.{cancel-count, finish-count, release-count, sense-count}
 
 flat_map-few : {X Y : Type 0} (f : X → List Y) (most : ℕ) (xs : List X) → ((x : X) → length (f x) ≤ most) → length (flat_map f xs) ≤ most * length xs
@@ -31,7 +31,6 @@ flat_map-few f most (x ∷ xs) few =
     omega (arith, sum, first, later)
 
 module _ (p : PlantLists) (plant : IsPlant p) where
-  -- Events of routes.
   few-mark : (r : ℕ) → length (rules_of_mark p r) ≤ 1
   few-mark r = by_route (slice_get p.routes r) refl
     where
@@ -89,7 +88,6 @@ module _ (p : PlantLists) (plant : IsPlant p) where
       by_route None e = rw e (omega arith)
       by_route (Some route) e = let count = cancel-count p r route e in omega (arith, count)
 
-  -- Events of points.
   few-throw : (x : ℕ) → length (rules_of_throw p x) ≤ 2
   few-throw x = by_number (point_number p x) refl
     where
@@ -104,7 +102,6 @@ module _ (p : PlantLists) (plant : IsPlant p) where
       by_number None e = rw e (omega arith)
       by_number (Some n) e = rw e (omega arith)
 
-  -- Events of trains.
   few-enter : (x : ℕ) → length (rules_of_enter p x) ≤ 1
   few-enter x = by_inward (section_inward_if_border p x) refl
     where
@@ -147,7 +144,7 @@ module _ (p : PlantLists) (plant : IsPlant p) where
       let two = length-append (f Down) [] in
       omega (arith, up, down, one, two)
 
-  tails-few : (x : ℕ) (d : Dir) (ys : List ℕ) → length ys ≤ 2 → length (flat_map (λ y. map (tail_rule p x d y) (true ∷ false ∷ [])) ys) ≤ 4
+  tails-few : (x : ℕ) (d : Dir) (ys : List ℕ) → length ys ≤ 2 → length (flat_map (λ y. map (tail_rule_to_neighbour p x d y) (true ∷ false ∷ [])) ys) ≤ 4
   tails-few x d [] few = omega arith
   tails-few x d (y ∷ []) few = omega arith
   tails-few x d (y ∷ z ∷ []) few = omega arith
@@ -157,7 +154,7 @@ module _ (p : PlantLists) (plant : IsPlant p) where
   few-tail x =
       let up = tails-few x Up (next_to p x Up) (few-next x Up) in
       let down = tails-few x Down (next_to p x Down) (few-next x Down) in
-      let f : Dir → List PlainRule = λ d. flat_map (λ y. map (tail_rule p x d y) (true ∷ false ∷ [])) (next_to p x d) in
+      let f : Dir → List PlainRule = λ d. flat_map (λ y. map (tail_rule_to_neighbour p x d y) (true ∷ false ∷ [])) (next_to p x d) in
       let one = length-append (f Up) (f Down ++ []) in
       let two = length-append (f Down) [] in
       omega (arith, up, down, one, two)
@@ -169,12 +166,12 @@ module _ (p : PlantLists) (plant : IsPlant p) where
       by_section None e = rw e (omega arith)
       by_section (Some section) e =
           let ends : Dir → Bool = λ d. not (has_neighbour section d) in
-          let made = length-map (filter ends both_directions) (leave_rule p x) in
-          let kept = length-filter ends both_directions in
-          let most = count_by-le-length ends both_directions in
+          let made = length-map (filter ends all_directions) (leave_rule_in_direction p x) in
+          let kept = length-filter ends all_directions in
+          let most = count_by-le-length ends all_directions in
           rw e (omega (arith, made, kept, most))
 
-  pub few-rules : (event : Event) → length (rules_of p event) ≤ 256
+  pub few-rules : (event : Event) → length (rules_of_event p event) ≤ 256
   few-rules (event.Mark r) = let few = few-mark r in omega (arith, few)
   few-rules (event.Allocate r) = let few = few-allocate r in omega (arith, few)
   few-rules (event.Lock r) = let few = few-lock r in omega (arith, few)
@@ -189,7 +186,7 @@ module _ (p : PlantLists) (plant : IsPlant p) where
   few-rules (event.Leave x) = let few = few-leave x in omega (arith, few)
   few-rules (event.Cancel r) = let few = few-cancel r in omega (arith, few)
 
-  few-events : length (events_of p) ≤ 256 * 13
+  few-events : length (events_of_plant p) ≤ 256 * 13
   few-events =
       let routes : length p.routes ≤ 256 = plant.few_routes in
       let sections : length p.sections ≤ 256 = plant.few_sections in
@@ -202,6 +199,6 @@ module _ (p : PlantLists) (plant : IsPlant p) where
 
   pub few-in_all : length (system_of_plant p).rules ≤ 256 * 256 * 13
   few-in_all =
-      let few = flat_map-few (rules_of p) 256 (events_of p) few-rules in
+      let few = flat_map-few (rules_of_event p) 256 (events_of_plant p) few-rules in
       let events = few-events in
       omega (arith, few, events)

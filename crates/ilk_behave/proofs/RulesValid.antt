@@ -12,7 +12,6 @@ use Rattle.ilk_layout.specs.Variables.{ranges_of_plant}
 use Rattle.ilk_behave.specs.Settings.{rule}
 use Rattle.ilk_behave.proofs.SetOnce.{SetOnce, set_once-apart}
 
--- A condition, a setting or a rule is valid over the ranges of the plant.
 abbrev pub is_valid : PlantLists → Tree → Bool
 is_valid p tree = tree_valid (ranges_of_plant p) tree
 

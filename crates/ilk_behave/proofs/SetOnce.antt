@@ -5,12 +5,10 @@ use Rattle.std.proofs.lemmas.Bool.{ne_eqb}
 use Rattle.ilk_ir.specs.System.{sets_distinct_vars}
 use Rattle.ilk_ir.specs.declared.system.Setting.{Setting}
 
--- None of the settings sets the variable.
 abbrev pub SetElsewhere : ℕ → List Setting → Type 0
 SetElsewhere v [] = Unit {0}
 SetElsewhere v (s ∷ ss) = (s.var ≡ v → ⊥) × SetElsewhere v ss
 
--- No variable is set twice.
 abbrev pub SetOnce : List Setting → Type 0
 SetOnce [] = Unit {0}
 SetOnce (s ∷ ss) = SetElsewhere s.var ss × SetOnce ss

@@ -11,7 +11,7 @@ use Rattle.ilk_model.specs.declared.event.Event.{Event}
 use Rattle.ilk_model.specs.declared.event.Event.TheVariants.{Mark, Allocate, Lock, Sense, Release, Finish, Throw, Settle, Enter, Head, Tail, Leave, Cancel}
 use Rattle.ilk_layout.specs.Variables.{ranges_of_plant}
 use Rattle.ilk_layout.proofs.Valid.{length-ranges, ranges-positive}
-use Rattle.ilk_behave.specs.Behaviour.{events_of, rules_of, system_of_plant}
+use Rattle.ilk_behave.specs.Behaviour.{events_of_plant, rules_of_event, system_of_plant}
 use Rattle.ilk_behave.proofs.PathRulesValid.{finish-valid, release-valid, sense-valid}
 use Rattle.ilk_behave.proofs.RouteRulesValid.{allocate-valid, cancel-valid, lock-valid, mark-valid}
 use Rattle.ilk_behave.proofs.RuleBounds.{few-in_all}
@@ -19,7 +19,7 @@ use Rattle.ilk_behave.proofs.RulesValid.{all-flat_map, is_valid_rule}
 use Rattle.ilk_behave.proofs.TrainRulesValid.{enter-valid, head-valid, leave-valid, settle-valid, tail-valid, throw-valid}
 
 module _ (p : PlantLists) (plant : IsPlant p) where
-  event-valid : (event : Event) → list_all (is_valid_rule p) (rules_of p event) ≡ true
+  event-valid : (event : Event) → list_all (is_valid_rule p) (rules_of_event p event) ≡ true
   event-valid (Mark r) = mark-valid p plant r
   event-valid (Allocate r) = allocate-valid p plant r
   event-valid (Lock r) = lock-valid p plant r
@@ -35,7 +35,7 @@ module _ (p : PlantLists) (plant : IsPlant p) where
   event-valid (Cancel r) = cancel-valid p plant r
 
   all-valid : list_all (is_valid_rule p) (system_of_plant p).rules ≡ true
-  all-valid = all-flat_map (is_valid_rule p) (rules_of p) (events_of p) (λ i event at. event-valid event)
+  all-valid = all-flat_map (is_valid_rule p) (rules_of_event p) (events_of_plant p) (λ i event at. event-valid event)
 
   less-test : (a b : ℕ) → a < b → nat_lt a b ≡ true
   less-test a b less = grind (arith, nat_tests)

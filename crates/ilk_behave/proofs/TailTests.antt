@@ -3,7 +3,7 @@ use Rattle.std.proofs.Common.{◌≡◌, ℕ, suc, ◌+◌, true, false, remove,
 use Rattle.std.proofs.lemmas.Bool.{eq-eqb, eqb-true, false≢true, false_from_ne_true}
 use Rattle.std.proofs.lemmas.Option.{same_Some}
 use Rattle.ilk_ir.specs.Tree.{Tree}
-use Rattle.ilk_plant.specs.Network.{has_section, same_direction}
+use Rattle.ilk_plant.specs.Network.{contains_section, same_direction}
 use Rattle.ilk_plant.specs.Plant.{PlantLists}
 use Rattle.ilk_plant.specs.State.{detected_position}
 use Rattle.ilk_plant.specs.declared.network.Dir.{Dir}
@@ -20,19 +20,18 @@ use Rattle.ilk_model.specs.Hazard.{is_wrong_under_body}
 use Rattle.ilk_model.proofs.Straying.{rest-is_wrong_under_body}
 use Rattle.ilk_layout.specs.Standing.{is_point_wrong_under}
 use Rattle.ilk_layout.specs.Conditions.{section_point_is_detected}
-use Rattle.ilk_behave.specs.Guards.{leads_towards, leg_position}
+use Rattle.ilk_behave.specs.Guards.{leg_set_if_facing, leg_position}
 
 pub lies-nowhere : (at : Position) → is_lie_at_position Moving at ≡ false
 lies-nowhere Plus = refl
 lies-nowhere Minus = refl
 
--- The conditions under which `x` leads to `y`, by the kind of `x`.
 abbrev pub leading : PlantLists → ℕ → ℕ → Dir → Option Section → List Tree
 leading p x y d None = []
 leading p x y d (Some (Linear down up b c)) = []
 leading p x y d (Some (Point stem plus minus faces)) = cond (same_direction faces d) (section_point_is_detected p x (lie_from_position (leg_position plus y)) ∷ []) []
 
-pub leads-by : (p : PlantLists) (x y : ℕ) (d : Dir) (o : Option Section) → slice_get p.sections x ≡ o → leads_towards p x d y ≡ leading p x y d (slice_get p.sections x)
+pub leads-by : (p : PlantLists) (x y : ℕ) (d : Dir) (o : Option Section) → slice_get p.sections x ≡ o → leg_set_if_facing p x d y ≡ leading p x y d (slice_get p.sections x)
 leads-by p x y d None e = rw e refl
 leads-by p x y d (Some (Linear down up b c)) e = rw e refl
 leads-by p x y d (Some (Point stem plus minus faces)) e = rw e refl
@@ -65,5 +64,5 @@ several x y [] at next = cc
 several x y (a ∷ []) at next = cc
 several x y (a ∷ b ∷ rest) at next = eq-eqb a x (same_Some a x at)
 
-pub has-first : (x : ℕ) (body : List ℕ) → is_first_of_several x body ≡ true → has_section x body ≡ true
+pub has-first : (x : ℕ) (body : List ℕ) → is_first_of_several x body ≡ true → contains_section x body ≡ true
 has-first x body h = let two = first-two x body h in section-from body 0 x two.1

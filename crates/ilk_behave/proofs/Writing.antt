@@ -24,7 +24,7 @@ use Rattle.ilk_routes.proofs.Commands.{with_commands-first, with_commands-no_poi
 use Rattle.ilk_routes.proofs.Locks.{with_locks-first, with_locks-none}
 use Rattle.ilk_base.proofs.Numbered.{slice_get-map_numbered}
 use Rattle.ilk_layout.specs.Image.{image_of, occupancy_values}
-use Rattle.ilk_layout.specs.Occupancy.{occupancy_of}
+use Rattle.ilk_layout.specs.Occupancy.{occupancy_or_crash}
 use Rattle.ilk_layout.specs.Values.{occupancy_value}
 use Rattle.ilk_layout.proofs.Changes.{occupancy-kept}
 use Rattle.ilk_layout.proofs.Writes.{image_with, lock-written, to-written}
@@ -108,7 +108,6 @@ commands-written p s occupancies (listed ∷ rest) shape =
         ∙ later next (with_lists p s next s.boards s.locks shape (length-set s.points n (record point.0 { to = listed.at })) refl refl)
         ∙ ap (λ points. image_with (record s { points = points }) occupancies) (with_commands-first p s.points listed rest n point.0 e point.1)
 
--- The same trains have the same occupancies if the points keep their positions.
 pub same-occupancies :
     (p : PlantLists) (s : State) (routes : List RouteState) (points : List PointState) (boards : List Aspect)
     (locks : List Hold) →
@@ -116,7 +115,7 @@ pub same-occupancies :
     occupancy_values p (record s { routes = routes; points = points; boards = boards; locks = locks })
     ≡ occupancy_values p s
 same-occupancies p s routes points boards locks same =
-    map-range-congr (λ x. occupancy_value (occupancy_of p t x)) (λ x. occupancy_value (occupancy_of p s x)) 0 (length p.sections) (λ x above below. ap occupancy_value (occupancy-kept p s t x refl (same x)))
+    map-range-congr (λ x. occupancy_value (occupancy_or_crash p t x)) (λ x. occupancy_value (occupancy_or_crash p s x)) 0 (length p.sections) (λ x above below. ap occupancy_value (occupancy-kept p s t x refl (same x)))
   where
     t : State
     t = record s { routes = routes; points = points; boards = boards; locks = locks }

@@ -10,7 +10,7 @@ use Rattle.ilk_layout.specs.declared.values.Occupancy.TheVariants.{Crash}
 use Rattle.ilk_layout.specs.Conditions.{is_point_detected, train_at, is_point_commanded, no_train_at}
 use Rattle.ilk_behave.specs.Settings.{set_detected, set_occupancy, rule, map_or_no_rules}
 
--- Point number `n` is not moving and is not in its commanded position.
+-- The conditions that point number `n` is not moving and is not in its commanded position.
 abbrev pub rests_out_of_position : PlantLists → ℕ → List Tree
 rests_out_of_position p n =
     negation (is_point_detected p n Moving)
@@ -18,8 +18,8 @@ rests_out_of_position p n =
     ∷ any_of (trees_from_list (negation (is_point_detected p n LiesMinus) ∷ negation (is_point_commanded p n Minus) ∷ []))
     ∷ []
 
--- `throw x`: if the point on `x` is not moving and not in its commanded position, it starts to
--- move. Under a train this is a crash.
+-- The rules of `throw x`: if the point on section `x` is not moving and not in its commanded
+-- position, it starts to move. Under a train, the occupancy of `x` also becomes Crash.
 abbrev pub rules_of_throw : PlantLists → ℕ → List PlainRule
 rules_of_throw p x =
     map_or_no_rules (point_number p x) (λ n.
@@ -27,7 +27,8 @@ rules_of_throw p x =
     ∷ rule (rests_out_of_position p n ++ train_at p x ∷ []) (set_detected p n Moving ∷ set_occupancy p x Crash ∷ [])
     ∷ [])
 
--- `settle x`: if the point on `x` is moving, it is detected in its commanded position.
+-- The rules of `settle x`: if the point on section `x` is moving, it becomes detected in its
+-- commanded position.
 abbrev pub rules_of_settle : PlantLists → ℕ → List PlainRule
 rules_of_settle p x =
     map_or_no_rules (point_number p x) (λ n.

@@ -14,14 +14,14 @@ use Rattle.ilk_plant.specs.declared.state.Lie.{Lie}
 use Rattle.ilk_plant.specs.declared.state.Mode.{Mode}
 use Rattle.ilk_plant.specs.declared.table.Listed.{Listed}
 use Rattle.ilk_layout.specs.Values.{aspect_value, lock_value, detected_value, mode_value, occupancy_value, commanded_value}
-use Rattle.ilk_layout.specs.Variables.{detected_var, board_var, lock_var, mode_var, occupancy_var, rel_var, seen_var, commanded_var}
+use Rattle.ilk_layout.specs.Variables.{detected_var, board_var, lock_var, mode_var, occupancy_var, released_count_var, seen_count_var, commanded_var}
 use Rattle.ilk_layout.specs.declared.values.Occupancy.{Occupancy}
 
--- The rule that makes the settings if all conditions hold.
+-- The rule that, if all conditions hold, makes the settings.
 abbrev pub rule : List Tree → List Setting → PlainRule
 rule conditions settings = record { guard = all_of (trees_from_list conditions); sets = settings }
 
--- The rules for the value, or none if there is no value.
+-- The rules that `rules` gives for the optional value; none if there is no value.
 abbrev pub map_or_no_rules : {A : Type 0} → Option A → (A → List PlainRule) → List PlainRule
 map_or_no_rules None rules = []
 map_or_no_rules (Some x) rules = rules x
@@ -29,46 +29,46 @@ map_or_no_rules (Some x) rules = rules x
 abbrev pub set_var : ℕ → ℕ → Setting
 set_var v value = record { var = v; value = value }
 
--- Sets the mode of route `r`.
+-- The setting of the mode of route `r`.
 abbrev pub set_mode : ℕ → Mode → Setting
 set_mode r mode = set_var (mode_var r) (mode_value mode)
 
--- Sets the number of seen path sections of route `r`.
-abbrev pub set_seen : ℕ → ℕ → Setting
-set_seen r count = set_var (seen_var r) count
+-- The setting of the number of path sections of route `r` that trains have entered.
+abbrev pub set_seen_count : ℕ → ℕ → Setting
+set_seen_count r count = set_var (seen_count_var r) count
 
--- Sets the number of released path sections of route `r`.
-abbrev pub set_rel : ℕ → ℕ → Setting
-set_rel r count = set_var (rel_var r) count
+-- The setting of the number of released path sections of route `r`.
+abbrev pub set_released_count : ℕ → ℕ → Setting
+set_released_count r count = set_var (released_count_var r) count
 
--- Sets the detected position of point number `n`.
+-- The setting of the detected position of point number `n`.
 abbrev pub set_detected : PlantLists → ℕ → Lie → Setting
 set_detected p n lie = set_var (detected_var p n) (detected_value lie)
 
--- Sets the commanded position of point number `n`.
+-- The setting of the commanded position of point number `n`.
 abbrev pub set_commanded : PlantLists → ℕ → Position → Setting
 set_commanded p n position = set_var (commanded_var p n) (commanded_value position)
 
--- Sets the aspect of board `m`.
-abbrev pub set_board : PlantLists → ℕ → Aspect → Setting
-set_board p m aspect = set_var (board_var p m) (aspect_value aspect)
+-- The setting of the aspect of board `m`.
+abbrev pub set_board_aspect : PlantLists → ℕ → Aspect → Setting
+set_board_aspect p m aspect = set_var (board_var p m) (aspect_value aspect)
 
--- Sets the lock of section `x`.
-abbrev pub set_lock : PlantLists → ℕ → Hold → Setting
-set_lock p x hold = set_var (lock_var p x) (lock_value hold)
+-- The setting of the lock of section `x`.
+abbrev pub set_section_lock : PlantLists → ℕ → Hold → Setting
+set_section_lock p x hold = set_var (lock_var p x) (lock_value hold)
 
--- Sets the occupancy of section `x`.
+-- The setting of the occupancy of section `x`.
 abbrev pub set_occupancy : PlantLists → ℕ → Occupancy → Setting
 set_occupancy p x occupancy = set_var (occupancy_var p x) (occupancy_value occupancy)
 
--- Sets the locks of these sections.
+-- The settings that make `hold` the lock of each of `sections`.
 abbrev pub set_locks : PlantLists → List ℕ → Hold → List Setting
-set_locks p sections hold = map (λ x. set_lock p x hold) sections
+set_locks p sections hold = map (λ x. set_section_lock p x hold) sections
 
--- Commands a listed point to its listed position.
+-- The setting that commands a listed point to its listed position.
 abbrev pub command_as_listed : PlantLists → Listed → List Setting
 command_as_listed p listed = map (λ n. set_commanded p n listed.at) (option_to_list (point_number p listed.point))
 
--- Closes the board of `x` for direction `d`, if any.
+-- The setting that closes the board of section `x` for direction `d`, if there is one.
 abbrev pub close_board_if_any : PlantLists → ℕ → Dir → List Setting
-close_board_if_any p x d = map (λ m. set_board p m Closed) (option_to_list (board_of p x d))
+close_board_if_any p x d = map (λ m. set_board_aspect p m Closed) (option_to_list (board_of p x d))

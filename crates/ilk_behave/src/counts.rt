@@ -2,16 +2,15 @@ ghost use Rattle.std.specs.Prelude.{◌≡◌, ◌≤◌, ◌<◌, ◌+◌, Some
 ghost use Rattle.ilk_motion.specs.Trains.{has_neighbour};
 ghost use Rattle.ilk_plant.specs.Plant.{next_to};
 ghost use Rattle.ilk_plant.specs.declared.network.Dir.TheVariants.{Up, Down};
-ghost use Rattle.ilk_behave.specs.Behaviour.{rules_of};
+ghost use Rattle.ilk_behave.specs.Behaviour.{rules_of_event};
 ghost use Rattle.ilk_behave.specs.Numbered.{IsEventOfPlant};
 ghost use Rattle.ilk_behave.specs.PointRules.{rules_of_throw};
 ghost use Rattle.ilk_behave.specs.RouteRules.{rules_of_cancel, rules_of_finish, rules_of_release, rules_of_sense};
-ghost use Rattle.ilk_behave.specs.TrainRules.{both_directions};
+ghost use Rattle.ilk_behave.specs.TrainRules.{all_directions};
 
 use ilk_model::Event;
 use ilk_plant::{Dir, Plant, Section};
 
-// Returns the number of neighbours of section `x` on side `d`.
 fn neighbours(plant: &Plant, x: u32, d: Dir) -> u32
     requires { x < length plant.now.sections }
     ensures count { result ≡ length (next_to plant.now x d) }
@@ -34,9 +33,8 @@ fn all_neighbours(plant: &Plant, x: u32) -> u32
     neighbours(plant, x, Dir::Up) + neighbours(plant, x, Dir::Down)
 }
 
-// Returns the number of sides on which the section has no neighbour.
 fn open_ends(section: &Section) -> u32
-    ensures { result ≡ length (filter (λ d. not (has_neighbour section.now d)) both_directions) }
+    ensures { result ≡ length (filter (λ d. not (has_neighbour section.now d)) all_directions) }
 {
     let up = if section.nth_neighbour_on(Dir::Up, 0).is_some() {
         0
@@ -51,7 +49,6 @@ fn open_ends(section: &Section) -> u32
     up + down
 }
 
-// Returns the number of rules of `throw x`, and of `settle x`.
 fn point_rule_count(plant: &Plant, x: u32) -> u32
     requires { x < length plant.now.sections }
     ensures { result ≡ length (rules_of_throw plant.now x) }
@@ -94,10 +91,10 @@ fn cancel_rule_count(plant: &Plant, r: u32) -> u32
     2
 }
 
-/// Returns the number of rules of an event.
-pub fn count_event_rules(plant: &Plant, event: Event) -> u32
+/// Returns the number of rules that the system of `plant` has for `event`.
+pub(crate) fn count_event_rules(plant: &Plant, event: Event) -> u32
     requires { IsEventOfPlant plant.now event }
-    ensures { result ≡ length (rules_of plant.now event) }
+    ensures { result ≡ length (rules_of_event plant.now event) }
 {
     match event {
         Event::Mark(_) | Event::Allocate(_) | Event::Lock(_) => 1,

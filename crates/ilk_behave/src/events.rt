@@ -7,8 +7,8 @@ use crate::counts::count_event_rules;
 use ilk_model::Event;
 use ilk_plant::Plant;
 
-/// Returns the events of route `r`, in order.
-pub fn events_of_route(r: u32) -> [Event; 7]
+/// Returns the seven events of route `r`, in the order of their rules.
+pub(crate) fn events_of_route(r: u32) -> [Event; 7]
     ensures { result ≡ behaviour.events_of_route r }
 {
     [
@@ -22,8 +22,9 @@ pub fn events_of_route(r: u32) -> [Event; 7]
     ]
 }
 
-/// Returns the events of section `x`, in order, with throw and settle even if `x` has no point.
-pub fn events_of_section(x: u32) -> [Event; 6]
+/// Returns the six events of section `x`, in the order of their rules. Throw and settle are among
+/// them even if `x` has no point.
+pub(crate) fn events_of_section(x: u32) -> [Event; 6]
     ensures { result ≡ behaviour.events_of_section x }
 {
     [
@@ -56,8 +57,8 @@ fn find_event(plant: &Plant, events: &[Event], place: u32) -> Result<Event, u32>
     Err(left)
 }
 
-/// Returns the event of a rule of the plant's behaviour. Returns `None` if and only if no rule has
-/// this number.
+/// Returns the event to which rule number `rule` of the plant's system belongs. Returns `None` if
+/// and only if no rule has this number.
 pub fn event_of(plant: &Plant, rule: u32) -> Option<Event>
     ensures event { result ≡ event_of_rule plant.now rule }
     ensures none { (result ≡ None) ↔ (length (system_of_plant plant.now).rules ≤ rule) }

@@ -6,13 +6,13 @@ ghost use Rattle.ilk_behave.specs.Guards as guards;
 
 use ilk_ir::Form;
 use ilk_layout::{
-    board_is, listed_is_detected, lock_is, mode_is, negated, no_train_at, section_point_is_detected,
+    is_board_aspect, is_listed_point_detected, lock_is, mode_is, negated, no_train_at,
+    section_point_is_detected,
 };
 use ilk_plant::{Aspect, Dir, Hold, Lie, Listed, Mode, Plant, Position, Row, Section};
 use ilk_routes::lie_from_position;
 use std::alloc::{AllocError, Global};
 
-// Returns the position that leads to leg `y`, for points whose plus leg is `plus`.
 fn leg_position(plus: u32, y: u32) -> Position
     ensures { result ≡ guards.leg_position plus y }
 {
@@ -23,8 +23,9 @@ fn leg_position(plus: u32, y: u32) -> Position
     }
 }
 
-/// Adds the condition that section `x`, if it is a point facing `d`, is set for its leg `y`.
-pub fn push_leads_towards(
+/// Adds to `forms` the condition that, if section `x` is a point that faces `d`, it is detected in
+/// the position of its leg `y`.
+pub(crate) fn push_leg_set_if_facing(
     forms: &mut Vec<Form>,
     plant: &Plant,
     x: u32,
@@ -34,7 +35,7 @@ pub fn push_leads_towards(
     requires { x < length plant.now.sections }
     ensures { OnOk result
         (map tree_of forms.new.items
-        ≡ map tree_of forms.old.items ++ guards.leads_towards plant.now x d y) }
+        ≡ map tree_of forms.old.items ++ guards.leg_set_if_facing plant.now x d y) }
 {
     if let Section::Point { plus, faces, .. } = *plant.section(x) {
         if faces == d {
@@ -48,7 +49,6 @@ pub fn push_leads_towards(
     Ok(())
 }
 
-// Returns the condition that a train from `x` in direction `d` would be right on the point `y`.
 fn not_wrong_on_point(
     alloc: Global,
     plant: &Plant,
@@ -68,9 +68,10 @@ fn not_wrong_on_point(
     }
 }
 
-/// Adds the condition that a train from `x` in direction `d` would be right on `y`. If `y` is a
-/// point facing `d`, it is not moving; any other point is set for its leg `x`.
-pub fn push_not_wrong_from(
+/// Adds to `forms` the condition that a train from `x` in direction `d` would cause no derailment
+/// risk on `y`. If `y` is a point that faces `d`, it is not moving; any other point is in the
+/// position of its leg `x`.
+pub(crate) fn push_not_wrong_from(
     alloc: Global,
     forms: &mut Vec<Form>,
     plant: &Plant,
@@ -89,9 +90,9 @@ pub fn push_not_wrong_from(
     Ok(())
 }
 
-/// Adds, if `y` is a point, the condition that a train from `x` in direction `d` would not be right
-/// on it.
-pub fn push_is_wrong_from(
+/// Adds to `forms`, if `y` is a point, the condition that a train from `x` in direction `d` would
+/// cause a derailment risk on it.
+pub(crate) fn push_is_wrong_from(
     alloc: Global,
     forms: &mut Vec<Form>,
     plant: &Plant,
@@ -111,8 +112,9 @@ pub fn push_is_wrong_from(
     Ok(())
 }
 
-/// Adds the condition that the board of `x` for direction `d`, if any, is open.
-pub fn push_board_open_if_any(
+/// Adds to `forms` the condition that the board of section `x` for direction `d` is Open. Adds
+/// nothing if there is no such board.
+pub(crate) fn push_board_open_if_any(
     forms: &mut Vec<Form>,
     plant: &Plant,
     x: u32,
@@ -124,13 +126,13 @@ pub fn push_board_open_if_any(
         ≡ map tree_of forms.old.items ++ guards.board_open_if_any plant.now x d) }
 {
     if let Some(m) = plant.board_of(x, d) {
-        forms.push(board_is(plant, m, Aspect::Open))?;
+        forms.push(is_board_aspect(plant, m, Aspect::Open))?;
     }
     Ok(())
 }
 
-/// Adds the condition that none of the routes is Allocating or Locked.
-pub fn push_not_alloc_or_locked(
+/// Adds to `forms` the conditions that no route of `routes` is Allocating or Locked.
+pub(crate) fn push_none_alloc_or_locked(
     alloc: Global,
     forms: &mut Vec<Form>,
     plant: &Plant,
@@ -159,8 +161,8 @@ fn push_clear_at(forms: &mut Vec<Form>, plant: &Plant, x: u32) -> Result<(), All
     Ok(())
 }
 
-/// Adds the condition that each section has lock Free and is vacant.
-pub fn push_free_and_vacant(
+/// Adds to `forms` the conditions that each section has lock Free and is vacant.
+pub(crate) fn push_free_and_vacant(
     forms: &mut Vec<Form>,
     plant: &Plant,
     sections: &Row<u32>,
@@ -177,8 +179,8 @@ pub fn push_free_and_vacant(
     Ok(())
 }
 
-/// Adds the condition that the section of each point has lock Free and is vacant.
-pub fn push_points_free_vacant(
+/// Adds to `forms` the conditions that the section of each point has lock Free and is vacant.
+pub(crate) fn push_points_free_vacant(
     forms: &mut Vec<Form>,
     plant: &Plant,
     points: &Row<Listed>,
@@ -196,18 +198,19 @@ pub fn push_points_free_vacant(
     Ok(())
 }
 
-/// Adds the condition that each point is detected in its listed position.
-pub fn push_detected_as_listed(
+/// Adds to `forms` the conditions that each point is detected in its listed position.
+pub(crate) fn push_detected_as_listed(
     forms: &mut Vec<Form>,
     plant: &Plant,
     points: &Row<Listed>,
 ) -> Result<(), AllocError>
     ensures { OnOk result
         (map tree_of forms.new.items
-        ≡ map tree_of forms.old.items ++ map (conditions.listed_is_detected plant.now) points.now) }
+        ≡ map tree_of forms.old.items ++
+        map (conditions.is_listed_point_detected plant.now) points.now) }
 {
     for listed in points.as_slice() {
-        forms.push(listed_is_detected(plant, listed))?;
+        forms.push(is_listed_point_detected(plant, listed))?;
     }
     Ok(())
 }

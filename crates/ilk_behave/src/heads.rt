@@ -9,7 +9,7 @@ ghost use Rattle.ilk_behave.specs.Settings as settings;
 ghost use Rattle.ilk_behave.specs.TrainRules as definitions;
 
 use crate::guards::{
-    push_board_open_if_any, push_is_wrong_from, push_leads_towards, push_not_wrong_from,
+    push_board_open_if_any, push_is_wrong_from, push_leg_set_if_facing, push_not_wrong_from,
 };
 use crate::settings::{push_close_board_if_any, push_rule, set_occupancy};
 use ilk_ir::{Form, Rules, Sets};
@@ -17,7 +17,6 @@ use ilk_layout::{Occupancy, no_train_at, occupancy_is, train_at};
 use ilk_plant::{Dir, Plant, Row};
 use std::alloc::{AllocError, Global};
 
-// Returns the conditions of `head x` for a train in direction `d` that moves to `y`.
 fn may_go_on(
     alloc: Global,
     plant: &Plant,
@@ -28,7 +27,7 @@ fn may_go_on(
 ) -> Result<Vec<Form>, AllocError>
     requires { x < length plant.now.sections }
     ensures { IfOk result
-        (λ forms. map tree_of forms.items ≡ definitions.head_conditions plant.now x d y tail) }
+        (λ forms. map tree_of forms.items ≡ definitions.head_move_conditions plant.now x d y tail) }
 {
     let train = Occupancy::Taken {
         dir: d,
@@ -38,12 +37,10 @@ fn may_go_on(
     let mut forms = Vec::new(alloc);
     forms.push(occupancy_is(plant, x, train))?;
     push_board_open_if_any(&mut forms, plant, x, d)?;
-    push_leads_towards(&mut forms, plant, x, d, y)?;
+    push_leg_set_if_facing(&mut forms, plant, x, d, y)?;
     Ok(forms)
 }
 
-// Returns the settings of `head x` for a train in direction `d` that moves to `y`, which then has
-// occupancy `there`.
 fn gone_on(
     alloc: Global,
     plant: &Plant,
@@ -55,7 +52,8 @@ fn gone_on(
 ) -> Result<Sets, AllocError>
     requires here { x < length plant.now.sections }
     requires ahead { y < length plant.now.sections }
-    ensures { IfOk result (λ sets. sets ≡ definitions.head_settings plant.now x d y tail there) }
+    ensures { IfOk result (λ sets. sets ≡
+        definitions.head_move_settings plant.now x d y tail there) }
 {
     let left = Occupancy::Taken {
         dir: d,
@@ -69,7 +67,7 @@ fn gone_on(
     Ok(sets)
 }
 
-// Adds the condition that `y` is free for a train from `x` in direction `d`.
+// Adds the condition that a train from `x` in direction `d` causes no hazard on `y`.
 fn push_free_from(
     alloc: Global,
     forms: &mut Vec<Form>,
@@ -100,7 +98,6 @@ fn not_free_from(alloc: Global, plant: &Plant, x: u32, d: Dir, y: u32) -> Result
     Ok(Form::Or(forms))
 }
 
-// Adds the rule of `head x` for a free `y`.
 fn push_head_free(
     alloc: Global,
     rules: &mut Rules,
@@ -116,9 +113,9 @@ fn push_head_free(
         (map plain_rule rules.new
         ≡ map plain_rule rules.old
         ++ settings.rule
-        (definitions.head_conditions plant.now x d y tail
+        (definitions.head_move_conditions plant.now x d y tail
         ++ definitions.no_hazard_for_train plant.now x d y)
-        (definitions.head_settings plant.now x d y tail (Taken d false true)) ∷ []) }
+        (definitions.head_move_settings plant.now x d y tail (Taken d false true)) ∷ []) }
 {
     let mut forms = may_go_on(alloc, plant, x, d, y, tail)?;
     push_free_from(alloc, &mut forms, plant, x, d, y)?;
@@ -131,7 +128,6 @@ fn push_head_free(
     push_rule(rules, forms, sets)
 }
 
-// Adds the rule of `head x` for a crash at `y`.
 fn push_head_crash(
     alloc: Global,
     rules: &mut Rules,
@@ -147,10 +143,10 @@ fn push_head_crash(
         (map plain_rule rules.new
         ≡ map plain_rule rules.old
         ++ settings.rule
-        (definitions.head_conditions plant.now x d y tail
+        (definitions.head_move_conditions plant.now x d y tail
         ++ any_of (trees_from_list (map negation (definitions.no_hazard_for_train plant.now x d y)))
         ∷ [])
-        (definitions.head_settings plant.now x d y tail Crash) ∷ []) }
+        (definitions.head_move_settings plant.now x d y tail Crash) ∷ []) }
 {
     let mut forms = may_go_on(alloc, plant, x, d, y, tail)?;
     forms.push(not_free_from(alloc, plant, x, d, y)?)?;
@@ -158,7 +154,6 @@ fn push_head_crash(
     push_rule(rules, forms, sets)
 }
 
-// Adds the rules of `head x` for trains in direction `d` that move to `y`.
 fn push_head_to(
     alloc: Global,
     rules: &mut Rules,
@@ -180,7 +175,6 @@ fn push_head_to(
     push_head_crash(alloc, rules, plant, x, d, y, false)
 }
 
-// Adds the rules of `head x` for trains in direction `d` that move to neighbour `i`, if it exists.
 fn push_head_at(
     alloc: Global,
     rules: &mut Rules,
@@ -223,8 +217,9 @@ fn push_head_in(
     Ok(())
 }
 
-/// Adds the rules of `head x`: in each direction, to each neighbour.
-pub fn push_head_rules(
+/// Adds to `rules` the rules of the event `head x`: for each direction and each neighbour of `x`,
+/// with and without a hazard.
+pub(crate) fn push_head_rules(
     alloc: Global,
     rules: &mut Rules,
     plant: &Plant,

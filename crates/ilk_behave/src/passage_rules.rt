@@ -13,11 +13,11 @@ ghost use Rattle.ilk_behave.specs.Settings as settings;
 ghost use Rattle.ilk_behave.specs.RouteRules as definitions;
 
 use crate::settings::{
-    push_rule, push_set_locks, push_set_point_locks, set_board, set_lock, set_mode, set_rel,
-    set_seen,
+    push_rule, push_set_locks, push_set_point_locks, set_board_aspect, set_mode,
+    set_released_count, set_section_lock, set_seen_count,
 };
 use ilk_ir::{Form, Rules, Sets};
-use ilk_layout::{lock_is, mode_is, no_train_at, rel_is, seen_is, train_at};
+use ilk_layout::{is_released_count, is_seen_count, lock_is, mode_is, no_train_at, train_at};
 use ilk_plant::{Aspect, Hold, Mode, Plant, Route, Row};
 use ilk_routes::last_of;
 use std::alloc::{AllocError, Global};
@@ -35,27 +35,25 @@ fn route_locked_or_occupied(alloc: Global, plant: &Plant, r: u32) -> Result<Form
     Ok(Form::Or(forms))
 }
 
-// Returns the conditions of `sense r` if `k` path sections are seen and the next is `x`.
 fn sense_forms(alloc: Global, plant: &Plant, r: u32, k: u8, x: u32) -> Result<Vec<Form>, AllocError>
     requires known { r < length plant.now.routes }
     requires section { x < length plant.now.sections }
     ensures { IfOk result (λ forms. map tree_of forms.items
         ≡ any_of (trees_from_list
         (conditions.mode_is r Locked ∷ conditions.mode_is r Occupied ∷ []))
-        ∷ conditions.seen_is r k
+        ∷ conditions.is_seen_count r k
         ∷ conditions.train_at plant.now x
         ∷ conditions.lock_is plant.now x LockedLock
         ∷ []) }
 {
     let mut forms = Vec::new(alloc);
     forms.push(route_locked_or_occupied(alloc, plant, r)?)?;
-    forms.push(seen_is(plant, r, k))?;
+    forms.push(is_seen_count(plant, r, k))?;
     forms.push(train_at(alloc, plant, x)?)?;
     forms.push(lock_is(plant, x, Hold::Locked))?;
     Ok(forms)
 }
 
-// Returns the settings of `sense r` if `k` path sections are seen and the next is `x`.
 fn sense_sets(
     alloc: Global,
     plant: &Plant,
@@ -68,23 +66,23 @@ fn sense_sets(
     requires section { x < length plant.now.sections }
     requires source { source < length plant.now.boards }
     requires place { k < MAX_PATH }
-    ensures { IfOk result (λ sets. sets ≡ settings.set_lock plant.now x UsedLock
-        ∷ settings.set_seen r (k + 1)
+    ensures { IfOk result (λ sets. sets ≡ settings.set_section_lock plant.now x UsedLock
+        ∷ settings.set_seen_count r (k + 1)
         ∷ settings.set_mode r Occupied
-        ∷ (if k == 0 then settings.set_board plant.now source Closed ∷ [] else [])) }
+        ∷ (if k == 0 then settings.set_board_aspect plant.now source Closed ∷ [] else [])) }
 {
     let mut sets = Row::new(alloc);
-    sets.push(set_lock(plant, x, Hold::Used))?;
-    sets.push(set_seen(plant, r, k + 1))?;
+    sets.push(set_section_lock(plant, x, Hold::Used))?;
+    sets.push(set_seen_count(plant, r, k + 1))?;
     sets.push(set_mode(plant, r, Mode::Occupied))?;
     if k == 0 {
-        sets.push(set_board(plant, source, Aspect::Closed))?;
+        sets.push(set_board_aspect(plant, source, Aspect::Closed))?;
     }
     Ok(sets)
 }
 
-/// Adds the rules of `sense r`, one for each index of its path.
-pub fn push_sense_rules(
+/// Adds to `rules` the rules of the event `sense r`: one for each section of the path of route `r`.
+pub(crate) fn push_sense_rules(
     alloc: Global,
     rules: &mut Rules,
     plant: &Plant,
@@ -106,7 +104,6 @@ pub fn push_sense_rules(
     Ok(())
 }
 
-// Returns the condition that `k` or more of the `n` path sections of route `r` are seen.
 fn seen_at_least(alloc: Global, plant: &Plant, r: u32, k: u8, n: u8) -> Result<Form, AllocError>
     requires known { r < length plant.now.routes }
     requires place { k ≤ n }
@@ -115,12 +112,11 @@ fn seen_at_least(alloc: Global, plant: &Plant, r: u32, k: u8, n: u8) -> Result<F
 {
     let mut forms = Vec::new(alloc);
     for more in 0..n + 1 - k {
-        forms.push(seen_is(plant, r, k + more))?;
+        forms.push(is_seen_count(plant, r, k + more))?;
     }
     Ok(Form::Or(forms))
 }
 
-// Returns the conditions of `release r` if `k` path sections are released and the next is `x`.
 fn release_forms(
     alloc: Global,
     plant: &Plant,
@@ -134,7 +130,7 @@ fn release_forms(
     requires path { n ≤ MAX_PATH }
     requires place { k + 2 ≤ n }
     ensures { IfOk result (λ forms. map tree_of forms.items ≡ conditions.mode_is r Occupied
-        ∷ conditions.rel_is r k
+        ∷ conditions.is_released_count r k
         ∷ definitions.seen_at_least r (k + 2) n
         ∷ conditions.no_train_at plant.now x
         ∷ conditions.lock_is plant.now x UsedLock
@@ -142,30 +138,31 @@ fn release_forms(
 {
     let mut forms = Vec::new(alloc);
     forms.push(mode_is(plant, r, Mode::Occupied))?;
-    forms.push(rel_is(plant, r, k))?;
+    forms.push(is_released_count(plant, r, k))?;
     forms.push(seen_at_least(alloc, plant, r, k + 2, n)?)?;
     forms.push(no_train_at(plant, x))?;
     forms.push(lock_is(plant, x, Hold::Used))?;
     Ok(forms)
 }
 
-// Returns the settings of `release r` if `k` path sections are released and the next is `x`.
 fn release_sets(alloc: Global, plant: &Plant, r: u32, k: u8, x: u32) -> Result<Sets, AllocError>
     requires known { r < length plant.now.routes }
     requires section { x < length plant.now.sections }
     requires place { k < MAX_PATH }
     ensures { IfOk result
         (λ sets. sets
-        ≡ settings.set_lock plant.now x FreeLock ∷ settings.set_rel r (k + 1) ∷ []) }
+        ≡ settings.set_section_lock plant.now x FreeLock ∷ settings.set_released_count r
+        (k + 1) ∷ []) }
 {
     let mut sets = Row::new(alloc);
-    sets.push(set_lock(plant, x, Hold::Free))?;
-    sets.push(set_rel(plant, r, k + 1))?;
+    sets.push(set_section_lock(plant, x, Hold::Free))?;
+    sets.push(set_released_count(plant, r, k + 1))?;
     Ok(sets)
 }
 
-/// Adds the rules of `release r`, one for each index of its path except the last.
-pub fn push_release_rules(
+/// Adds to `rules` the rules of the event `release r`: one for each section of the path of route
+/// `r` except the last.
+pub(crate) fn push_release_rules(
     alloc: Global,
     rules: &mut Rules,
     plant: &Plant,
@@ -192,17 +189,16 @@ fn finish_forms(alloc: Global, plant: &Plant, r: u32, n: u8) -> Result<Vec<Form>
     requires path { 0 < n }
     ensures { IfOk result
         (λ forms. map tree_of forms.items
-        ≡ conditions.mode_is r Occupied ∷ conditions.seen_is r n
-        ∷ conditions.rel_is r (n - 1) ∷ []) }
+        ≡ conditions.mode_is r Occupied ∷ conditions.is_seen_count r n
+        ∷ conditions.is_released_count r (n - 1) ∷ []) }
 {
     let mut forms = Vec::new(alloc);
     forms.push(mode_is(plant, r, Mode::Occupied))?;
-    forms.push(seen_is(plant, r, n))?;
-    forms.push(rel_is(plant, r, n - 1))?;
+    forms.push(is_seen_count(plant, r, n))?;
+    forms.push(is_released_count(plant, r, n - 1))?;
     Ok(forms)
 }
 
-// Returns the settings of `finish r`, if `x` is the last path section.
 fn finish_sets(
     alloc: Global,
     plant: &Plant,
@@ -216,22 +212,22 @@ fn finish_sets(
     ensures { IfOk result (λ sets. sets
         ≡ settings.set_locks plant.now (x ∷ sections_outside_path route.now) FreeLock
         ++ settings.set_mode r Free
-        ∷ settings.set_seen r 0
-        ∷ settings.set_rel r 0
+        ∷ settings.set_seen_count r 0
+        ∷ settings.set_released_count r 0
         ∷ []) }
 {
     let mut sets = Row::new(alloc);
-    sets.push(set_lock(plant, x, Hold::Free))?;
+    sets.push(set_section_lock(plant, x, Hold::Free))?;
     push_set_locks(&mut sets, plant, &route.overlap, Hold::Free)?;
     push_set_point_locks(&mut sets, plant, &route.protecting_points, Hold::Free)?;
     sets.push(set_mode(plant, r, Mode::Free))?;
-    sets.push(set_seen(plant, r, 0))?;
-    sets.push(set_rel(plant, r, 0))?;
+    sets.push(set_seen_count(plant, r, 0))?;
+    sets.push(set_released_count(plant, r, 0))?;
     Ok(sets)
 }
 
-/// Adds the rule of `finish r`.
-pub fn push_finish_rules(
+/// Adds to `rules` the rule of the event `finish r`.
+pub(crate) fn push_finish_rules(
     alloc: Global,
     rules: &mut Rules,
     plant: &Plant,

@@ -19,7 +19,6 @@ use ilk_plant::{Lie, Plant, Position, Row};
 use ilk_routes::lie_from_position;
 use std::alloc::{AllocError, Global};
 
-// Returns the condition that point `n` is not both detected in `position` and commanded to it.
 fn lies_or_is_commanded_elsewhere(
     alloc: Global,
     plant: &Plant,
@@ -43,7 +42,6 @@ fn lies_or_is_commanded_elsewhere(
     Ok(Form::Or(forms))
 }
 
-// Returns the conditions that point `n` is not moving and is not in its commanded position.
 fn lies_elsewhere(alloc: Global, plant: &Plant, n: u32) -> Result<Vec<Form>, AllocError>
     requires { n < point_count plant.now }
     ensures { IfOk result
@@ -56,7 +54,6 @@ fn lies_elsewhere(alloc: Global, plant: &Plant, n: u32) -> Result<Vec<Form>, All
     Ok(forms)
 }
 
-// Adds the rule of throw for a point without train.
 fn push_throw_clear(
     alloc: Global,
     rules: &mut Rules,
@@ -81,7 +78,6 @@ fn push_throw_clear(
     push_rule(rules, forms, sets)
 }
 
-// Adds the rule of throw for a point under a train.
 fn push_throw_under_train(
     alloc: Global,
     rules: &mut Rules,
@@ -108,8 +104,8 @@ fn push_throw_under_train(
     push_rule(rules, forms, sets)
 }
 
-/// Adds the rules of `throw x`, or none if `x` has no point.
-pub fn push_throw_rules(
+/// Adds to `rules` the rules of the event `throw x`; none if section `x` has no point.
+pub(crate) fn push_throw_rules(
     alloc: Global,
     rules: &mut Rules,
     plant: &Plant,
@@ -127,7 +123,6 @@ pub fn push_throw_rules(
     Ok(())
 }
 
-// Adds the rule of settle for a point `n` that is commanded to `position`.
 fn push_settle_at(
     alloc: Global,
     rules: &mut Rules,
@@ -153,8 +148,8 @@ fn push_settle_at(
     push_rule(rules, forms, sets)
 }
 
-/// Adds the rules of `settle x`, or none if `x` has no point.
-pub fn push_settle_rules(
+/// Adds to `rules` the rules of the event `settle x`; none if section `x` has no point.
+pub(crate) fn push_settle_rules(
     alloc: Global,
     rules: &mut Rules,
     plant: &Plant,

@@ -14,20 +14,21 @@ ghost use Rattle.ilk_behave.specs.Settings as settings;
 ghost use Rattle.ilk_behave.specs.RouteRules as definitions;
 
 use crate::guards::{
-    push_detected_as_listed, push_free_and_vacant, push_not_alloc_or_locked,
+    push_detected_as_listed, push_free_and_vacant, push_none_alloc_or_locked,
     push_points_free_vacant,
 };
 use crate::settings::{
-    push_commands, push_rule, push_set_locks, push_set_point_locks, set_board, set_mode,
+    push_commands_as_listed, push_rule, push_set_locks, push_set_point_locks, set_board_aspect,
+    set_mode,
 };
 use ilk_ir::{Form, Rules, Sets};
-use ilk_layout::{board_is, mode_is, negated};
+use ilk_layout::{is_board_aspect, mode_is, negated};
 use ilk_plant::{Aspect, Hold, Mode, Plant, Route, Row};
 use ilk_routes::is_protecting_board;
 use std::alloc::{AllocError, Global};
 
-/// Adds the rule of `mark r`.
-pub fn push_mark_rules(
+/// Adds to `rules` the rule of the event `mark r`.
+pub(crate) fn push_mark_rules(
     alloc: Global,
     rules: &mut Rules,
     plant: &Plant,
@@ -61,14 +62,13 @@ fn allocate_forms(
 {
     let mut forms = Vec::new(alloc);
     forms.push(mode_is(plant, r, Mode::Marked))?;
-    push_not_alloc_or_locked(alloc, &mut forms, plant, &route.conflicts)?;
+    push_none_alloc_or_locked(alloc, &mut forms, plant, &route.conflicts)?;
     push_free_and_vacant(&mut forms, plant, &route.path)?;
     push_free_and_vacant(&mut forms, plant, &route.overlap)?;
     push_points_free_vacant(&mut forms, plant, &route.protecting_points)?;
     Ok(forms)
 }
 
-// Adds the settings of the locks of the route's path, overlap and protecting points.
 fn push_all_locks(
     sets: &mut Sets,
     plant: &Plant,
@@ -97,13 +97,13 @@ fn allocate_sets(alloc: Global, plant: &Plant, r: u32, route: &Route) -> Result<
     let mut sets = Row::new(alloc);
     sets.push(set_mode(plant, r, Mode::Allocating))?;
     push_all_locks(&mut sets, plant, route, Hold::Locked)?;
-    push_commands(&mut sets, plant, &route.points)?;
-    push_commands(&mut sets, plant, &route.protecting_points)?;
+    push_commands_as_listed(&mut sets, plant, &route.points)?;
+    push_commands_as_listed(&mut sets, plant, &route.protecting_points)?;
     Ok(sets)
 }
 
-/// Adds the rule of `allocate r`.
-pub fn push_allocate_rules(
+/// Adds to `rules` the rule of the event `allocate r`.
+pub(crate) fn push_allocate_rules(
     alloc: Global,
     rules: &mut Rules,
     plant: &Plant,
@@ -120,16 +120,15 @@ pub fn push_allocate_rules(
     push_rule(rules, forms, sets)
 }
 
-// Adds the condition that each board is Closed.
 fn push_closed(forms: &mut Vec<Form>, plant: &Plant, boards: &Row<u32>) -> Result<(), AllocError>
     requires { All (λ m. m < length plant.now.boards) boards.now }
     ensures { OnOk result
         (map tree_of forms.new.items
         ≡ map tree_of forms.old.items
-        ++ map (λ m. conditions.board_is plant.now m Closed) boards.now) }
+        ++ map (λ m. conditions.is_board_aspect plant.now m Closed) boards.now) }
 {
     for m in boards.as_slice() {
-        forms.push(board_is(plant, *m, Aspect::Closed))?;
+        forms.push(is_board_aspect(plant, *m, Aspect::Closed))?;
     }
     Ok(())
 }
@@ -153,7 +152,6 @@ fn push_not_locked_if(
     Ok(())
 }
 
-// Adds the condition that no route with protecting board `m` is Locked.
 fn push_no_protector_locked(
     alloc: Global,
     forms: &mut Vec<Form>,
@@ -176,8 +174,8 @@ fn lock_forms(alloc: Global, plant: &Plant, r: u32, route: &Route) -> Result<Vec
     requires known { r < length plant.now.routes }
     requires route { IsValidRouteOf plant.now route.now }
     ensures { IfOk result (λ forms. map tree_of forms.items ≡ conditions.mode_is r Allocating
-        ∷ map (conditions.listed_is_detected plant.now) (required_points route.now)
-        ++ map (λ m. conditions.board_is plant.now m Closed) route.now.protecting_boards
+        ∷ map (conditions.is_listed_point_detected plant.now) (required_points route.now)
+        ++ map (λ m. conditions.is_board_aspect plant.now m Closed) route.now.protecting_boards
         ++ map (λ q. negation (conditions.mode_is q Locked))
         (definitions.routes_protected_by plant.now route.now.source)) }
 {
@@ -190,8 +188,8 @@ fn lock_forms(alloc: Global, plant: &Plant, r: u32, route: &Route) -> Result<Vec
     Ok(forms)
 }
 
-/// Adds the rule of `lock r`.
-pub fn push_lock_rules(
+/// Adds to `rules` the rule of the event `lock r`.
+pub(crate) fn push_lock_rules(
     alloc: Global,
     rules: &mut Rules,
     plant: &Plant,
@@ -206,7 +204,7 @@ pub fn push_lock_rules(
     let forms = lock_forms(alloc, plant, r, route)?;
     let mut sets = Row::new(alloc);
     sets.push(set_mode(plant, r, Mode::Locked))?;
-    sets.push(set_board(plant, route.source, Aspect::Open))?;
+    sets.push(set_board_aspect(plant, route.source, Aspect::Open))?;
     push_rule(rules, forms, sets)
 }
 
@@ -255,8 +253,9 @@ fn push_cancel_allocating(
     push_rule(rules, forms, sets)
 }
 
-/// Adds the rules of `cancel r`.
-pub fn push_cancel_rules(
+/// Adds to `rules` the rules of the event `cancel r`: one if `r` is Marked, one if it is
+/// Allocating.
+pub(crate) fn push_cancel_rules(
     alloc: Global,
     rules: &mut Rules,
     plant: &Plant,

@@ -8,13 +8,13 @@ use ilk_ir::{Form, Rule, Rules, Sets, Setting};
 use ilk_layout::{
     Occupancy, aspect_value, board_var, commanded_value, commanded_var, detected_value,
     detected_var, lock_value, lock_var, mode_value, mode_var, occupancy_value, occupancy_var,
-    rel_var, seen_var,
+    released_count_var, seen_count_var,
 };
 use ilk_plant::{Aspect, Dir, Hold, Lie, Listed, Mode, Plant, Position, Row, point_number_at};
 use std::alloc::AllocError;
 
-/// Adds the rule that makes the settings `sets` if all `forms` hold.
-pub fn push_rule(rules: &mut Rules, forms: Vec<Form>, sets: Sets) -> Result<(), AllocError>
+/// Adds to `rules` the rule that, if all conditions `forms` hold, makes the settings `sets`.
+pub(crate) fn push_rule(rules: &mut Rules, forms: Vec<Form>, sets: Sets) -> Result<(), AllocError>
     ensures { OnOk result
         (map plain_rule rules.new
         ≡ map plain_rule rules.old ++ settings.rule (map tree_of forms.items) sets ∷ []) }
@@ -25,8 +25,8 @@ pub fn push_rule(rules: &mut Rules, forms: Vec<Form>, sets: Sets) -> Result<(), 
     })
 }
 
-/// Returns the setting that puts route `r` in `mode`.
-pub fn set_mode(plant: &Plant, r: u32, mode: Mode) -> Setting
+/// Returns the setting that makes `mode` the mode of route `r`.
+pub(crate) fn set_mode(plant: &Plant, r: u32, mode: Mode) -> Setting
     requires { r < length plant.now.routes }
     ensures { result ≡ settings.set_mode r mode }
 {
@@ -36,30 +36,31 @@ pub fn set_mode(plant: &Plant, r: u32, mode: Mode) -> Setting
     }
 }
 
-/// Returns the setting of route `r`'s number of seen path sections.
-pub fn set_seen(plant: &Plant, r: u32, count: u8) -> Setting
+/// Returns the setting that makes `count` the number of path sections of route `r` that trains have
+/// entered.
+pub(crate) fn set_seen_count(plant: &Plant, r: u32, count: u8) -> Setting
     requires { r < length plant.now.routes }
-    ensures { result ≡ settings.set_seen r count }
+    ensures { result ≡ settings.set_seen_count r count }
 {
     Setting {
-        var: seen_var(plant, r),
+        var: seen_count_var(plant, r),
         value: count,
     }
 }
 
-/// Returns the setting of route `r`'s number of released path sections.
-pub fn set_rel(plant: &Plant, r: u32, count: u8) -> Setting
+/// Returns the setting that makes `count` the number of released path sections of route `r`.
+pub(crate) fn set_released_count(plant: &Plant, r: u32, count: u8) -> Setting
     requires { r < length plant.now.routes }
-    ensures { result ≡ settings.set_rel r count }
+    ensures { result ≡ settings.set_released_count r count }
 {
     Setting {
-        var: rel_var(plant, r),
+        var: released_count_var(plant, r),
         value: count,
     }
 }
 
-/// Returns the setting of point `n`'s detected position.
-pub fn set_detected(plant: &Plant, n: u32, lie: Lie) -> Setting
+/// Returns the setting that makes `lie` the detected position of point number `n`.
+pub(crate) fn set_detected(plant: &Plant, n: u32, lie: Lie) -> Setting
     requires { n < point_count plant.now }
     ensures { result ≡ settings.set_detected plant.now n lie }
 {
@@ -69,8 +70,8 @@ pub fn set_detected(plant: &Plant, n: u32, lie: Lie) -> Setting
     }
 }
 
-/// Returns the setting that makes `position` the commanded position of point `n`.
-pub fn set_commanded(plant: &Plant, n: u32, position: Position) -> Setting
+/// Returns the setting that makes `position` the commanded position of point number `n`.
+pub(crate) fn set_commanded(plant: &Plant, n: u32, position: Position) -> Setting
     requires { n < point_count plant.now }
     ensures { result ≡ settings.set_commanded plant.now n position }
 {
@@ -80,10 +81,10 @@ pub fn set_commanded(plant: &Plant, n: u32, position: Position) -> Setting
     }
 }
 
-/// Returns the setting of board `m`'s aspect.
-pub fn set_board(plant: &Plant, m: u32, aspect: Aspect) -> Setting
+/// Returns the setting that makes `aspect` the aspect of board `m`.
+pub(crate) fn set_board_aspect(plant: &Plant, m: u32, aspect: Aspect) -> Setting
     requires { m < length plant.now.boards }
-    ensures { result ≡ settings.set_board plant.now m aspect }
+    ensures { result ≡ settings.set_board_aspect plant.now m aspect }
 {
     Setting {
         var: board_var(plant, m),
@@ -91,10 +92,10 @@ pub fn set_board(plant: &Plant, m: u32, aspect: Aspect) -> Setting
     }
 }
 
-/// Returns the setting of section `x`'s lock.
-pub fn set_lock(plant: &Plant, x: u32, hold: Hold) -> Setting
+/// Returns the setting that makes `hold` the lock of section `x`.
+pub(crate) fn set_section_lock(plant: &Plant, x: u32, hold: Hold) -> Setting
     requires { x < length plant.now.sections }
-    ensures { result ≡ settings.set_lock plant.now x hold }
+    ensures { result ≡ settings.set_section_lock plant.now x hold }
 {
     Setting {
         var: lock_var(plant, x),
@@ -102,8 +103,8 @@ pub fn set_lock(plant: &Plant, x: u32, hold: Hold) -> Setting
     }
 }
 
-/// Returns the setting of section `x`'s occupancy.
-pub fn set_occupancy(plant: &Plant, x: u32, occupancy: Occupancy) -> Setting
+/// Returns the setting that makes `occupancy` the occupancy of section `x`.
+pub(crate) fn set_occupancy(plant: &Plant, x: u32, occupancy: Occupancy) -> Setting
     requires { x < length plant.now.sections }
     ensures { result ≡ settings.set_occupancy plant.now x occupancy }
 {
@@ -113,8 +114,8 @@ pub fn set_occupancy(plant: &Plant, x: u32, occupancy: Occupancy) -> Setting
     }
 }
 
-/// Adds the setting of each section's lock.
-pub fn push_set_locks(
+/// Adds to `sets` the settings that make `hold` the lock of each of `sections`.
+pub(crate) fn push_set_locks(
     sets: &mut Sets,
     plant: &Plant,
     sections: &Row<u32>,
@@ -125,13 +126,13 @@ pub fn push_set_locks(
         (sets.new ≡ sets.old ++ settings.set_locks plant.now sections.now hold) }
 {
     for x in sections.as_slice() {
-        sets.push(set_lock(plant, *x, hold))?;
+        sets.push(set_section_lock(plant, *x, hold))?;
     }
     Ok(())
 }
 
-/// Adds the setting of the lock of each point's section.
-pub fn push_set_point_locks(
+/// Adds to `sets` the settings that make `hold` the lock of each point's section.
+pub(crate) fn push_set_point_locks(
     sets: &mut Sets,
     plant: &Plant,
     points: &Row<Listed>,
@@ -144,7 +145,7 @@ pub fn push_set_point_locks(
         ++ settings.set_locks plant.now (map (λ listed. listed.point) points.now) hold) }
 {
     for listed in points.as_slice() {
-        sets.push(set_lock(plant, listed.point, hold))?;
+        sets.push(set_section_lock(plant, listed.point, hold))?;
     }
     Ok(())
 }
@@ -158,8 +159,12 @@ fn push_command(sets: &mut Sets, plant: &Plant, listed: &Listed) -> Result<(), A
     Ok(())
 }
 
-/// Adds the settings that command each point to its listed position.
-pub fn push_commands(sets: &mut Sets, plant: &Plant, points: &Row<Listed>) -> Result<(), AllocError>
+/// Adds to `sets` the settings that command each point to its listed position.
+pub(crate) fn push_commands_as_listed(
+    sets: &mut Sets,
+    plant: &Plant,
+    points: &Row<Listed>,
+) -> Result<(), AllocError>
     ensures { OnOk result
         (sets.new ≡ sets.old ++ flat_map (settings.command_as_listed plant.now) points.now) }
 {
@@ -169,8 +174,9 @@ pub fn push_commands(sets: &mut Sets, plant: &Plant, points: &Row<Listed>) -> Re
     Ok(())
 }
 
-/// Adds the setting that closes the board of `x` for direction `d`, if any.
-pub fn push_close_board_if_any(
+/// Adds to `sets` the setting that closes the board of section `x` for direction `d`, if there is
+/// one.
+pub(crate) fn push_close_board_if_any(
     sets: &mut Sets,
     plant: &Plant,
     x: u32,
@@ -180,7 +186,7 @@ pub fn push_close_board_if_any(
     ensures { OnOk result (sets.new ≡ sets.old ++ settings.close_board_if_any plant.now x d) }
 {
     if let Some(m) = plant.board_of(x, d) {
-        sets.push(set_board(plant, m, Aspect::Closed))?;
+        sets.push(set_board_aspect(plant, m, Aspect::Closed))?;
     }
     Ok(())
 }

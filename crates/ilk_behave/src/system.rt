@@ -1,8 +1,8 @@
 ghost use Rattle.std.specs.Prelude.{◌≡◌, ◌++◌, map, IfOk, IsTrue, OnOk};
 ghost use Rattle.ilk_ir.specs.System.{plain_rule, plain_system, system_valid};
-ghost use Rattle.ilk_behave.specs.Behaviour.{rules_of, system_of_plant};
+ghost use Rattle.ilk_behave.specs.Behaviour.{rules_of_event, system_of_plant};
 ghost use Rattle.std.specs.List.{flat_map};
-ghost use Rattle.ilk_behave.specs.Behaviour.{events_of};
+ghost use Rattle.ilk_behave.specs.Behaviour.{events_of_plant};
 ghost use Rattle.ilk_behave.specs.Numbered.{IsEventOfPlant, AreEventsOfPlant};
 ghost use Rattle.ilk_behave.specs.Steps.{SystemMatchesEvents};
 
@@ -30,7 +30,7 @@ fn push_rules_of(
 ) -> Result<(), AllocError>
     requires { IsEventOfPlant plant.now event }
     ensures { OnOk result
-        (map plain_rule rules.new ≡ map plain_rule rules.old ++ rules_of plant.now event) }
+        (map plain_rule rules.new ≡ map plain_rule rules.old ++ rules_of_event plant.now event) }
 {
     match event {
         Event::Mark(r) => push_mark_rules(alloc, rules, plant, r),
@@ -58,7 +58,7 @@ fn push_rules_of_all(
     requires { AreEventsOfPlant plant.now events.now }
     ensures { OnOk result
         (map plain_rule rules.new
-        ≡ map plain_rule rules.old ++ flat_map (rules_of plant.now) events.now) }
+        ≡ map plain_rule rules.old ++ flat_map (rules_of_event plant.now) events.now) }
 {
     for event in events {
         push_rules_of(alloc, rules, plant, *event)?;
@@ -66,10 +66,10 @@ fn push_rules_of_all(
     Ok(())
 }
 
-// Returns the rules of all events, route by route and then section by section.
 fn all_rules(alloc: Global, plant: &Plant) -> Result<Rules, AllocError>
     ensures { IfOk result
-        (λ rules. map plain_rule rules ≡ flat_map (rules_of plant.now) (events_of plant.now)) }
+        (λ rules. map plain_rule rules ≡ flat_map (rules_of_event plant.now)
+        (events_of_plant plant.now)) }
 {
     let mut rules = Row::new(alloc);
     for r in 0..plant.routes() {
@@ -81,8 +81,8 @@ fn all_rules(alloc: Global, plant: &Plant) -> Result<Rules, AllocError>
     Ok(rules)
 }
 
-/// Returns the behaviour of a plant as a finite system, which is valid and steps as the plant's
-/// events do. Fails only if memory runs out.
+/// Returns the finite system of a plant: its variables and the rules of its events. It is valid and
+/// steps as the events do. Fails only if memory runs out.
 pub fn behaviour(alloc: Global, plant: &Plant) -> Result<System, AllocError>
     ensures system { IfOk result (λ made. plain_system made ≡ system_of_plant plant.now) }
     ensures valid { IsTrue (system_valid (system_of_plant plant.now)) }

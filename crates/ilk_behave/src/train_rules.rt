@@ -5,15 +5,15 @@ ghost use Rattle.ilk_motion.specs.Trains.{has_neighbour};
 ghost use Rattle.ilk_layout.specs.declared.values.Occupancy.TheVariants.{Taken};
 ghost use Rattle.ilk_behave.specs.TrainRules as definitions;
 
-use crate::guards::push_leads_towards;
+use crate::guards::push_leg_set_if_facing;
 use crate::settings::{push_rule, set_occupancy};
 use ilk_ir::Rules;
 use ilk_layout::{Occupancy, lock_is, no_train_at, occupancy_is};
 use ilk_plant::{Dir, Hold, Plant, Row, Section};
 use std::alloc::{AllocError, Global};
 
-/// Adds the rule of `enter x`, or none if `x` is not a border.
-pub fn push_enter_rules(
+/// Adds to `rules` the rule of the event `enter x`; none if section `x` is not a border.
+pub(crate) fn push_enter_rules(
     alloc: Global,
     rules: &mut Rules,
     plant: &Plant,
@@ -40,8 +40,6 @@ pub fn push_enter_rules(
     Ok(())
 }
 
-// Adds the rule of `tail x` for trains in direction `d` whose next section is `y`; `head` says
-// whether their head is at `y`.
 fn push_tail_rule(
     alloc: Global,
     rules: &mut Rules,
@@ -54,8 +52,8 @@ fn push_tail_rule(
     requires here { x < length plant.now.sections }
     requires there { y < length plant.now.sections }
     ensures { OnOk result
-        (map plain_rule rules.new
-        ≡ map plain_rule rules.old ++ definitions.tail_rule plant.now x d y head ∷ []) }
+        (map plain_rule rules.new ≡ map plain_rule rules.old
+        ++ definitions.tail_rule_to_neighbour plant.now x d y head ∷ []) }
 {
     let mut forms = Vec::new(alloc);
     let before = Occupancy::Taken {
@@ -64,7 +62,7 @@ fn push_tail_rule(
         head: false,
     };
     forms.push(occupancy_is(plant, x, before))?;
-    push_leads_towards(&mut forms, plant, x, d, y)?;
+    push_leg_set_if_facing(&mut forms, plant, x, d, y)?;
     let next = Occupancy::Taken {
         dir: d,
         tail: false,
@@ -95,7 +93,7 @@ fn push_tail_to(
     ensures { OnOk result
         (map plain_rule rules.new
         ≡ map plain_rule rules.old
-        ++ map (definitions.tail_rule plant.now x d y) (true ∷ false ∷ [])) }
+        ++ map (definitions.tail_rule_to_neighbour plant.now x d y) (true ∷ false ∷ [])) }
 {
     push_tail_rule(alloc, rules, plant, x, d, y, true)?;
     push_tail_rule(alloc, rules, plant, x, d, y, false)
@@ -113,7 +111,7 @@ fn push_tail_in(
         (map plain_rule rules.new
         ≡ map plain_rule rules.old
         ++ flat_map
-        (λ y. map (definitions.tail_rule plant.now x d y) (true ∷ false ∷ []))
+        (λ y. map (definitions.tail_rule_to_neighbour plant.now x d y) (true ∷ false ∷ []))
         (next_to plant.now x d)) }
 {
     if let Some(y) = plant.neighbour(x, d, 0) {
@@ -125,8 +123,9 @@ fn push_tail_in(
     Ok(())
 }
 
-/// Adds the rules of `tail x`: in each direction, to each neighbour.
-pub fn push_tail_rules(
+/// Adds to `rules` the rules of the event `tail x`: for each direction and each neighbour of
+/// section `x`.
+pub(crate) fn push_tail_rules(
     alloc: Global,
     rules: &mut Rules,
     plant: &Plant,
@@ -141,7 +140,6 @@ pub fn push_tail_rules(
     push_tail_in(alloc, rules, plant, x, Dir::Down)
 }
 
-// Adds the rule of `leave x` for direction `d`, if `x` has no neighbour there.
 fn push_leave_in(
     alloc: Global,
     rules: &mut Rules,
@@ -155,7 +153,7 @@ fn push_leave_in(
     ensures { OnOk result
         (map plain_rule rules.new
         ≡ map plain_rule rules.old
-        ++ map (definitions.leave_rule plant.now x)
+        ++ map (definitions.leave_rule_in_direction plant.now x)
         (filter (λ e. not (has_neighbour section.now e)) (d ∷ []))) }
 {
     if section.nth_neighbour_on(d, 0).is_some() {
@@ -173,8 +171,9 @@ fn push_leave_in(
     push_rule(rules, forms, sets)
 }
 
-/// Adds the rules of `leave x`, one for each direction in which it has no neighbour.
-pub fn push_leave_rules(
+/// Adds to `rules` the rules of the event `leave x`: one for each direction in which section `x`
+/// has no neighbour.
+pub(crate) fn push_leave_rules(
     alloc: Global,
     rules: &mut Rules,
     plant: &Plant,

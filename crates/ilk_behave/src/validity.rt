@@ -2,17 +2,17 @@
 
 ghost use Rattle.std.specs.Prelude.{◌≤◌, length, IsTrue};
 ghost use Rattle.ilk_ir.specs.System.{system_valid};
-ghost use Rattle.ilk_behave.specs.Behaviour.{rules_of, system_of_plant};
+ghost use Rattle.ilk_behave.specs.Behaviour.{rules_of_event, system_of_plant};
 ghost use Rattle.ilk_behave.specs.declared.validity.TheConstants.{MAX_EVENT_RULES};
 ghost use Rattle.ilk_model.specs.declared.event.Event.{Event};
 
 use ilk_plant::Plant;
 
-/// The maximum number of rules of an event of one route or section.
+/// The maximum number of rules that a plant's system has for one event.
 pub const MAX_EVENT_RULES: u64 = 256;
 
 /// The system of a plant is valid: its rules test and set only existing variables, to values in
-/// range, and set none twice. Proof only; no run-time effect.
+/// range, and no rule sets a variable twice. Proof only; no run-time effect.
 pub fn system_is_valid(plant: &Plant)
     ensures { IsTrue (system_valid (system_of_plant plant.now)) }
 {
@@ -21,7 +21,7 @@ pub fn system_is_valid(plant: &Plant)
 
 /// No event has more than `MAX_EVENT_RULES` rules. Proof only; no run-time effect.
 pub fn each_event_has_few_rules(plant: &Plant)
-    ensures { (event : Event) → length (rules_of plant.now event) ≤ MAX_EVENT_RULES }
+    ensures { (event : Event) → length (rules_of_event plant.now event) ≤ MAX_EVENT_RULES }
 {
     plant.prove_is_plant();
 }

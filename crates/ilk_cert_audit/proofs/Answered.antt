@@ -2,7 +2,7 @@
 use Rattle.std.proofs.Common.{◌≡◌, ◌<◌, ◌≤◌, ◌^◌, inl, inr, true, false, length, refl, sym, ap, ◌∙◌, Option, Some, None}
 use Rattle.std.proofs.lemmas.Bool.{cases_Bool, true≢false}
 use Rattle.ilk_audit.specs.Audited.{AuditState}
-use Rattle.ilk_audit.specs.Taken.{after_step, answer_from_fault, fault_of, is_taken, step_answer}
+use Rattle.ilk_audit.specs.Taken.{after_step, answer_from_fault, why_step_not_derived, is_taken, step_answer}
 use Rattle.ilk_audit.specs.declared.taken.Taken.TheVariants.{Good, Closed, Bad}
 use Rattle.ilk_audit.specs.declared.taken.Why.{Why}
 use Rattle.ilk_audit.proofs.Derived.{taken_derived}
@@ -10,7 +10,7 @@ use Rattle.ilk_lines.specs.Lines.{Bytes}
 use Rattle.ilk_log.specs.declared.step.Step.{Step as LogStep}
 use Rattle.ilk_log.specs.Derived.{is_derived, is_empty_clause}
 use Rattle.ilk_log.specs.StepText.{has_writable_numbers, step_text}
-use Rattle.ilk_cert_audit.specs.Stages.{IsDerivedStepLine, IsStepLineOfKind, ReadsAsStep}
+use Rattle.ilk_cert_audit.specs.Stages.{IsDerivedStepLine, IsStepLineOfKind, IsLineOfSingleStep}
 use Rattle.ilk_cert_audit.specs.declared.next.Line.TheVariants as line
 use Rattle.ilk_cert_audit.proofs.Numbers.{derived-numbers}
 
@@ -32,7 +32,7 @@ closed-empty s None e = elim (cases_Bool (is_empty_clause s.clause)) [
   | inr f ↦ absurd (let z : Good ≡ Closed = rw f at e in cc)
 ]
 
-abbrev following : (a new : AuditState) (text : Bytes) (t : LogStep) → IsFew a → ReadsAsStep text t → is_taken (step_answer a t) ≡ true → new ≡ after_step a t → IsDerivedStepLine text a new
+abbrev following : (a new : AuditState) (text : Bytes) (t : LogStep) → IsFew a → IsLineOfSingleStep text t → is_taken (step_answer a t) ≡ true → new ≡ after_step a t → IsDerivedStepLine text a new
 following a new text t few read taken after = record {
   step = t;
   own = read.own;
@@ -41,13 +41,13 @@ following a new text t few read taken after = record {
   after = after ∙ rw taken refl;
 }
 
-pub good_follows : (a new : AuditState) (text : Bytes) (t : LogStep) → IsFew a → ReadsAsStep text t → Good ≡ step_answer a t → new ≡ after_step a t → IsStepLineOfKind text a new line.Follows
-good_follows a new text t few read e after = (following a new text t few read (ap is_taken (sym e)) after, good-open t (fault_of a.vars a.clauses t) (sym e))
+pub good_follows : (a new : AuditState) (text : Bytes) (t : LogStep) → IsFew a → IsLineOfSingleStep text t → Good ≡ step_answer a t → new ≡ after_step a t → IsStepLineOfKind text a new line.Follows
+good_follows a new text t few read e after = (following a new text t few read (ap is_taken (sym e)) after, good-open t (why_step_not_derived a.vars a.clauses t) (sym e))
 
-pub closed_closes : (a new : AuditState) (text : Bytes) (t : LogStep) → IsFew a → ReadsAsStep text t → Closed ≡ step_answer a t → new ≡ after_step a t → IsStepLineOfKind text a new line.Closes
-closed_closes a new text t few read e after = (following a new text t few read (ap is_taken (sym e)) after, closed-empty t (fault_of a.vars a.clauses t) (sym e))
+pub closed_closes : (a new : AuditState) (text : Bytes) (t : LogStep) → IsFew a → IsLineOfSingleStep text t → Closed ≡ step_answer a t → new ≡ after_step a t → IsStepLineOfKind text a new line.Closes
+closed_closes a new text t few read e after = (following a new text t few read (ap is_taken (sym e)) after, closed-empty t (why_step_not_derived a.vars a.clauses t) (sym e))
 
-pub bad_is : (a new : AuditState) (text : Bytes) (t : LogStep) (why : Why) → IsFew a → ReadsAsStep text t → Bad why ≡ step_answer a t → IsStepLineOfKind text a new line.Bad
+pub bad_is : (a new : AuditState) (text : Bytes) (t : LogStep) (why : Why) → IsFew a → IsLineOfSingleStep text t → Bad why ≡ step_answer a t → IsStepLineOfKind text a new line.Bad
 bad_is a new text t why few read e u own d =
     let same = read.only u own (derived-numbers a.vars a.clauses u few.vars few.clauses d) in
     true≢false (sym d ∙ ap (is_derived a.vars a.clauses) (sym same) ∙ sym (taken_derived a t) ∙ ap is_taken (sym e))

@@ -8,7 +8,7 @@ use Rattle.ilk_unroll.specs.declared.queries.Wanted.{Wanted}
 use Rattle.ilk_unroll.specs.Goal.{PlainGoal}
 use Rattle.ilk_unroll.specs.Query.{query_formula}
 use Rattle.ilk_certificate.specs.Certificate.{certified_queries}
-use Rattle.ilk_cert_audit.specs.Grammar.{CertificateLines, IfElse, QueryLines, StepLines, LinesAfterHeader}
+use Rattle.ilk_cert_audit.specs.Grammar.{CertificateLines, IfElse, QueriesLinesAndEnd, StepLines, LinesAfterHeader}
 
 take-none : (m : ℕ) → take m (let xs : List Bytes = [] in xs) ≡ []
 take-none zero = refl
@@ -30,7 +30,7 @@ cut-steps may n clauses After Cut cut (line ∷ lines) (suc m) h = (h.0, h.1, h.
     by_end true more after = cut lines m after
     by_end false more after = more after
 
-cut-queries : (may : Bool) (s : PlainSystem) (g : PlainGoal) (qs : List Wanted) (lines : List Bytes) (m : ℕ) → QueryLines may s g qs lines → QueryLines true s g qs (take m lines)
+cut-queries : (may : Bool) (s : PlainSystem) (g : PlainGoal) (qs : List Wanted) (lines : List Bytes) (m : ℕ) → QueriesLinesAndEnd may s g qs lines → QueriesLinesAndEnd true s g qs (take m lines)
 cut-queries may s g [] [] zero h = refl
 cut-queries may s g [] [] (suc m) h = refl
 cut-queries may s g [] (line ∷ lines) zero h = refl
@@ -39,7 +39,7 @@ cut-queries may s g (q ∷ qs) [] zero h = refl
 cut-queries may s g (q ∷ qs) [] (suc m) h = refl
 cut-queries may s g (q ∷ qs) (line ∷ lines) zero h = refl
 cut-queries may s g (q ∷ qs) (line ∷ lines) (suc m) h =
-    (h.0, cut-steps may (query_formula s g q).vars (query_formula s g q).clauses (QueryLines may s g qs) (QueryLines true s g qs) (λ more i after. cut-queries may s g qs more i after) lines m h.1)
+    (h.0, cut-steps may (query_formula s g q).vars (query_formula s g q).clauses (QueriesLinesAndEnd may s g qs) (QueriesLinesAndEnd true s g qs) (λ more i after. cut-queries may s g qs more i after) lines m h.1)
 
 cut-told : (may : Bool) (s : PlainSystem) (g : PlainGoal) (k : ℕ) (lines : List Bytes) (m : ℕ) → LinesAfterHeader may s g k lines → LinesAfterHeader true s g k (take m lines)
 cut-told may s g k [] zero h = refl

@@ -16,9 +16,9 @@ use Rattle.ilk_unroll.specs.declared.queries.Wanted.{Wanted}
 use Rattle.ilk_unroll.specs.declared.queries.Wanted.TheVariants as wanted
 use Rattle.ilk_unroll.specs.Goal.{PlainGoal}
 use Rattle.ilk_audit.specs.Audited.{AuditState}
-use Rattle.ilk_certificate.specs.Certificate.{base_queries, certified_queries}
-use Rattle.ilk_cert_audit.specs.Grammar.{IfElse, QueryLines, safe_line, StepLines, LinesAfterHeader}
-use Rattle.ilk_cert_audit.specs.Stages.{IsStepLineOfKind, is_valid_k, IsNextStage, queries_after, queries_from}
+use Rattle.ilk_certificate.specs.Certificate.{hazard_and_breach_queries, certified_queries}
+use Rattle.ilk_cert_audit.specs.Grammar.{IfElse, QueriesLinesAndEnd, safe_line, StepLines, LinesAfterHeader}
+use Rattle.ilk_cert_audit.specs.Stages.{IsStepLineOfKind, is_valid_k, IsNextStage, certified_queries_after, certified_queries_from_next}
 use Rattle.ilk_cert_audit.specs.declared.next.Line.TheVariants.{Bad, Closes, Follows}
 use Rattle.ilk_cert_audit.specs.declared.stage.Stage.TheVariants.{Told, Between, Within, Ended}
 
@@ -30,19 +30,19 @@ safe-same k m hk hm e =
     let d : decimal k ≡ decimal m = append_cancel_left (codes "safe ") (decimal k) (decimal m) e in
     same_Some k m (sym (decimal_back 16 k (omega arith) hk) ∙ ap (decimal_up_to 16) d ∙ decimal_back 16 m (omega arith) hm)
 
-pub certified-first : (k : ℕ) → certified_queries k ≡ queries_from k (Some (wanted.Hazard 0))
+pub certified-first : (k : ℕ) → certified_queries k ≡ certified_queries_from_next k (Some (wanted.Hazard 0))
 certified-first k =
     let more : range_with_len 0 (k + 1) ≡ 0 ∷ range_with_len 1 k = ap (range_with_len 0) (add-one k) in
     let rest : k - 0 ≡ k = omega arith in
-    ap (λ (ns : List ℕ). flat_map base_queries ns ++ wanted.Step k ∷ []) more
-    ∙ ap (λ n. wanted.Hazard 0 ∷ (wanted.Breach 0 ∷ (flat_map base_queries (range_with_len 1 n) ++ wanted.Step k ∷ []))) (sym rest)
+    ap (λ (ns : List ℕ). flat_map hazard_and_breach_queries ns ++ wanted.Step k ∷ []) more
+    ∙ ap (λ n. wanted.Hazard 0 ∷ (wanted.Breach 0 ∷ (flat_map hazard_and_breach_queries (range_with_len 1 n) ++ wanted.Step k ∷ []))) (sym rest)
 
 pub next-told : (s : PlainSystem) (g : PlainGoal) (line : Bytes) (m : ℕ) → line ≡ safe_line m → is_valid_k m ≡ true → IsNextStage s g Told line (Some (Between m (Some (wanted.Hazard 0))))
 next-told s g line m e num may k lines =
     let p = number-parts m num in
-    let Q : List Wanted → Type 0 = λ qs. QueryLines may s g qs lines in (
+    let Q : List Wanted → Type 0 = λ qs. QueriesLinesAndEnd may s g qs lines in (
       λ h. (let same = safe-same k m h.2 p.1 (sym h.0 ∙ e) in
-          let K : ℕ → Type 0 = λ n. QueryLines may s g (certified_queries n) lines in
+          let K : ℕ → Type 0 = λ n. QueriesLinesAndEnd may s g (certified_queries n) lines in
           (same, subst Q (certified-first m) (subst K same h.3))),
       λ h. (let K : ℕ → Type 0 = λ n. LinesAfterHeader may s g n (line ∷ lines) in
           subst K (sym h.0) (e, p.0, p.1, subst Q (sym (certified-first m)) h.1)),
@@ -58,7 +58,7 @@ pub next-good : (s : PlainSystem) (g : PlainGoal) (m : ℕ) (q : Wanted) (a new 
 next-good s g m q a new line taken may k lines =
     let f = taken.0 in
     let t = f.step in
-    let After : List Bytes → Type 0 = QueryLines may s g (queries_after m q) in
+    let After : List Bytes → Type 0 = QueriesLinesAndEnd may s g (certified_queries_after m q) in
     let Rest : LogStep → Type 0 = λ u. IfElse (is_empty_clause u.clause) (After lines) (StepLines may a.vars (a.clauses ++ u.clause ∷ []) After lines) in
     let B : Bool → Type 0 = λ b. IfElse b (After lines) (StepLines may a.vars (a.clauses ++ t.clause ∷ []) After lines) in
     let A : AuditState → Type 0 = λ x. StepLines may x.vars x.clauses After lines in (
@@ -69,20 +69,20 @@ next-good s g m q a new line taken may k lines =
 pub next-closed :
     (s : PlainSystem) (g : PlainGoal) (m : ℕ) (q : Wanted) (next : Option Wanted) (a new : AuditState)
     (line : Bytes) →
-    IsStepLineOfKind line a new Closes → queries_from m next ≡ queries_after m q →
+    IsStepLineOfKind line a new Closes → certified_queries_from_next m next ≡ certified_queries_after m q →
     IsNextStage s g (Within m q a) line (Some (Between m next))
 next-closed s g m q next a new line taken left may k lines =
     let f = taken.0 in
     let t = f.step in
-    let After : List Bytes → Type 0 = QueryLines may s g (queries_after m q) in
+    let After : List Bytes → Type 0 = QueriesLinesAndEnd may s g (certified_queries_after m q) in
     let Rest : LogStep → Type 0 = λ u. IfElse (is_empty_clause u.clause) (After lines) (StepLines may a.vars (a.clauses ++ u.clause ∷ []) After lines) in
     let B : Bool → Type 0 = λ b. IfElse b (After lines) (StepLines may a.vars (a.clauses ++ t.clause ∷ []) After lines) in
-    let Q : List Wanted → Type 0 = λ qs. QueryLines may s g qs lines in (
+    let Q : List Wanted → Type 0 = λ qs. QueriesLinesAndEnd may s g qs lines in (
       λ h. (let same = f.only h.1.0 h.1.1 h.1.2 in (h.0, subst Q (sym left) (subst B taken.1 (subst Rest (sym same) h.1.3)))),
       λ h. (h.0, (t, f.own, f.derived, subst B (sym taken.1) (subst Q left h.1))),
     )
 
-pub after-breach : (k n : ℕ) → n < k → queries_from k (Some (wanted.Hazard (n + 1))) ≡ queries_after k (wanted.Breach n)
+pub after-breach : (k n : ℕ) → n < k → certified_queries_from_next k (Some (wanted.Hazard (n + 1))) ≡ certified_queries_after k (wanted.Breach n)
 after-breach k n lt =
     let one : k - n ≡ suc (k - (n + 1)) = omega (arith, lt) in
-    ap (λ i. flat_map base_queries (range_with_len (n + 1) i) ++ wanted.Step k ∷ []) (sym one)
+    ap (λ i. flat_map hazard_and_breach_queries (range_with_len (n + 1) i) ++ wanted.Step k ∷ []) (sym one)

@@ -15,10 +15,10 @@ use Rattle.ilk_log.specs.StepText.{step_text}
 use Rattle.ilk_unroll.specs.declared.queries.Wanted.{Wanted}
 use Rattle.ilk_unroll.specs.Goal.{PlainGoal}
 use Rattle.ilk_unroll.specs.Query.{query_formula}
-use Rattle.ilk_certificate.specs.Certificate.{certified_queries, IsCertificate, IsRefuted}
+use Rattle.ilk_certificate.specs.Certificate.{certified_queries, IsCertificateText, IsRefuted}
 use Rattle.ilk_certificate.specs.CertificateText.{query_and_log_lines, certificate_lines, query_header_line}
 use Rattle.ilk_certificate.specs.declared.asked.Asked.{Asked}
-use Rattle.ilk_cert_audit.specs.Grammar.{CertificateLines, IfElse, QueryLines, safe_line, StepLines}
+use Rattle.ilk_cert_audit.specs.Grammar.{CertificateLines, IfElse, QueriesLinesAndEnd, safe_line, StepLines}
 use Rattle.ilk_cert_audit.proofs.Plain.{certificate-plain}
 
 abbrev pub refuted_by : PlainSystem → PlainGoal → Asked → Type 0
@@ -79,12 +79,12 @@ steps-back n clauses After (line ∷ lines) h = by_end (is_empty_clause h.0.clau
           after = r.after;
         })
 
-queries-lines : (s : PlainSystem) (g : PlainGoal) (asked : List Asked) → All (refuted_by s g) asked → QueryLines false s g (map (λ (a : Asked). a.query) asked) (flat_map query_and_log_lines asked ++ codes "end" ∷ [])
+queries-lines : (s : PlainSystem) (g : PlainGoal) (asked : List Asked) → All (refuted_by s g) asked → QueriesLinesAndEnd false s g (map (λ (a : Asked). a.query) asked) (flat_map query_and_log_lines asked ++ codes "end" ∷ [])
 queries-lines s g [] refuted = (refl, refl)
 queries-lines s g (a ∷ asked) refuted =
     let f = query_formula s g a.query in
     let rest = flat_map query_and_log_lines asked ++ codes "end" ∷ [] in
-    let After : List Bytes → Type 0 = QueryLines false s g (map (λ (b : Asked). b.query) asked) in
+    let After : List Bytes → Type 0 = QueriesLinesAndEnd false s g (map (λ (b : Asked). b.query) asked) in
     let p = and_parts (each_derived f.vars f.clauses a.log) (only_last_clause_is_empty a.log) (refuted zero a (omega arith)) in
     let more = queries-lines s g asked (λ k d within. refuted (suc k) d (omega arith)) in
     let P : List Bytes → Type 0 = λ xs. StepLines false f.vars f.clauses After xs in
@@ -96,7 +96,7 @@ record Asking (s : PlainSystem) (g : PlainGoal) (qs : List Wanted) (lines : List
   refuted : All (refuted_by s g) asked
   same : lines ≡ flat_map query_and_log_lines asked ++ codes "end" ∷ []
 
-queries-back : (s : PlainSystem) (g : PlainGoal) (qs : List Wanted) (lines : List Bytes) → QueryLines false s g qs lines → Asking s g qs lines
+queries-back : (s : PlainSystem) (g : PlainGoal) (qs : List Wanted) (lines : List Bytes) → QueriesLinesAndEnd false s g qs lines → Asking s g qs lines
 queries-back s g [] [] h = absurd (cc)
 queries-back s g [] (line ∷ lines) h = record {
   asked = [];
@@ -107,7 +107,7 @@ queries-back s g [] (line ∷ lines) h = record {
 queries-back s g (q ∷ qs) [] h = absurd (cc)
 queries-back s g (q ∷ qs) (line ∷ lines) h =
     let f = query_formula s g q in
-    let r = steps-back f.vars f.clauses (QueryLines false s g qs) lines h.1 in
+    let r = steps-back f.vars f.clauses (QueriesLinesAndEnd false s g qs) lines h.1 in
     let m = queries-back s g qs r.rest r.after in
     let a : Asked = record { query = q; log = r.log } in
     record {
@@ -118,18 +118,18 @@ queries-back s g (q ∷ qs) (line ∷ lines) h =
           ∙ ap (λ (xs : List Bytes). query_header_line q ∷ xs) (r.same ∙ ap (λ (xs : List Bytes). map step_text r.log ++ xs) m.same ∙ sym (append_assoc (map step_text r.log) (flat_map query_and_log_lines m.asked) (codes "end" ∷ [])));
     }
 
-pub certificate_lines-whole : (s : PlainSystem) (g : PlainGoal) (k : ℕ) (bytes : Bytes) → IsCertificate s g k bytes → CertificateLines false s g k (lines_of bytes) × (unterminated_tail bytes ≡ [])
+pub certificate_lines-whole : (s : PlainSystem) (g : PlainGoal) (k : ℕ) (bytes : Bytes) → IsCertificateText s g k bytes → CertificateLines false s g k (lines_of bytes) × (unterminated_tail bytes ≡ [])
 certificate_lines-whole s g k bytes c =
     let back = lines_back (certificate_lines (safe_line k) c.asked) (certificate-plain k c.asked) in
     let lines = ap lines_of c.text ∙ back.0 in
     let P : List Bytes → Type 0 = λ xs. CertificateLines false s g k xs in
-    let Q : List Wanted → Type 0 = λ qs. QueryLines false s g qs (flat_map query_and_log_lines c.asked ++ codes "end" ∷ []) in
+    let Q : List Wanted → Type 0 = λ qs. QueriesLinesAndEnd false s g qs (flat_map query_and_log_lines c.asked ++ codes "end" ∷ []) in
     (subst P (sym lines) (refl, (refl, c.some, c.most, subst Q c.queries (queries-lines s g c.asked c.refuted))), ap unterminated_tail c.text ∙ back.1)
 
-pub whole-certificate : (s : PlainSystem) (g : PlainGoal) (k : ℕ) (bytes : Bytes) → CertificateLines false s g k (lines_of bytes) → unterminated_tail bytes ≡ [] → IsCertificate s g k bytes
+pub whole-certificate : (s : PlainSystem) (g : PlainGoal) (k : ℕ) (bytes : Bytes) → CertificateLines false s g k (lines_of bytes) → unterminated_tail bytes ≡ [] → IsCertificateText s g k bytes
 whole-certificate s g k bytes h ends = go (lines_of bytes) refl h
   where
-    go : (lines : List Bytes) → lines_of bytes ≡ lines → CertificateLines false s g k lines → IsCertificate s g k bytes
+    go : (lines : List Bytes) → lines_of bytes ≡ lines → CertificateLines false s g k lines → IsCertificateText s g k bytes
     go [] e h = absurd (cc)
     go (head ∷ []) e h = absurd (let z = h.1 in cc)
     go (head ∷ (told ∷ lines)) e h =

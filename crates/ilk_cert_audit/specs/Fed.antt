@@ -1,4 +1,5 @@
--- The state of a reader of a certificate after some lines, and after some bytes.
+-- The state of a certificate's check after some lines, and after some bytes. Line numbers above 64
+-- bits become the greatest `u64`.
 use Rattle.std.specs.Prelude.{ℕ, Bool, false, ◌≡◌, ◌+◌, ◌↔◌, List, [], ◌++◌, length}
 use Rattle.ilk_ir.specs.System.{PlainSystem, plain_system}
 use Rattle.ilk_lines.specs.Lines.{Bytes, unterminated_tail, lines_of}
@@ -12,41 +13,42 @@ use Rattle.ilk_cert_audit.specs.declared.lines.LineAudit.{LineAudit}
 use Rattle.ilk_cert_audit.specs.declared.stage.Stage.{Stage}
 use Rattle.ilk_cert_audit.specs.declared.stage.Stage.TheVariants.{Refused}
 
--- Holds if the lines begin a certificate, exactly the lines of the stage may follow, and the next
--- line has this number.
-pub record IsAtStage (s : PlainSystem) (g : PlainGoal) (stage : Stage) (lines : List Bytes) (number : ℕ) : Type 0 where
+-- Holds if the lines begin a certificate, the stage tells exactly which lines may follow, and
+-- `number` is that of the next line.
+pub record StageAndNumberAfterLines (s : PlainSystem) (g : PlainGoal) (stage : Stage) (lines : List Bytes) (number : ℕ) : Type 0 where
   pub begins : BeginsCertificate s g lines
   pub follows : (may_stop : Bool) (k : ℕ) (more : List Bytes) → CertificateLines may_stop s g k (lines ++ more) ↔ FollowingLines may_stop s g k stage more
   pub number_is : number ≡ saturated_to_64_bits (length lines + 1)
 
--- Holds if the stage is the one after these lines.
-abbrev pub IsStageAfter : PlainSystem → PlainGoal → Stage → List Bytes → ℕ → Type 0
-IsStageAfter s g (Refused n) lines number = (m : ℕ) × IsFirstBadOfLines s g lines m × (n ≡ saturated_to_64_bits m)
-IsStageAfter s g stage lines number = IsAtStage s g stage lines number
+-- Holds if the stage is right after these lines, and `number` is that of the next line. A `Refused`
+-- stage has to name the first bad line.
+abbrev pub StageOrRefusalAfterLines : PlainSystem → PlainGoal → Stage → List Bytes → ℕ → Type 0
+StageOrRefusalAfterLines s g (Refused n) lines number = (m : ℕ) × IsFirstBadOfLines s g lines m × (n ≡ saturated_to_64_bits m)
+StageOrRefusalAfterLines s g stage lines number = StageAndNumberAfterLines s g stage lines number
 
--- Holds if the bytes of an unfinished line are kept; if it is bad whatever follows, only the first
--- bytes that show it.
+-- Holds if `kept` is the unfinished line, or its first bytes if they show that it is bad.
 pub record IsUnfinishedLineBuffer (stage : Stage) (kept line : Bytes) : Type 0 where
   pub rest : Bytes
   pub whole : line ≡ kept ++ rest
   pub none_left : is_bad_line_prefix stage kept ≡ false → rest ≡ []
 
--- Holds if the bytes after the last line feed are kept; after a bad line it says nothing.
+-- Holds if the bytes after the last line feed are kept, as far as they are needed. It always holds
+-- after a bad line.
 abbrev pub Keeps : Stage → Bytes → Bytes → Type 0
 Keeps (Refused n) unfinished bytes = Unit {0}
 Keeps stage unfinished bytes = IsUnfinishedLineBuffer stage unfinished (unterminated_tail bytes)
 
--- Holds if the reader took these lines.
+-- Holds if the check, of this system and goal, has taken these lines.
 pub record HasTakenLines (s : PlainSystem) (g : PlainGoal) (audit : LineAudit) (lines : List Bytes) : Type 0 where
   pub system : plain_system audit.system ≡ s
   pub goal : plain_goal audit.goal ≡ g
-  pub reached : IsStageAfter s g audit.stage lines audit.line
+  pub reached : StageOrRefusalAfterLines s g audit.stage lines audit.line
 
--- Holds if the reader took the lines of these bytes, and those after the last line feed wait.
+-- Holds if the check has taken the lines of these bytes, and keeps what follows the last line feed.
 pub record HasTakenLinesAndRest (s : PlainSystem) (g : PlainGoal) (audit : LineAudit) (unfinished bytes : Bytes) : Type 0 where
   pub taken : HasTakenLines s g audit (lines_of bytes)
   pub kept : Keeps audit.stage unfinished bytes
 
--- Holds if an audit of the system and the goal took these bytes, in one or more pieces.
+-- Holds if the check, of this system and goal, has taken these bytes, in one or more pieces.
 abbrev pub HasTakenBytes : PlainSystem → PlainGoal → SystemCertAudit → Bytes → Type 0
 HasTakenBytes s g audit bytes = HasTakenLinesAndRest s g audit.lines audit.unfinished.items bytes

@@ -1,27 +1,27 @@
--- The first bad line of a text: the first that cannot follow the lines before it in a certificate.
 use Rattle.std.specs.Prelude.{ℕ, true, ◌≤◌, ◌+◌, ◌-◌, List, length, take}
 use Rattle.ilk_ir.specs.System.{PlainSystem}
 use Rattle.ilk_lines.specs.Lines.{Bytes, lines_of}
 use Rattle.ilk_unroll.specs.Goal.{PlainGoal}
-use Rattle.ilk_certificate.specs.Certificate.{IsCertificate}
+use Rattle.ilk_certificate.specs.Certificate.{IsCertificateText}
 use Rattle.ilk_cert_audit.specs.Grammar.{CertificateLines}
 
--- Holds if the lines begin a certificate, as far as they go.
+-- Holds if the lines are the first lines, or all, of some text that the grammar of certificates
+-- allows.
 abbrev pub BeginsCertificate : PlainSystem → PlainGoal → List Bytes → Type 0
 BeginsCertificate s g lines = (k : ℕ) × CertificateLines true s g k lines
 
--- Holds if line `n`, from 1, is the first bad one of these lines.
+-- Holds if line `n`, from 1, is the first that cannot follow the lines before it in a certificate.
 pub record IsFirstBadOfLines (s : PlainSystem) (g : PlainGoal) (lines : List Bytes) (n : ℕ) : Type 0 where
   pub from_one : 1 ≤ n
   pub within : n ≤ length lines
   pub before : BeginsCertificate s g (take (n - 1) lines)
   pub bad : ¬ (BeginsCertificate s g (take n lines))
 
--- Holds if line `n`, from 1, is the first bad one of a text that is not a certificate. The lines
--- before it begin one, and together with it, unless it is missing, they do not. A line is also
--- missing if no line feed ends the bytes in its place.
-pub record IsFirstBadOfText (s : PlainSystem) (g : PlainGoal) (text : Bytes) (n : ℕ) : Type 0 where
-  pub none : (k : ℕ) → ¬ (IsCertificate s g k text)
+-- Holds if a text is not a certificate, and line `n`, counted from 1, is its first bad or missing
+-- line: some certificate begins with the lines before line `n`, but none begins with the lines up
+-- to line `n`. A last line without line feed counts as missing.
+pub record FirstBadOrMissingLine (s : PlainSystem) (g : PlainGoal) (text : Bytes) (n : ℕ) : Type 0 where
+  pub none : (k : ℕ) → ¬ (IsCertificateText s g k text)
   pub from_one : 1 ≤ n
   pub within : n ≤ length (lines_of text) + 1
   pub before : BeginsCertificate s g (take (n - 1) (lines_of text))

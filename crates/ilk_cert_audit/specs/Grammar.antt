@@ -1,5 +1,5 @@
--- The lines of a certificate, one after another. They are whole, from the header to the line `end`.
--- If `may_stop` is true, they may be cut after any line, and begin a certificate as far as they go.
+-- The lines of a certificate, from the header to the line `end`. If `may_stop` is true, they may
+-- stop after any line.
 use Rattle.std.specs.Prelude.{ℕ, Bool, true, false, ◌≡◌, ◌<◌, ◌≤◌, List, [], ◌∷◌, ◌++◌, codes, IsTrue}
 use Rattle.std.specs.Fmt.{decimal}
 use Rattle.ilk_cnf.specs.Literal.{Literal}
@@ -15,37 +15,39 @@ use Rattle.ilk_unroll.specs.Query.{query_formula}
 use Rattle.ilk_certificate.specs.Certificate.{certified_queries}
 use Rattle.ilk_certificate.specs.CertificateText.{query_header_line}
 
--- The first if the test passes, otherwise the second.
+-- The first proposition if the test passes, otherwise the second.
 abbrev pub IfElse : Bool → Type 0 → Type 0 → Type 0
 IfElse true A B = A
 IfElse false A B = B
 
--- The lines of a query's steps, each of which follows from the clauses over the variables 1 to `n`
--- and the steps before it. They end with the first empty clause; the lines after the query follow.
+-- Holds if the lines are those of derivable steps over the clauses, up to the first step with the
+-- empty clause, and `After` holds for the rest. A step may use the clauses, over the variables 1 to
+-- `n`, and the steps before it.
 abbrev pub StepLines : Bool → ℕ → List (List Literal) → (List Bytes → Type 0) → List Bytes → Type 0
 StepLines may_stop n clauses After [] = IsTrue may_stop
 StepLines may_stop n clauses After (line ∷ lines) =
     (s : LogStep) × (line ≡ step_text s) × IsTrue (is_derived n clauses s) × IfElse (is_empty_clause s.clause) (After lines) (StepLines may_stop n (clauses ++ s.clause ∷ []) After lines)
 
--- The lines of these queries, for each its own and those of its steps over its formula, then the
--- line `end`.
-abbrev pub QueryLines : Bool → PlainSystem → PlainGoal → List Wanted → List Bytes → Type 0
-QueryLines may_stop s g [] [] = IsTrue may_stop
-QueryLines may_stop s g [] (line ∷ lines) = (line ≡ codes "end") × (lines ≡ [])
-QueryLines may_stop s g (q ∷ qs) [] = IsTrue may_stop
-QueryLines may_stop s g (q ∷ qs) (line ∷ lines) =
-    (line ≡ query_header_line q) × StepLines may_stop (query_formula s g q).vars (query_formula s g q).clauses (QueryLines may_stop s g qs) lines
+-- Holds if the lines are those of these queries, each with the steps that refute its formula, and
+-- then the line `end`.
+abbrev pub QueriesLinesAndEnd : Bool → PlainSystem → PlainGoal → List Wanted → List Bytes → Type 0
+QueriesLinesAndEnd may_stop s g [] [] = IsTrue may_stop
+QueriesLinesAndEnd may_stop s g [] (line ∷ lines) = (line ≡ codes "end") × (lines ≡ [])
+QueriesLinesAndEnd may_stop s g (q ∷ qs) [] = IsTrue may_stop
+QueriesLinesAndEnd may_stop s g (q ∷ qs) (line ∷ lines) =
+    (line ≡ query_header_line q) × StepLines may_stop (query_formula s g q).vars (query_formula s g q).clauses (QueriesLinesAndEnd may_stop s g qs) lines
 
 -- The line that states that a system is safe at `k`.
 abbrev pub safe_line : ℕ → Bytes
 safe_line k = line_of (codes "safe" ∷ decimal k ∷ [])
 
--- The lines after the header: the one that states `k`, from 1 to 16, and those of the queries.
+-- Holds if the lines are those of a certificate for `k` after its header: `safe k`, `k` from 1 to
+-- 16, and its queries.
 abbrev pub LinesAfterHeader : Bool → PlainSystem → PlainGoal → ℕ → List Bytes → Type 0
 LinesAfterHeader may_stop s g k [] = IsTrue may_stop
-LinesAfterHeader may_stop s g k (line ∷ lines) = (line ≡ safe_line k) × (0 < k) × (k ≤ 16) × QueryLines may_stop s g (certified_queries k) lines
+LinesAfterHeader may_stop s g k (line ∷ lines) = (line ≡ safe_line k) × (0 < k) × (k ≤ 16) × QueriesLinesAndEnd may_stop s g (certified_queries k) lines
 
--- The lines of a certificate for `k`.
+-- Holds if the lines are those of a certificate for `k`.
 abbrev pub CertificateLines : Bool → PlainSystem → PlainGoal → ℕ → List Bytes → Type 0
 CertificateLines may_stop s g k [] = IsTrue may_stop
 CertificateLines may_stop s g k (line ∷ lines) = (line ≡ codes "irv certificate 3") × LinesAfterHeader may_stop s g k lines

@@ -1,4 +1,4 @@
--- The position of a reader of a certificate, and the lines that may follow.
+-- The position in a certificate up to which lines were checked, and the lines that may follow.
 use Rattle.std.specs.Prelude.{ℕ, Bool, true, false, ◌≡◌, ◌+◌, ◌-◌, ◌&&◌, ◌↔◌, not, List, [], ◌∷◌, ◌++◌, Option, Some, None, IsTrue, bytes_eq, codes, length, nat_le, nat_lt, take}
 use Rattle.std.specs.List.{range_with_len, flat_map}
 use Rattle.ilk_ir.specs.System.{PlainSystem}
@@ -10,37 +10,37 @@ use Rattle.ilk_audit.specs.Audited.{AuditState, with_step}
 use Rattle.ilk_log.specs.declared.step.Step.{Step as LogStep}
 use Rattle.ilk_log.specs.Derived.{is_derived, is_empty_clause}
 use Rattle.ilk_log.specs.StepText.{has_writable_numbers, step_text}
-use Rattle.ilk_certificate.specs.Certificate.{base_queries}
-use Rattle.ilk_cert_audit.specs.Grammar.{CertificateLines, QueryLines, StepLines, LinesAfterHeader}
+use Rattle.ilk_certificate.specs.Certificate.{hazard_and_breach_queries}
+use Rattle.ilk_cert_audit.specs.Grammar.{CertificateLines, QueriesLinesAndEnd, StepLines, LinesAfterHeader}
 use Rattle.ilk_cert_audit.specs.declared.next.Line.{Line}
 use Rattle.ilk_cert_audit.specs.declared.next.Line.TheVariants.{Follows, Closes, Bad}
 use Rattle.ilk_cert_audit.specs.declared.stage.Stage.{Stage}
 use Rattle.ilk_cert_audit.specs.declared.stage.TheConstants.{MAX_NON_STEP_LINE}
 use Rattle.ilk_cert_audit.specs.declared.stage.Stage.TheVariants.{Head, Told, Between, Within, Ended, Refused}
 
--- The queries of a certificate for `k` after one of them.
-abbrev pub queries_after : ℕ → Wanted → List Wanted
-queries_after k (wanted.Hazard n) = wanted.Breach n ∷ (flat_map base_queries (range_with_len (n + 1) (k - n)) ++ wanted.Step k ∷ [])
-queries_after k (wanted.Breach n) = flat_map base_queries (range_with_len (n + 1) (k - n)) ++ wanted.Step k ∷ []
-queries_after k (wanted.Step n) = []
+-- The queries that come after this one in a certificate for `k`.
+abbrev pub certified_queries_after : ℕ → Wanted → List Wanted
+certified_queries_after k (wanted.Hazard n) = wanted.Breach n ∷ (flat_map hazard_and_breach_queries (range_with_len (n + 1) (k - n)) ++ wanted.Step k ∷ [])
+certified_queries_after k (wanted.Breach n) = flat_map hazard_and_breach_queries (range_with_len (n + 1) (k - n)) ++ wanted.Step k ∷ []
+certified_queries_after k (wanted.Step n) = []
 
--- The queries from the next one on, if one is left.
-abbrev pub queries_from : ℕ → Option Wanted → List Wanted
-queries_from k None = []
-queries_from k (Some q) = q ∷ queries_after k q
+-- This query and those that come after it in a certificate for `k`; no query for `None`.
+abbrev pub certified_queries_from_next : ℕ → Option Wanted → List Wanted
+certified_queries_from_next k None = []
+certified_queries_from_next k (Some q) = q ∷ certified_queries_after k q
 
--- Returns whether a certificate for `k` may ask a query.
+-- Returns whether the query is valid and has at most `k` steps.
 abbrev pub query_fits_k : ℕ → Wanted → Bool
 query_fits_k k q = nat_le (step_count q) k && step_count_is_allowed q
 
--- The lines that may follow at a stage of a certificate for `k`, up to the last, or to any if
--- `may_stop` is true.
+-- Holds if the lines may follow at a stage of a certificate for `k`, up to its last line. If
+-- `may_stop` is true, they may stop earlier.
 abbrev pub FollowingLines : Bool → PlainSystem → PlainGoal → ℕ → Stage → List Bytes → Type 0
 FollowingLines may_stop s g k Head lines = CertificateLines may_stop s g k lines
 FollowingLines may_stop s g k Told lines = LinesAfterHeader may_stop s g k lines
-FollowingLines may_stop s g k (Between m next) lines = (k ≡ m) × QueryLines may_stop s g (queries_from m next) lines
+FollowingLines may_stop s g k (Between m next) lines = (k ≡ m) × QueriesLinesAndEnd may_stop s g (certified_queries_from_next m next) lines
 FollowingLines may_stop s g k (Within m q auditor) lines =
-    (k ≡ m) × StepLines may_stop auditor.vars auditor.clauses (QueryLines may_stop s g (queries_after m q)) lines
+    (k ≡ m) × StepLines may_stop auditor.vars auditor.clauses (QueriesLinesAndEnd may_stop s g (certified_queries_after m q)) lines
 FollowingLines may_stop s g k (Ended m) lines = (k ≡ m) × (lines ≡ [])
 FollowingLines may_stop s g k (Refused n) lines = ⊥
 
@@ -48,8 +48,8 @@ FollowingLines may_stop s g k (Refused n) lines = ⊥
 abbrev pub is_valid_k : ℕ → Bool
 is_valid_k k = nat_lt 0 k && nat_le k 16
 
--- Returns whether no line was bad, and the stage is of a certificate for a number from 1 to 16, and
--- of one of its queries.
+-- Returns whether the stage is possible without a bad line: its `k` is from 1 to 16, its query is
+-- valid with at most `k` steps, and its steps have no empty clause.
 abbrev pub is_valid_stage : Stage → Bool
 is_valid_stage Head = true
 is_valid_stage Told = true
@@ -67,12 +67,13 @@ is_refused (Within k q auditor) = false
 is_refused (Ended k) = false
 is_refused (Refused n) = true
 
--- Returns whether no line of a step begins so.
+-- Returns whether the bytes show that the line is not a proof step's: five bytes or more that don't
+-- start with `step `.
 abbrev pub begins_no_step : Bytes → Bool
 begins_no_step begun = nat_le 5 (length begun) && not (bytes_eq (take 5 begun) (codes "step "))
 
--- Returns whether no line that begins so may follow at a stage. Among the steps of a query it is
--- not a step's; elsewhere it is longer than each that may follow.
+-- Returns whether these bytes already show that a line that starts with them may not follow at a
+-- stage: among steps it is not a step, elsewhere it is too long.
 abbrev pub is_bad_line_prefix : Stage → Bytes → Bool
 is_bad_line_prefix Head begun = nat_lt MAX_NON_STEP_LINE (length begun)
 is_bad_line_prefix Told begun = nat_lt MAX_NON_STEP_LINE (length begun)
@@ -81,18 +82,19 @@ is_bad_line_prefix (Within k q auditor) begun = begins_no_step begun
 is_bad_line_prefix (Ended k) begun = nat_lt MAX_NON_STEP_LINE (length begun)
 is_bad_line_prefix (Refused n) begun = nat_lt MAX_NON_STEP_LINE (length begun)
 
--- Holds if `next` is the stage after a line, or `None` if the line is bad.
+-- Holds if `next` is the stage after this line, or `None` if the line may not follow.
 abbrev pub IsNextStage : PlainSystem → PlainGoal → Stage → Bytes → Option Stage → Type 0
 IsNextStage s g stage line None = (may_stop : Bool) (k : ℕ) (lines : List Bytes) → ¬ (FollowingLines may_stop s g k stage (line ∷ lines))
 IsNextStage s g stage line (Some next) =
     (may_stop : Bool) (k : ℕ) (lines : List Bytes) → FollowingLines may_stop s g k stage (line ∷ lines) ↔ FollowingLines may_stop s g k next lines
 
--- Holds if this is the line of step `t`, and of no other step with numbers that a line may have.
-pub record ReadsAsStep (line : Bytes) (t : LogStep) : Type 0 where
+-- Holds if the line is that of step `t`, and of no other step whose numbers may be in a line.
+pub record IsLineOfSingleStep (line : Bytes) (t : LogStep) : Type 0 where
   pub own : line ≡ step_text t
   pub only : (u : LogStep) → line ≡ step_text u → IsTrue (has_writable_numbers u) → t ≡ u
 
--- The line of a step that follows, and the auditor's data after it.
+-- Holds if the line is that of a step derivable from the checker's state `old`, and `new` is the
+-- state after it.
 pub record IsDerivedStepLine (line : Bytes) (old new : AuditState) : Type 0 where
   pub step : LogStep
   pub own : line ≡ step_text step
@@ -100,8 +102,8 @@ pub record IsDerivedStepLine (line : Bytes) (old new : AuditState) : Type 0 wher
   pub derived : IsTrue (is_derived old.vars old.clauses step)
   pub after : new ≡ with_step old step
 
--- Holds if a line among the steps of a query is of this kind: a step that follows and doesn't close
--- the query, one that closes it, or a bad line.
+-- Holds if a line among a query's steps is of this kind: a derivable step with a literal, a
+-- derivable empty step, or a bad line.
 abbrev pub IsStepLineOfKind : Bytes → AuditState → AuditState → Line → Type 0
 IsStepLineOfKind line old new Follows = (f : IsDerivedStepLine line old new) × (is_empty_clause f.step.clause ≡ false)
 IsStepLineOfKind line old new Closes = (f : IsDerivedStepLine line old new) × (is_empty_clause f.step.clause ≡ true)

@@ -1,4 +1,4 @@
-/// The answer to a piece of a certificate.
+/// The answer after each piece of a text that is checked as a certificate.
 #[derive(Clone, Copy, PartialEq, Eq, Debug)]
 pub enum Fed {
     /// No line so far is bad.
@@ -7,16 +7,11 @@ pub enum Fed {
     Bad { line: u64 },
 }
 
-/// The answer at the end of a certificate.
+/// The answer at the end of a text that is checked as a certificate.
 #[derive(Clone, Copy, PartialEq, Eq, Debug)]
 pub enum Ended {
-    /// It is a certificate for `k`.
-    Accepted {
-        /// The number of steps of its step query.
-        k: u32,
-    },
+    /// It is a certificate for `k`: for safety by induction over `k` steps.
+    Accepted { k: u32 },
     /// It is not a certificate; the line with this number, from 1, is the first bad one.
-    Rejected {
-        line: u64,
-    },
+    Rejected { line: u64 },
 }

@@ -7,7 +7,7 @@ use ilk_ir::System;
 use ilk_unroll::Goal;
 use std::alloc::{AllocError, Global};
 
-/// An audit of a certificate of a system and a goal, fed in pieces.
+/// A check whether bytes are a certificate of a system and a goal; the bytes come in pieces.
 #[derive(Drop)]
 pub struct SystemCertAudit {
     lines: LineAudit,
@@ -21,7 +21,6 @@ fn line_feed(text: &[u8]) -> Option<usize>
     text.iter().position(|b| *b == b'\n')
 }
 
-// Returns the text before and after the first line feed, or `None` if there is none.
 fn cut_line(text: &[u8]) -> Option<(&[u8], &[u8])>
     ensures cut { IfSome result (λ cut. text.now ≡ (cut.0.now ++ 10 ∷ []) ++ cut.1.now) }
     ensures lacks { IfSome result (λ cut. LacksByte 10 cut.0.now) }
@@ -42,8 +41,8 @@ impl SystemCertAudit {
     ghost use Rattle.ilk_cert_audit.specs.Answers.{IsFinalAnswer, IsAnswerAfterBytes};
     ghost use Rattle.ilk_cert_audit.specs.Fed.{HasTakenBytes};
 
-    /// Creates an audit without input. The system has to be valid, and the goal's forms valid over
-    /// its ranges.
+    /// Creates a check that has taken no byte. The system has to be valid, and the goal's forms
+    /// valid over its ranges.
     pub fn new(alloc: Global, system: System, goal: Goal) -> SystemCertAudit
         requires system { IsTrue (system_valid (plain_system system)) }
         requires goal { IsTrue (goal_valid system.ranges (plain_goal goal)) }
@@ -55,7 +54,6 @@ impl SystemCertAudit {
         }
     }
 
-    // Takes the rest of a line, which a line feed ends. Keeps nothing after a bad line.
     fn end_line(&mut self, rest: &[u8]) -> Result<(), AllocError>
         requires { LacksByte 10 rest.now }
         ensures { OnOk result
@@ -79,7 +77,6 @@ impl SystemCertAudit {
         Ok(())
     }
 
-    // Takes bytes of an unfinished line, and keeps them unless the line can no longer be valid.
     fn keep(&mut self, rest: &[u8]) -> Result<(), AllocError>
         requires { LacksByte 10 rest.now }
         ensures { OnOk result
@@ -109,8 +106,8 @@ impl SystemCertAudit {
         self.keep(left)
     }
 
-    /// Takes the next bytes, of any length, and returns whether a line so far is bad, regardless of
-    /// how the bytes are divided. If memory runs out, the audit is unusable; its owner drops it.
+    /// Takes the next bytes, of any length, and returns the first bad line so far, if any. The
+    /// answer doesn't depend on how the bytes are divided. After an error, the check is unusable.
     pub fn feed(&mut self, piece: &[u8]) -> Result<Fed, AllocError>
         ensures fed { OnOk result
             ((s : PlainSystem) (g : PlainGoal) (bytes : List ℕ) → HasTakenBytes s g self.old bytes →
@@ -120,10 +117,11 @@ impl SystemCertAudit {
             HasTakenBytes s g self.old bytes → IsAnswerAfterBytes s g (bytes ++ piece.now) fed) }
     {
         self.split(piece)?;
-        Ok(self.lines.answer_so_far())
+        Ok(self.lines.first_bad_line_so_far())
     }
 
-    /// Returns whether the bytes are a certificate.
+    /// Returns whether all bytes taken are a certificate, and for which number, or the first bad
+    /// line.
     pub fn end(self) -> Ended
         ensures { (s : PlainSystem) (g : PlainGoal) (bytes : List ℕ) →
             HasTakenBytes s g self bytes →

@@ -4,8 +4,8 @@
 //! `ilk_certificate` defines a certificate, `specs/Grammar` its lines, and `specs/FirstBad` the
 //! first bad line of other bytes. A `SystemCertAudit` takes the bytes in pieces of any length
 //! (`feed`) and gives its answer at the end (`end`), which depends only on the bytes. It keeps the
-//! unfinished line, or only its first bytes if it is too long for its position or, among steps,
-//! does not begin as a step. It also keeps the clauses of the current query until that is refuted.
+//! unfinished line, or only its first bytes if they show that the line is bad. It also keeps the
+//! clauses of the current query until that is refuted.
 //!
 //! `LineAudit` takes one line at a time: it knows the lines that may follow, and advances by one
 //! stage. `ilk_audit` checks the steps of a query, over the formula from `ilk_unroll`.
@@ -21,4 +21,4 @@ mod stage;
 
 pub use answers::{Ended, Fed};
 pub use audit::SystemCertAudit;
-pub use laws::{certificate_is_for_one_k, line_numbers_fit};
+pub use laws::{certificate_is_for_one_k, line_numbers_fit_in_u64};

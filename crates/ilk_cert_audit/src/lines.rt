@@ -12,7 +12,6 @@ use ilk_unroll::Goal;
 use std::alloc::{AllocError, Global};
 use std::mem;
 
-// Returns whether no line of a step begins so.
 fn begins_no_step(begun: &[u8]) -> bool
     ensures { result ≡ begins_no_step begun.now }
 {
@@ -22,15 +21,13 @@ fn begins_no_step(begun: &[u8]) -> bool
     &begun[..5] != b"step ".as_slice()
 }
 
-/// An audit that takes lines one by one.
+/// A check whether lines, taken one by one, are those of a certificate.
 #[derive(Drop)]
-pub struct LineAudit {
+pub(crate) struct LineAudit {
     system: System,
     goal: Goal,
     stage: Stage,
-    // The number of the next line.
     line: u64,
-    // The step of the current line.
     step: StepLine,
     ghost system_valid: { IsTrue (system_valid (plain_system system)) },
     ghost goal_valid: { IsTrue (goal_valid system.ranges (plain_goal goal)) },
@@ -46,7 +43,8 @@ impl LineAudit {
     ghost use Rattle.ilk_cert_audit.specs.Fed.{HasTakenLines};
     ghost use Rattle.ilk_cert_audit.specs.Stages.{IsNextStage, is_bad_line_prefix};
 
-    /// Creates an audit without input.
+    /// Creates a check that has taken no line. The system has to be valid, and the goal's forms
+    /// valid over its ranges.
     pub fn new(alloc: Global, system: System, goal: Goal) -> LineAudit
         requires system { IsTrue (system_valid (plain_system system)) }
         requires goal { IsTrue (goal_valid system.ranges (plain_goal goal)) }
@@ -61,15 +59,15 @@ impl LineAudit {
         }
     }
 
-    /// Returns whether a line was bad.
+    /// Returns whether one of the lines taken was bad.
     pub fn is_refused(&self) -> bool
         ensures { result ≡ is_refused self.now.stage }
     {
         matches!(self.stage, Stage::Refused { .. })
     }
 
-    /// Returns whether the next line is bad whatever follows, if it begins so. No more of it has to
-    /// be kept then.
+    /// Returns whether the bytes `begun` already show that the next line, which starts with them,
+    /// is bad.
     pub fn is_bad_line_prefix(&self, begun: &[u8]) -> bool
         ensures { result ≡ is_bad_line_prefix self.now.stage begun.now }
     {
@@ -79,7 +77,7 @@ impl LineAudit {
         }
     }
 
-    /// Refuses the next line, which is bad whatever its last bytes are.
+    /// Takes the next line, known to be bad, without its bytes.
     pub fn refuse(&mut self)
         ensures bad { (s : PlainSystem) (g : PlainGoal) (lines : List Bytes) (line : Bytes)
             → HasTakenLines s g self.old lines → is_refused self.old.stage ≡ false
@@ -91,7 +89,7 @@ impl LineAudit {
         self.stage = Stage::Refused { line };
     }
 
-    /// Takes the next line. After a bad one, nothing changes. If memory runs out, the audit is
+    /// Takes the next line. After a bad one, nothing changes. After an error, the check is
     /// unusable.
     pub fn take(&mut self, line: &[u8]) -> Result<(), AllocError>
         ensures { OnOk result
@@ -113,8 +111,8 @@ impl LineAudit {
         Ok(())
     }
 
-    /// Returns whether a line was bad, and which.
-    pub fn answer_so_far(&self) -> Fed
+    /// Returns the number of the first bad line among those taken, or `More` if none was bad.
+    pub fn first_bad_line_so_far(&self) -> Fed
         ensures { (s : PlainSystem) (g : PlainGoal) (lines : List Bytes) →
             HasTakenLines s g self.now lines → ReportsFirstBad s g lines result }
     {
@@ -124,7 +122,8 @@ impl LineAudit {
         }
     }
 
-    /// Returns the answer at the end; `is_whole` says that nothing follows the last line feed.
+    /// Returns the answer at the end of the text. `is_whole` says whether nothing follows the last
+    /// line feed; otherwise the text is not a certificate.
     pub fn end(&self, is_whole: bool) -> Ended
         ensures { (s : PlainSystem) (g : PlainGoal) (bytes : List ℕ) →
             HasTakenLines s g self.now (lines_of bytes) →

@@ -1,5 +1,3 @@
-//! The stage after a line.
-
 ghost use Rattle.std.specs.Prelude.{◌≡◌, false, Some, IfOk, IfSome, IsTrue};
 ghost use Rattle.ilk_certificate.specs.CertificateText.{query_header_line};
 ghost use Rattle.ilk_ir.specs.System.{PlainSystem, plain_system, system_valid};
@@ -15,7 +13,6 @@ use ilk_log::{StepLine, read_step_into};
 use ilk_unroll::{Goal, Wanted, query};
 use std::alloc::{AllocError, Global};
 
-// Returns the stage after the line of a query: its formula, and no step yet.
 fn after_query(
     alloc: Global,
     system: &System,
@@ -51,7 +48,6 @@ enum Line {
     Bad,
 }
 
-// Takes the step whose line this is, if it follows.
 fn take_step(step: &mut StepLine, auditor: &mut Auditor, line: &[u8]) -> Result<Line, AllocError>
     requires unfinished { auditor.old.closed ≡ false }
     ensures { IfOk result (IsStepLineOfKind line.now auditor.old auditor.new) }
@@ -60,7 +56,7 @@ fn take_step(step: &mut StepLine, auditor: &mut Auditor, line: &[u8]) -> Result<
     if !read_step_into(step, line)? {
         return Ok(Line::Bad);
     }
-    match auditor.audit_step_from_slices(step.clause.as_slice(), step.hints.as_slice())? {
+    match auditor.add_step_if_derived(step.clause.as_slice(), step.hints.as_slice())? {
         Taken::Good => Ok(Line::Follows),
         Taken::Closed => Ok(Line::Closes),
         Taken::Bad(_) => Ok(Line::Bad),
@@ -103,8 +99,9 @@ fn after_told(line: &[u8]) -> Option<Stage>
     })
 }
 
-/// Returns the stage after a line, or `None` if the line is bad.
-pub fn next_stage(
+/// Returns the stage of the check after `line`, or `None` if that line is bad at `stage`. `step` is
+/// used as memory for reading.
+pub(crate) fn next_stage(
     alloc: Global,
     system: &System,
     goal: &Goal,

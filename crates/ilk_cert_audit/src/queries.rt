@@ -3,16 +3,16 @@ ghost use Rattle.std.specs.Fmt.{decimal};
 ghost use Rattle.ilk_certificate.specs.CertificateText.{query_header_line};
 ghost use Rattle.ilk_lines.specs.Written.{join_word_and_rest};
 ghost use Rattle.ilk_cert_audit.specs.Grammar.{safe_line};
-ghost use Rattle.ilk_cert_audit.specs.Stages.{is_valid_k, query_fits_k, queries_after, queries_from};
+ghost use Rattle.ilk_cert_audit.specs.Stages.{is_valid_k, query_fits_k, certified_queries_after, certified_queries_from_next};
 
 use ilk_lines::{decimal_up_to, strip_first_word};
 use ilk_unroll::Wanted;
 
-/// Returns the query that follows one of a certificate for `k`, or `None` after the last.
-pub fn query_after(k: u32, query: Wanted) -> Option<Wanted>
+/// Returns the query that comes after `query` in a certificate for `k`, or `None` after the last.
+pub(crate) fn query_after(k: u32, query: Wanted) -> Option<Wanted>
     requires number { IsTrue (is_valid_k k) }
     requires asked { IsTrue (query_fits_k k query) }
-    ensures next { queries_from k result ≡ queries_after k query }
+    ensures next { certified_queries_from_next k result ≡ certified_queries_after k query }
     ensures asked { IfSome result (λ next. IsTrue (query_fits_k k next)) }
 {
     match query {
@@ -23,7 +23,6 @@ pub fn query_after(k: u32, query: Wanted) -> Option<Wanted>
     }
 }
 
-// Returns the number up to `limit` that follows `word` and a space at the end of the line.
 fn number_after(line: &[u8], word: &[u8], limit: u64) -> Option<u64>
     ensures some { IfSome result (λ n. (line.now ≡ join_word_and_rest word.now (decimal n))
         × (n ≤ limit)) }
@@ -45,8 +44,8 @@ fn is_numbered(line: &[u8], word: &[u8], number: u32) -> bool
     }
 }
 
-/// Returns whether a line is that of a query.
-pub fn is_query_line(line: &[u8], query: Wanted) -> bool
+/// Returns whether `line` is the line that begins `query` in a certificate.
+pub(crate) fn is_query_line(line: &[u8], query: Wanted) -> bool
     ensures { IsTrue result ↔ (line.now ≡ query_header_line query) }
 {
     let Some(rest) = strip_first_word(line, b"query") else {
@@ -59,9 +58,8 @@ pub fn is_query_line(line: &[u8], query: Wanted) -> bool
     }
 }
 
-/// Returns the number from 1 to 16 at which a line states that a system is safe, or `None` if it
-/// states none.
-pub fn read_safe_line(line: &[u8]) -> Option<u32>
+/// Returns `k` if the line is `safe k` with `k` from 1 to 16, otherwise `None`.
+pub(crate) fn read_safe_line(line: &[u8]) -> Option<u32>
     ensures told { IfSome result (λ k. (line.now ≡ safe_line k) × IsTrue (is_valid_k k)) }
     ensures none { IfNone result ((k : ℕ) → 0 < k → k ≤ 16 → ¬ (line.now ≡ safe_line k)) }
 {

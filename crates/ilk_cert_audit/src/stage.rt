@@ -1,19 +1,19 @@
 use ilk_audit::Auditor;
 use ilk_unroll::Wanted;
 
-/// The most bytes of a line that is not a step's; the longest such line names a query.
-pub const MAX_NON_STEP_LINE: usize = 32;
+/// The maximum number of bytes of a certificate's line that is not a proof step.
+pub(crate) const MAX_NON_STEP_LINE: usize = 32;
 
-/// The position of a reader of a certificate.
+/// The position in a certificate up to which its lines were checked.
 #[derive(Drop)]
-pub enum Stage {
+pub(crate) enum Stage {
     /// Before the first line.
     Head,
-    /// Before the line with the certificate's number.
+    /// Before the line `safe k`.
     Told,
     /// Before the line of a query, or before the last line if no query is left.
     Between {
-        /// The number of the certificate.
+        /// The number that the line `safe k` gives.
         k: u32,
         next: Option<Wanted>,
     },
@@ -21,7 +21,7 @@ pub enum Stage {
     Within {
         k: u32,
         query: Wanted,
-        /// Its formula and the steps so far, none of which has the empty clause.
+        /// The query's formula and the steps so far, none of which has the empty clause.
         auditor: Auditor,
     },
     /// After the last line.

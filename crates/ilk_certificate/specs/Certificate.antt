@@ -1,4 +1,3 @@
--- A certificate: its queries, and the refutation of each.
 use Rattle.std.specs.Prelude.{ℕ, ◌+◌, ◌≡◌, ◌<◌, ◌≤◌, List, [], ◌∷◌, ◌++◌, map, All, IsTrue}
 use Rattle.std.specs.List.{range_with_len, flat_map}
 use Rattle.ilk_ir.specs.System.{PlainSystem}
@@ -12,22 +11,22 @@ use Rattle.ilk_unroll.specs.Query.{query_formula}
 use Rattle.ilk_certificate.specs.declared.asked.Asked.{Asked}
 use Rattle.ilk_certificate.specs.CertificateText.{safe_text}
 
--- Holds if the log refutes the query's formula.
+-- Holds if the log is a refutation of the query's formula.
 abbrev pub IsRefuted : PlainSystem → PlainGoal → Wanted → List LogStep → Type 0
 IsRefuted s g q log = IsTrue (is_refutation (query_formula s g q) log)
 
--- The hazard query and the breach query for `n` steps.
-abbrev pub base_queries : ℕ → List Wanted
-base_queries n = Hazard n ∷ Breach n ∷ []
+-- The hazard query and the breach query for runs of `n` steps.
+abbrev pub hazard_and_breach_queries : ℕ → List Wanted
+hazard_and_breach_queries n = Hazard n ∷ Breach n ∷ []
 
--- The hazard query and the breach query for each number of steps up to `k`, and the step query for
--- `k`.
+-- The queries of a certificate for `k`: the hazard and the breach query for each number of steps up
+-- to `k`, and the step query for `k`.
 abbrev pub certified_queries : ℕ → List Wanted
-certified_queries k = flat_map base_queries (range_with_len 0 (k + 1)) ++ Step k ∷ []
+certified_queries k = flat_map hazard_and_breach_queries (range_with_len 0 (k + 1)) ++ Step k ∷ []
 
--- Holds if the bytes are the safe text for `k`, from 1 to 16, of the certified queries, each with a
--- log that refutes it.
-pub record IsCertificate (s : PlainSystem) (g : PlainGoal) (k : ℕ) (bytes : Bytes) : Type 0 where
+-- Holds if the bytes are a certificate for `k`, from 1 to 16: the text that states `safe k`, with
+-- its queries, each followed by a log that refutes it.
+pub record IsCertificateText (s : PlainSystem) (g : PlainGoal) (k : ℕ) (bytes : Bytes) : Type 0 where
   pub asked : List Asked
   pub some : 0 < k
   pub most : k ≤ 16

@@ -2,8 +2,8 @@ ghost use Rattle.std.specs.Prelude.{◌≡◌, ◌++◌, ◌∷◌, [], codes, d
 ghost use Rattle.std.specs.Fmt.{decimal};
 ghost use Rattle.ilk_lines.specs.Written.{join_word_and_rest, text_of};
 ghost use Rattle.ilk_certificate.specs.CertificateText.{total_conflicts, query_and_log_lines, safe_text, spent_text};
-ghost use Rattle.ilk_certificate.specs.Kept.{drop_early_step_queries};
-ghost use Rattle.ilk_certificate.specs.Writing.{query_and_log_text, kept_text, untaken_bytes};
+ghost use Rattle.ilk_certificate.specs.Kept.{drop_nonfinal_step_queries};
+ghost use Rattle.ilk_certificate.specs.Writing.{query_and_log_text, text_without_nonfinal_step_queries, untaken_bytes_of_part};
 
 use crate::asked::Asked;
 use crate::part::Part;
@@ -15,15 +15,12 @@ use ilk_log::LogText;
 use std::alloc::{AllocError, Global};
 use std::marker::Model;
 
-/// The text of a certificate, produced in pieces. Contracts see the bytes that are still to be
-/// taken.
-///
-/// It owns the logs of the queries, and makes the lines of a log only as they are taken. All memory
-/// is allocated at creation: taking pieces needs none.
+/// The text of a certificate, taken in pieces; contracts see the bytes still to be taken. It owns
+/// the logs of the queries, and makes their lines only as they are taken. Taking pieces allocates
+/// no memory.
 #[derive(Drop)]
 pub struct CertificateText {
     parts: Vec<Part>,
-    // The part of the next byte: nothing is left of those before it.
     at: usize,
 }
 
@@ -32,15 +29,15 @@ impl Model for CertificateText {
 
     ghost Value = { List ℕ };
 
-    ghost use Rattle.ilk_certificate.specs.Writing.{untaken_bytes};
+    ghost use Rattle.ilk_certificate.specs.Writing.{untaken_bytes_of_part};
 
-    ghost view = { λ text. flat_map untaken_bytes (drop text.at text.parts.items) };
+    ghost view = { λ text. flat_map untaken_bytes_of_part (drop text.at text.parts.items) };
 
     ghost invariant = { λ text. text.at ≤ vec_len text.parts };
 }
 
 impl CertificateText {
-    /// Creates an empty text.
+    /// Creates a text without bytes.
     pub fn empty(alloc: Global) -> CertificateText
         ensures { result ≡ [] }
     {
@@ -51,7 +48,7 @@ impl CertificateText {
     }
 
     fn add(&mut self, part: Part) -> Result<(), AllocError>
-        ensures { OnOk result (self.new ≡ self.old ++ untaken_bytes part) }
+        ensures { OnOk result (self.new ≡ self.old ++ untaken_bytes_of_part part) }
     {
         self.parts.push(part)?;
         Ok(())
@@ -86,7 +83,8 @@ impl CertificateText {
 
     fn add_next(&mut self, alloc: Global, next: Asked, left: &Row<Asked>) -> Result<(), AllocError>
         ensures { OnOk result
-            (self.new ++ kept_text left.now ≡ self.old ++ kept_text (next ∷ left.now)) }
+            (self.new ++ text_without_nonfinal_step_queries left.now ≡ self.old ++
+            text_without_nonfinal_step_queries (next ∷ left.now)) }
     {
         if left.len() > 0 && is_step(next.query) {
             return Ok(());
@@ -94,9 +92,8 @@ impl CertificateText {
         self.add_asked(alloc, next)
     }
 
-    // Appends the lines of each query except step queries before the last query.
     fn add_kept(&mut self, alloc: Global, asked: Row<Asked>) -> Result<(), AllocError>
-        ensures { OnOk result (self.new ≡ self.old ++ kept_text asked) }
+        ensures { OnOk result (self.new ≡ self.old ++ text_without_nonfinal_step_queries asked) }
     {
         let mut left = asked;
         'queries: while left.len() > 0 {
@@ -106,7 +103,6 @@ impl CertificateText {
         Ok(())
     }
 
-    // Creates the first two lines: the header, and the verdict.
     fn begun(alloc: Global, word: &str, number: u128) -> Result<CertificateText, AllocError>
         ensures { IfOk result
             (λ text. text
@@ -125,11 +121,10 @@ impl CertificateText {
         self.add_lines(line.into_bytes())
     }
 
-    /// Creates the text that states that a system is safe at `k`, from the queries asked. It omits
-    /// the step queries before the last query, which were satisfied. Each line ends with one line
-    /// feed. Fails only if memory runs out.
+    /// Creates the text that states that a system is safe at `k`, from the queries `asked`. It
+    /// omits the step queries before the last query, which had runs. Fails only if memory runs out.
     pub fn safe(alloc: Global, k: u32, asked: Row<Asked>) -> Result<CertificateText, AllocError>
-        ensures { IfOk result (λ text. text ≡ safe_text k (drop_early_step_queries asked)) }
+        ensures { IfOk result (λ text. text ≡ safe_text k (drop_nonfinal_step_queries asked)) }
     {
         let mut text = CertificateText::begun(alloc, "safe", k as u128)?;
         text.add_kept(alloc, asked)?;
@@ -137,8 +132,8 @@ impl CertificateText {
         Ok(text)
     }
 
-    /// Creates the text that states that all conflicts are spent, from the queries asked until
-    /// then. Each line ends with one line feed. Fails only if memory runs out.
+    /// Creates the text that states that all conflicts are spent, from the queries `asked` until
+    /// then. Fails only if memory runs out.
     pub fn spent(alloc: Global, asked: Row<Asked>) -> Result<CertificateText, AllocError>
         ensures { IfOk result (λ text. text ≡ spent_text (total_conflicts asked) asked) }
     {
@@ -150,7 +145,7 @@ impl CertificateText {
     }
 
     /// Copies the next bytes to the front of `into`, as many as fit, and returns their number.
-    /// Needs no memory.
+    /// Allocates no memory.
     pub fn take(&mut self, into: &mut [u8]) -> usize
         ensures count { result ≡ min (length into.old) (length self.old) }
         ensures bytes { take result into.new ≡ take result self.old }

@@ -1,10 +1,9 @@
 ghost use Rattle.std.specs.Prelude.{◌≡◌, drop, length, min, take};
-ghost use Rattle.ilk_certificate.specs.Writing.{untaken_bytes};
+ghost use Rattle.ilk_certificate.specs.Writing.{untaken_bytes_of_part};
 
 use ilk_lines::RemainingBytes;
 use ilk_log::LogText;
 
-/// A part of a certificate's text, with the position in it.
 #[derive(Drop)]
 pub(crate) enum Part {
     /// Short lines, held as bytes.
@@ -14,11 +13,11 @@ pub(crate) enum Part {
 }
 
 impl Part {
-    /// Copies the next bytes to the front of `into`, as many as fit, and returns their number.
     pub(crate) fn take(&mut self, into: &mut [u8]) -> usize
-        ensures count { result ≡ min (length into.old) (length (untaken_bytes self.old)) }
-        ensures bytes { take result into.new ≡ take result (untaken_bytes self.old) }
-        ensures rest { untaken_bytes self.new ≡ drop result (untaken_bytes self.old) }
+        ensures count { result ≡ min (length into.old) (length (untaken_bytes_of_part self.old)) }
+        ensures bytes { take result into.new ≡ take result (untaken_bytes_of_part self.old) }
+        ensures rest { untaken_bytes_of_part self.new ≡
+            drop result (untaken_bytes_of_part self.old) }
     {
         match self {
             Part::Lines(lines) => lines.take(into),

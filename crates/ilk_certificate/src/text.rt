@@ -12,7 +12,6 @@ use ilk_log::{Log, Step, push_step_text};
 use ilk_unroll::Wanted;
 use std::alloc::AllocError;
 
-/// Appends the line of a word, a space and a number.
 pub(crate) fn push_numbered(text: &mut String, word: &str, number: u128) -> Result<(), AllocError>
     ensures { OnOk result
         (string_bytes text.new
@@ -21,7 +20,6 @@ pub(crate) fn push_numbered(text: &mut String, word: &str, number: u128) -> Resu
     write!(text, "{word} {number}\n")
 }
 
-/// Appends the line of a query.
 pub(crate) fn push_query(text: &mut String, query: Wanted) -> Result<(), AllocError>
     ensures { OnOk result
         (string_bytes text.new ≡ string_bytes text.old ++ (query_header_line query ++ 10 ∷ [])) }
@@ -54,7 +52,7 @@ fn push_steps(text: &mut String, log: &Log) -> Result<(), AllocError>
     Ok(())
 }
 
-/// Appends the lines of an asked query.
+/// Appends the lines of a query and of its log.
 pub(crate) fn push_asked(text: &mut String, asked: &Asked) -> Result<(), AllocError>
     requires { IsTrue (list_all has_no_hint_zero asked.now.log) }
     ensures { OnOk result
@@ -64,14 +62,13 @@ pub(crate) fn push_asked(text: &mut String, asked: &Asked) -> Result<(), AllocEr
     push_steps(text, &asked.log)
 }
 
-/// Returns whether a query is a step query.
 pub(crate) fn is_step(query: Wanted) -> bool
     ensures { result ≡ is_step_query query }
 {
     matches!(query, Wanted::Step(_))
 }
 
-/// Appends the lines of an asked query unless it is a step query.
+/// Appends the lines of a query and of its log, unless it is a step query.
 pub(crate) fn push_unless_step(text: &mut String, asked: &Asked) -> Result<(), AllocError>
     requires { IsTrue (list_all has_no_hint_zero asked.now.log) }
     ensures { OnOk result (string_bytes text.new

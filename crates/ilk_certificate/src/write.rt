@@ -2,7 +2,7 @@ ghost use Rattle.std.specs.Prelude.{◌≡◌, ◌++◌, ◌∷◌, [], codes, f
 ghost use Rattle.std.specs.Fmt.{decimal};
 ghost use Rattle.ilk_lines.specs.Written.{join_word_and_rest, text_of};
 ghost use Rattle.ilk_certificate.specs.CertificateText.{total_conflicts, have_no_hint_zero, query_and_log_lines, safe_text, spent_text};
-ghost use Rattle.ilk_certificate.specs.Kept.{drop_early_step_queries};
+ghost use Rattle.ilk_certificate.specs.Kept.{drop_nonfinal_step_queries};
 ghost use Rattle.ilk_certificate.specs.Writing.{text_unless_step_query};
 
 use crate::asked::Asked;
@@ -10,7 +10,6 @@ use crate::text::{push_asked, push_numbered, push_unless_step};
 use ilk_log::count_learned_clauses;
 use std::alloc::{AllocError, Global};
 
-/// Returns the number of steps of all logs that have a literal.
 pub(crate) fn total_conflicts(asked: &[Asked]) -> u128
     ensures { result ≡ total_conflicts asked.now }
 {
@@ -33,7 +32,6 @@ fn push_all(text: &mut String, asked: &[Asked]) -> Result<(), AllocError>
     Ok(())
 }
 
-// Appends the lines of each query except the step queries.
 fn push_bases(text: &mut String, asked: &[Asked]) -> Result<(), AllocError>
     requires { IsTrue (have_no_hint_zero asked.now) }
     ensures { OnOk result
@@ -46,13 +44,12 @@ fn push_bases(text: &mut String, asked: &[Asked]) -> Result<(), AllocError>
     Ok(())
 }
 
-// Appends the lines of each query except step queries before the last query.
 fn push_kept(text: &mut String, asked: &[Asked]) -> Result<(), AllocError>
     requires { IsTrue (have_no_hint_zero asked.now) }
     ensures { OnOk result
         (string_bytes text.new
         ≡ string_bytes text.old
-        ++ text_of (flat_map query_and_log_lines (drop_early_step_queries asked.now))) }
+        ++ text_of (flat_map query_and_log_lines (drop_nonfinal_step_queries asked.now))) }
 {
     let Some((last, before)) = asked.split_last() else {
         return Ok(());
@@ -73,12 +70,13 @@ pub(crate) fn header_text(alloc: Global, word: &str, number: u128) -> Result<Str
     Ok(text)
 }
 
-/// Returns the text that states that a system is safe at `k`, from the queries asked. It omits the
-/// step queries before the last query, which were satisfied. Each line ends with one line feed. No
-/// hint may be 0. Fails only if memory runs out.
+/// Returns the text that states that a system is safe at `k`, from the queries `asked`. It omits
+/// the step queries before the last query, which had runs. Each line ends with one line feed. No
+/// hint of a log may be 0. Fails only if memory runs out.
 pub fn safe_text(alloc: Global, k: u32, asked: &[Asked]) -> Result<Vec<u8>, AllocError>
     requires hints { IsTrue (have_no_hint_zero asked.now) }
-    ensures { IfOk result (λ text. text.items ≡ safe_text k (drop_early_step_queries asked.now)) }
+    ensures { IfOk result (λ text. text.items ≡
+        safe_text k (drop_nonfinal_step_queries asked.now)) }
 {
     let mut text = header_text(alloc, "safe", k as u128)?;
     push_kept(&mut text, asked)?;
@@ -86,8 +84,8 @@ pub fn safe_text(alloc: Global, k: u32, asked: &[Asked]) -> Result<Vec<u8>, Allo
     Ok(text.into_bytes())
 }
 
-/// Returns the text that states that all conflicts are spent, from the queries asked until then.
-/// Each line ends with one line feed. No hint may be 0. Fails only if memory runs out.
+/// Returns the text that states that all conflicts are spent, from the queries `asked` until then.
+/// Each line ends with one line feed. No hint of a log may be 0. Fails only if memory runs out.
 pub fn spent_text(alloc: Global, asked: &[Asked]) -> Result<Vec<u8>, AllocError>
     requires hints { IsTrue (have_no_hint_zero asked.now) }
     ensures { IfOk result (λ text. text.items ≡ spent_text (total_conflicts asked.now) asked.now) }

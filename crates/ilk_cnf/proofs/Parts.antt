@@ -6,7 +6,7 @@ use Rattle.std.proofs.lemmas.Bool.{and_parts, and_from, leb-true}
 use Rattle.ilk_cnf.specs.Literal.{Literal}
 use Rattle.ilk_cnf.specs.Formula.{is_clause_over, are_clauses_over}
 use Rattle.ilk_cnf.specs.Truth.{value, is_true, is_clause_true, satisfies}
-use Rattle.ilk_cnf.specs.Extends.{ExtensionsAreExactly, AreExactValues, ValuesFollowedBy}
+use Rattle.ilk_cnf.specs.Extends.{ExtensionsAreExactly, EqualsGivenValues, AreValuesOfConsecutiveParts}
 
 pub value-left : (a b : List Bool) (v : ℕ) → v ≤ length a → value (a ++ b) v ≡ value a v
 value-left a b v h = get_or_append_left (false ∷ a) b false v (omega arith)
@@ -37,7 +37,7 @@ pub in_turn :
     (a : List Bool) (m k : ℕ) (cs ds : List (List Literal)) (E : List Bool → Type 0)
     (F : (b : List Bool) → E b → List Bool → Type 0) → length a ≤ m → m ≤ k →
     are_clauses_over m cs ≡ true → ExtensionsAreExactly a m cs E →
-    ((b : List Bool) → (e : E b) → ExtensionsAreExactly (a ++ b) k ds (F b e)) → ExtensionsAreExactly a k (cs ++ ds) (ValuesFollowedBy E F)
+    ((b : List Bool) → (e : E b) → ExtensionsAreExactly (a ++ b) k ds (F b e)) → ExtensionsAreExactly a k (cs ++ ds) (AreValuesOfConsecutiveParts E F)
 in_turn a m k cs ds E F low high inside first next = record {
   sized = λ d h. rw (h.2, ← append_assoc a h.0 h.1) ((next h.0 h.3).sized h.1 h.4);
   all_satisfy = λ d h. rw (h.2, ← append_assoc a h.0 h.1) (both h.0 h.1 (first.sized h.0 h.3) (first.all_satisfy h.0 h.3) ((next h.0 h.3).all_satisfy h.1 h.4));
@@ -47,7 +47,7 @@ in_turn a m k cs ds E F low high inside first next = record {
     both : (b c : List Bool) → length (a ++ b) ≡ m → satisfies (a ++ b) cs ≡ true → satisfies ((a ++ b) ++ c) ds ≡ true → satisfies ((a ++ b) ++ c) (cs ++ ds) ≡ true
     both b c long h k = list_all-append (is_clause_true ((a ++ b) ++ c)) cs ds ∙ and_from _ _ (satisfies-left (a ++ b) c cs (rw long inside) ∙ h) k
 
-    split : (d : List Bool) → length (a ++ d) ≡ k → satisfies (a ++ d) (cs ++ ds) ≡ true → ValuesFollowedBy E F d
+    split : (d : List Bool) → length (a ++ d) ≡ k → satisfies (a ++ d) (cs ++ ds) ≡ true → AreValuesOfConsecutiveParts E F d
     split d long sat =
         let b = take (m - length a) d in
         let c = drop (m - length a) d in
@@ -70,7 +70,7 @@ in_words a m cs E F to from h = record {
   only = λ b long sat. to b (h.only b long sat);
 }
 
-pub one_by_one : (a e f : List Bool) (m k : ℕ) (cs ds : List (List Literal)) → length a ≤ m → m ≤ k → are_clauses_over m cs ≡ true → ExtensionsAreExactly a m cs (AreExactValues e) →
-    ExtensionsAreExactly (a ++ e) k ds (AreExactValues f) → ExtensionsAreExactly a k (cs ++ ds) (AreExactValues (e ++ f))
+pub one_by_one : (a e f : List Bool) (m k : ℕ) (cs ds : List (List Literal)) → length a ≤ m → m ≤ k → are_clauses_over m cs ≡ true → ExtensionsAreExactly a m cs (EqualsGivenValues e) →
+    ExtensionsAreExactly (a ++ e) k ds (EqualsGivenValues f) → ExtensionsAreExactly a k (cs ++ ds) (EqualsGivenValues (e ++ f))
 one_by_one a e f m k cs ds low high inside first next =
-    in_words a k (cs ++ ds) _ (AreExactValues (e ++ f)) (λ d h. rw (h.2, h.3, h.4) refl) (λ d h. (e, f, h, refl, refl)) (in_turn a m k cs ds (AreExactValues e) (λ b _. AreExactValues f) low high inside first (λ b h. rw h next))
+    in_words a k (cs ++ ds) _ (EqualsGivenValues (e ++ f)) (λ d h. rw (h.2, h.3, h.4) refl) (λ d h. (e, f, h, refl, refl)) (in_turn a m k cs ds (EqualsGivenValues e) (λ b _. EqualsGivenValues f) low high inside first (λ b h. rw h next))

@@ -5,11 +5,11 @@ use Rattle.std.proofs.Common.{refl, ap, ◌∙◌, arith}
 use Rattle.std.proofs.Math.Nat.{div-add-mod}
 use Rattle.ilk_cnf.specs.Literal.{Literal}
 
--- The literal of a number.
+-- Returns the literal with code `c`.
 abbrev pub literal_of : ℕ → Literal
 literal_of c = record { var = c / 2; positive = c % 2 == 1 }
 
--- The number of a literal.
+-- Returns the code of literal `l`: twice its variable, plus 1 if it is positive.
 abbrev pub code_of : Literal → ℕ
 code_of l = 2 * l.var + (if l.positive then 1 else 0)
 

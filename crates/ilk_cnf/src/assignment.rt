@@ -5,7 +5,7 @@ use crate::lit::Lit;
 use std::alloc::{AllocError, Global};
 use std::marker::Model;
 
-/// A truth value for each variable: entry v - 1 is the value of variable v.
+/// A truth value for each variable, from 1.
 #[derive(Drop)]
 pub struct Assignment {
     values: Vec<bool>,
@@ -66,7 +66,7 @@ impl Assignment {
         }
     }
 
-    /// Returns whether `lit` is true.
+    /// Returns whether `lit` is true under the assignment.
     pub fn is_lit_true(&self, lit: Lit) -> bool
         ensures { result ≡ is_true self.now lit }
     {
@@ -77,7 +77,7 @@ impl Assignment {
         }
     }
 
-    /// Returns whether some literal of `clause` is true.
+    /// Returns whether some literal of `clause` is true under the assignment.
     pub fn satisfies_clause(&self, clause: &[Lit]) -> bool
         ensures { result ≡ is_clause_true self.now clause.now }
     {

@@ -7,10 +7,10 @@ use ilk_base::Row;
 use std::alloc::{AllocError, Global};
 use std::marker::Model;
 
-/// A list of literals that may contain a variable twice.
+/// A list of literals, which may have a variable twice.
 pub type Lits = Row<Lit>;
 
-/// A list of literals over different variables.
+/// A list of literals over different variables. It is true if one of them is.
 #[derive(Drop)]
 pub struct Clause {
     lits: Vec<Lit>,
@@ -37,8 +37,8 @@ impl Clause {
         }
     }
 
-    /// Creates the clause that has each of `lits` once. Returns `None` if the list has both
-    /// literals of a variable, and so is always true.
+    /// Creates the clause that has each of `lits` once. Returns `None` if some variable has both
+    /// its literals in the list, so that it is always true.
     pub fn from_lits(alloc: Global, lits: &[Lit]) -> Result<Option<Clause>, AllocError>
         ensures { IfOk result (λ clause. option_to_list clause ≡ clause_unless_tautology lits.now) }
     {
@@ -78,7 +78,7 @@ impl Clause {
         self.lits.len() as u64
     }
 
-    /// Returns literal `i`.
+    /// Returns literal `i`, from 0.
     pub fn at(&self, i: u64) -> &Lit
         requires { i < length self.now }
         ensures { slice_get self.now i ≡ Some result.now }
@@ -86,7 +86,7 @@ impl Clause {
         &self.lits[i as usize]
     }
 
-    /// Returns the literals.
+    /// Returns all literals.
     pub fn as_slice(&self) -> &[Lit]
         ensures items { result.now ≡ self.now }
         ensures differ { IsTrue (has_distinct_vars self.now) }
@@ -95,7 +95,6 @@ impl Clause {
     }
 }
 
-// Returns whether `lit` occurs after entry `i`.
 fn stands_after(lits: &[Lit], i: usize, lit: Lit) -> bool
     requires { i < length lits.now }
     ensures { result ≡ has_lit lit (drop (i + 1) lits.now) }

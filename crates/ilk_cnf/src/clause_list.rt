@@ -4,10 +4,10 @@ use crate::lit::Lit;
 use std::alloc::{AllocError, Global};
 use std::marker::Model;
 
-/// A list of lists of literals. A formula has millions of short clauses, so all are stored in one
-/// vector instead of one allocation each.
+/// A list of lists of literals, all stored in one vector. A formula has millions of short clauses,
+/// too many for an allocation each.
 #[derive(Drop)]
-pub struct ClauseList {
+pub(crate) struct ClauseList {
     lits: Vec<Lit>,
     // For each list, the number of literals up to its end.
     ends: Vec<u64>,
@@ -54,7 +54,7 @@ impl ClauseList {
         self.ends.len() as u64
     }
 
-    /// Returns list `i`.
+    /// Returns list `i`, from 0.
     pub fn at(&self, i: u64) -> &[Lit]
         requires { i < length self.now }
         ensures { slice_get self.now i ≡ Some result.now }
@@ -64,7 +64,6 @@ impl ClauseList {
     }
 }
 
-// Returns the start of list `i`.
 fn start_of(ends: &[u64], i: u64) -> u64
     requires { i < length ends.now }
     ensures { result ≡ slice_index_or (0 ∷ ends.now) i 0 }
@@ -75,7 +74,6 @@ fn start_of(ends: &[u64], i: u64) -> u64
     ends[i as usize - 1]
 }
 
-// Returns the literals from `start` to before `end`.
 fn part(lits: &[Lit], start: u64, end: u64) -> &[Lit]
     requires order { start ≤ end }
     requires within { end ≤ length lits.now }

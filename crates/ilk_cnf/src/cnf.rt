@@ -1,5 +1,5 @@
 ghost use Rattle.std.specs.Prelude.{◌≡◌, ◌<◌, ◌≤◌, ◌+◌, ◌-◌, ◌^◌, ◌∷◌, [], length, slice_get, Some, OnOk, OnErr, IfOk, IsTrue};
-ghost use Rattle.ilk_cnf.specs.Formula.{with_clauses, clause_unless_tautology, is_clause_over, IsFormula};
+ghost use Rattle.ilk_cnf.specs.Formula.{with_vars_and_clauses, clause_unless_tautology, is_clause_over, IsFormula};
 ghost use Rattle.ilk_cnf.specs.Literal.{has_distinct_vars};
 ghost use Rattle.ilk_cnf.specs.Truth.{satisfies};
 
@@ -52,7 +52,8 @@ impl Cnf {
     pub fn fresh(&mut self) -> Result<u64, AllocError>
         ensures ok { IfOk result (λ v. v ≡ self.old.vars + 1) }
         ensures numbered { IfOk result (λ v. v ≤ 2 ^ 62) }
-        ensures grown { OnOk result (self.new ≡ with_clauses self.old (self.old.vars + 1) []) }
+        ensures grown { OnOk result (self.new ≡
+            with_vars_and_clauses self.old (self.old.vars + 1) []) }
         ensures err { OnErr result (self.new ≡ self.old) }
     {
         self.marks.push(0)?;
@@ -62,23 +63,23 @@ impl Cnf {
     /// Adds a clause at the end. If memory runs out, the formula is unchanged.
     pub fn add(&mut self, clause: Clause) -> Result<(), AllocError>
         requires { IsTrue (is_clause_over self.old.vars clause) }
-        ensures ok { OnOk result (self.new ≡ with_clauses self.old self.old.vars (clause ∷ [])) }
+        ensures ok { OnOk result (self.new ≡ with_vars_and_clauses self.old self.old.vars
+            (clause ∷ [])) }
         ensures err { OnErr result (self.new ≡ self.old) }
     {
         self.push(clause.as_slice())
     }
 
-    // Adds a list of literals over different variables as a clause.
     fn push(&mut self, lits: &[Lit]) -> Result<(), AllocError>
         requires within { IsTrue (is_clause_over self.old.vars lits.now) }
         requires differ { IsTrue (has_distinct_vars lits.now) }
-        ensures ok { OnOk result (self.new ≡ with_clauses self.old self.old.vars (lits.now ∷ [])) }
+        ensures ok { OnOk result (self.new ≡ with_vars_and_clauses self.old self.old.vars
+            (lits.now ∷ [])) }
         ensures err { OnErr result (self.new ≡ self.old) }
     {
         self.clauses.push(lits)
     }
 
-    // Returns whether the literals are over different variables.
     fn has_distinct_vars(&mut self, lits: &[Lit]) -> bool
         requires { IsTrue (is_clause_over self.old.vars lits.now) }
         ensures differ { result ≡ has_distinct_vars lits.now }
@@ -87,12 +88,12 @@ impl Cnf {
         has_distinct_vars(&mut self.marks, lits)
     }
 
-    /// Adds the clause that has each of `lits` once, or nothing if the list has both literals of a
-    /// variable. If memory runs out, the formula is unchanged.
+    /// Adds the clause that has each of `lits` once, or nothing if some variable has both its
+    /// literals in the list. If memory runs out, the formula is unchanged.
     pub fn add_clause_from_lits(&mut self, lits: &[Lit]) -> Result<(), AllocError>
         requires { IsTrue (is_clause_over self.old.vars lits.now) }
         ensures ok { OnOk result (self.new
-            ≡ with_clauses self.old self.old.vars (clause_unless_tautology lits.now)) }
+            ≡ with_vars_and_clauses self.old self.old.vars (clause_unless_tautology lits.now)) }
         ensures err { OnErr result (self.new ≡ self.old) }
     {
         if lits.len() > FEW && self.has_distinct_vars(lits) {

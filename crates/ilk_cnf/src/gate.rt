@@ -1,7 +1,7 @@
 ghost use Rattle.std.specs.Prelude.{◌≡◌, ◌+◌, ◌∷◌, [], List, Bool, map, length, OnOk, IfOk, IsTrue};
 ghost use Rattle.std.specs.List.{list_all};
-ghost use Rattle.ilk_cnf.specs.Extends.{PartExtensionsAreExactly, AreExactValues};
-ghost use Rattle.ilk_cnf.specs.Formula.{is_clause_over, with_clauses};
+ghost use Rattle.ilk_cnf.specs.Extends.{PartExtensionsAreExactly, EqualsGivenValues};
+ghost use Rattle.ilk_cnf.specs.Formula.{is_clause_over, with_vars_and_clauses};
 ghost use Rattle.ilk_cnf.specs.Literal.{negated_lit, positive_lit};
 ghost use Rattle.ilk_cnf.specs.Part.{with_part, clauses_from_lists, and_gate_clauses, and_gate_part, or_gate_part};
 ghost use Rattle.ilk_cnf.specs.Truth.{is_true, is_clause_true};
@@ -11,7 +11,7 @@ use crate::cnf::Cnf;
 use crate::lit::Lit;
 use std::alloc::{AllocError, Global};
 
-/// Returns the negations of `lits`.
+/// Returns the opposite of each of `lits`, in order.
 pub fn negated_lits(alloc: Global, lits: &[Lit]) -> Result<Lits, AllocError>
     ensures { IfOk result (λ others. others ≡ map negated_lit lits.now) }
 {
@@ -34,13 +34,12 @@ fn gate_and_opposites(alloc: Global, gate: Lit, lits: &[Lit]) -> Result<Lits, Al
     Ok(wide)
 }
 
-// Adds clauses that make each of `lits` true if `gate` is.
 fn imply_each(cnf: &mut Cnf, gate: Lit, lits: &[Lit]) -> Result<(), AllocError>
     requires gate { IsTrue (is_clause_over cnf.old.vars (gate ∷ [])) }
     requires lits { IsTrue (is_clause_over cnf.old.vars lits.now) }
     ensures { OnOk result
         (cnf.new
-        ≡ with_clauses cnf.old cnf.old.vars
+        ≡ with_vars_and_clauses cnf.old cnf.old.vars
         (clauses_from_lists (map (λ l. negated_lit gate ∷ l ∷ []) lits.now))) }
 {
     for lit in lits {
@@ -49,8 +48,8 @@ fn imply_each(cnf: &mut Cnf, gate: Lit, lits: &[Lit]) -> Result<(), AllocError>
     Ok(())
 }
 
-/// Adds the clauses that make `gate` true if and only if all of `lits` are. If memory runs out, the
-/// formula may have grown; its owner drops it.
+/// Adds clauses that make the existing literal `gate` true if and only if all of `lits` are. If
+/// memory runs out, `cnf` may have grown.
 pub fn define_and_gate(
     alloc: Global,
     cnf: &mut Cnf,
@@ -60,7 +59,7 @@ pub fn define_and_gate(
     requires gate { IsTrue (is_clause_over cnf.old.vars (gate ∷ [])) }
     requires lits { IsTrue (is_clause_over cnf.old.vars lits.now) }
     ensures { OnOk result
-        (cnf.new ≡ with_clauses cnf.old cnf.old.vars
+        (cnf.new ≡ with_vars_and_clauses cnf.old cnf.old.vars
         (clauses_from_lists (and_gate_clauses gate lits.now))) }
 {
     imply_each(cnf, gate, lits)?;
@@ -70,7 +69,7 @@ pub fn define_and_gate(
 }
 
 /// Adds a variable that is true if and only if all of `lits` are, and returns its positive literal.
-/// If memory runs out, the formula may have grown; its owner drops it.
+/// If memory runs out, `cnf` may have grown.
 pub fn add_and_gate(alloc: Global, cnf: &mut Cnf, lits: &[Lit]) -> Result<Lit, AllocError>
     requires { IsTrue (is_clause_over cnf.old.vars lits.now) }
     ensures lit { IfOk result (λ l. l ≡ positive_lit (cnf.old.vars + 1)) }
@@ -78,7 +77,7 @@ pub fn add_and_gate(alloc: Global, cnf: &mut Cnf, lits: &[Lit]) -> Result<Lit, A
     ensures law { OnOk result
         ((a : List Bool) → length a ≡ cnf.old.vars →
         PartExtensionsAreExactly a (and_gate_part lits.now cnf.old.vars)
-        (AreExactValues (list_all (is_true a) lits.now ∷ []))) }
+        (EqualsGivenValues (list_all (is_true a) lits.now ∷ []))) }
 {
     let gate = Lit::new(cnf.fresh()?, true);
     define_and_gate(alloc, cnf, gate, lits)?;
@@ -86,7 +85,7 @@ pub fn add_and_gate(alloc: Global, cnf: &mut Cnf, lits: &[Lit]) -> Result<Lit, A
 }
 
 /// Adds a variable that is true if and only if at least one of `lits` is, and returns its positive
-/// literal. If memory runs out, the formula may have grown; its owner drops it.
+/// literal. If memory runs out, `cnf` may have grown.
 pub fn add_or_gate(alloc: Global, cnf: &mut Cnf, lits: &[Lit]) -> Result<Lit, AllocError>
     requires { IsTrue (is_clause_over cnf.old.vars lits.now) }
     ensures lit { IfOk result (λ l. l ≡ positive_lit (cnf.old.vars + 1)) }
@@ -94,7 +93,7 @@ pub fn add_or_gate(alloc: Global, cnf: &mut Cnf, lits: &[Lit]) -> Result<Lit, Al
     ensures law { OnOk result
         ((a : List Bool) → length a ≡ cnf.old.vars →
         PartExtensionsAreExactly a (or_gate_part lits.now cnf.old.vars)
-        (AreExactValues (is_clause_true a lits.now ∷ []))) }
+        (EqualsGivenValues (is_clause_true a lits.now ∷ []))) }
 {
     let gate = Lit::new(cnf.fresh()?, true);
     let others = negated_lits(alloc, lits)?;

@@ -3,8 +3,8 @@ ghost use Rattle.ilk_cnf.specs.Literal.{negative_lit, negated_lit, same_lit};
 
 use std::marker::Model;
 
-/// A literal: a variable, from 1, with a sign. It is true if the variable has the value of the
-/// sign.
+/// A literal: a variable, from 1, with a sign. A positive one is true if the variable is, a
+/// negative one if it isn't.
 #[derive(Clone, Copy)]
 pub struct Lit {
     // Twice the variable, plus one if the literal is positive. A formula has millions of literals,
@@ -38,8 +38,7 @@ impl Default for Lit {
 }
 
 impl Lit {
-    /// Creates the literal of variable `var`. If `positive`, it is true when the variable is;
-    /// otherwise when the variable is false.
+    /// Creates the literal of variable `var`, positive or negative.
     pub fn new(var: u64, positive: bool) -> Lit
         requires from_1 { 0 < var }
         requires numbered { var ≤ 2 ^ 62 }
@@ -50,29 +49,29 @@ impl Lit {
         }
     }
 
-    /// Returns its variable.
+    /// Returns the literal's variable.
     pub fn var(self) -> u64
         ensures { result ≡ self.var }
     {
         self.code / 2
     }
 
-    /// Its variable is from 1 to 2^62. Proof only; no run-time effect.
-    pub fn var_is_in_range(self)
+    /// The variable of every literal is from 1 to 2^62. Proof only; no run-time effect.
+    pub fn var_is_always_in_range(self)
         ensures from_1 { 0 < self.var }
         ensures numbered { self.var ≤ 2 ^ 62 }
     {
         let _ = &self.code;
     }
 
-    /// Returns whether it is the positive literal of its variable.
+    /// Returns whether the literal is positive.
     pub fn positive(self) -> bool
         ensures { result ≡ self.positive }
     {
         self.code % 2 == 1
     }
 
-    /// Returns the other literal of its variable.
+    /// Returns the opposite literal of the same variable.
     pub fn negated(self) -> Lit
         ensures { result ≡ negated_lit self }
     {
@@ -81,7 +80,7 @@ impl Lit {
         }
     }
 
-    /// Returns whether the two literals are equal.
+    /// Returns whether the literal equals `other`.
     pub fn is_same(self, other: Lit) -> bool
         ensures { result ≡ same_lit self other }
     {

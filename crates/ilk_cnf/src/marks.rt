@@ -5,7 +5,6 @@ ghost use Rattle.ilk_cnf.specs.Marks.{is_marked};
 
 use crate::lit::Lit;
 
-// Sets or clears the mark of variable `v`.
 fn set_mark(marks: &mut [u16], v: u64, mark: bool)
     requires from_1 { 0 < v }
     requires within { v ≤ length marks.old }
@@ -16,7 +15,6 @@ fn set_mark(marks: &mut [u16], v: u64, mark: bool)
     marks[v as usize - 1] = mark as u16;
 }
 
-// Returns whether variable `v` is marked.
 fn is_marked(marks: &[u16], v: u64) -> bool
     requires from_1 { 0 < v }
     requires within { v ≤ length marks.now }
@@ -25,7 +23,6 @@ fn is_marked(marks: &[u16], v: u64) -> bool
     marks[v as usize - 1] == 1
 }
 
-// Clears the marks of the literals' variables.
 fn unmark(marks: &mut [u16], lits: &[Lit])
     requires { IsTrue (is_clause_over (length marks.old) lits.now) }
     ensures count { length marks.new ≡ length marks.old }
@@ -36,9 +33,9 @@ fn unmark(marks: &mut [u16], lits: &[Lit])
     }
 }
 
-/// Returns whether the literals are over different variables. It uses one mark per variable, from
-/// 1. The marks may have any values before the call, and any after it.
-pub fn has_distinct_vars(marks: &mut [u16], lits: &[Lit]) -> bool
+/// Returns whether `lits` are over different variables. `marks` needs an entry for each variable;
+/// its content may be anything before the call, and is unspecified after it.
+pub(crate) fn has_distinct_vars(marks: &mut [u16], lits: &[Lit]) -> bool
     requires { IsTrue (is_clause_over (length marks.old) lits.now) }
     ensures count { length marks.new ≡ length marks.old }
     ensures differ { result ≡ has_distinct_vars lits.now }

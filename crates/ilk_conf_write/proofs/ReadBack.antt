@@ -11,7 +11,7 @@ use Rattle.serde_json.specs.Events.{items_len}
 use Rattle.serde_json.specs.Find.{as_str}
 use Rattle.serde_json.specs.View.{items_of}
 use Rattle.ilk_base.specs.Result.{try_map_numbered}
-use Rattle.ilk_plant.specs.Limits.{WithinLimits, counts_are_allowed, route_within_limits, route_names_valid, section_names_valid}
+use Rattle.ilk_plant.specs.Limits.{WithinLimits, section_and_route_counts_allowed, route_within_limits, route_names_valid, section_names_valid}
 use Rattle.ilk_plant.specs.Name.{Name}
 use Rattle.ilk_plant.specs.declared.draft.KindDraft.{KindDraft}
 use Rattle.ilk_plant.specs.declared.draft.KindDraft.TheVariants.{Linear, Point}
@@ -24,14 +24,14 @@ use Rattle.ilk_plant.specs.declared.limits.TheConstants.{MAX_ROUTES, MAX_SECTION
 use Rattle.ilk_plant.proofs.WordsBack.{direction_back, position_back}
 use Rattle.ilk_net_read.specs.Document.{VersionedDocument, has_allowed_counts}
 use Rattle.ilk_net_read.specs.Member.{as_optional_text, all_entries_as, array_entries}
-use Rattle.ilk_net_read.specs.Network.{read_document, network_from_data, read_section}
+use Rattle.ilk_net_read.specs.Network.{document_from_value, network_from_value, section_from_value}
 use Rattle.ilk_net_read.specs.Section.{as_section}
 use Rattle.ilk_net_read.specs.declared.version.Version.{Version}
 use Rattle.ilk_net_read.specs.declared.version.Version.TheVariants.{First, Second}
 use Rattle.ilk_table_read.specs.Route.{as_listed_point, as_route}
 use Rattle.ilk_table_read.specs.Table.{net_and_table_drafts, route_draft_from_value, table_draft_from_value}
 use Rattle.ilk_net_read.proofs.Values.{value_of-read}
-use Rattle.ilk_conf_write.specs.ConfigurationText.{configuration_text, configuration_value, fits_version, has_no_protection, listed_point_value, optional_value, route_value, section_value}
+use Rattle.ilk_conf_write.specs.ConfigurationText.{configuration_text, configuration_value, table_fits_version, route_has_no_protection, listed_point_value, text_or_null_value, route_value, section_value}
 
 and-first : (a b : Bool) → (a && b) ≡ true → a ≡ true
 and-first true b e = refl
@@ -41,8 +41,6 @@ and-second : (a b : Bool) → (a && b) ≡ true → b ≡ true
 and-second true b e = e
 and-second false b e = absurd (cc)
 
--- Routes of a version.
-
 abbrev IsRouteIn : Version → RouteDraft → Type 0
 IsRouteIn First route = (route.protecting_points ≡ []) × (route.protecting_boards ≡ [])
 IsRouteIn Second route = Unit {0}
@@ -51,24 +49,22 @@ none-of : {A : Type 0} (xs : List A) → (length xs == 0) ≡ true → xs ≡ []
 none-of [] e = refl
 none-of (x ∷ xs) e = absurd (omega (arith, eqb-true (length (x ∷ xs)) 0 e))
 
-unprotected : (r : RouteDraft) → has_no_protection r ≡ true → IsRouteIn First r
+unprotected : (r : RouteDraft) → route_has_no_protection r ≡ true → IsRouteIn First r
 unprotected r e = (
   none-of r.protecting_points (and-first (length r.protecting_points == 0) (length r.protecting_boards == 0) e),
   none-of r.protecting_boards (and-second (length r.protecting_points == 0) (length r.protecting_boards == 0) e),
 )
 
-all-unprotected : (rs : List RouteDraft) → list_all has_no_protection rs ≡ true → All (IsRouteIn First) rs
+all-unprotected : (rs : List RouteDraft) → list_all route_has_no_protection rs ≡ true → All (IsRouteIn First) rs
 all-unprotected [] e = All-nil (IsRouteIn First)
 all-unprotected (r ∷ rs) e =
-    All-cons (IsRouteIn First) r rs (unprotected r (and-first (has_no_protection r) (list_all has_no_protection rs) e)) (all-unprotected rs (and-second (has_no_protection r) (list_all has_no_protection rs) e))
+    All-cons (IsRouteIn First) r rs (unprotected r (and-first (route_has_no_protection r) (list_all route_has_no_protection rs) e)) (all-unprotected rs (and-second (route_has_no_protection r) (list_all route_has_no_protection rs) e))
 
-each-in : (version : Version) (table : TableDraft) → fits_version version table ≡ true → All (IsRouteIn version) table.routes
+each-in : (version : Version) (table : TableDraft) → table_fits_version version table ≡ true → All (IsRouteIn version) table.routes
 each-in First table e = all-unprotected table.routes e
 each-in Second table e = λ k d lt. tt
 
--- Values.
-
-optional-read : (x : Option Name) → as_optional_text (optional_value x) ≡ Some x
+optional-read : (x : Option Name) → as_optional_text (text_or_null_value x) ≡ Some x
 optional-read None = refl
 optional-read (Some text) = refl
 
@@ -81,8 +77,6 @@ section-read s = by_kind s.kind
 
 listed-read : (l : ListedDraft) → as_listed_point (listed_point_value l) ≡ Some l
 listed-read l = rw (position_back l.at) refl
-
--- Lists of values.
 
 texts-read : (texts : List Name) → all_entries_as as_str (items_of (map string texts)) ≡ Some texts
 texts-read [] = refl
@@ -100,8 +94,6 @@ count : {A : Type 0} (value : A → Data) (xs : List A) → items_len (items_of 
 count value [] = refl
 count value (x ∷ xs) = ap suc (count value xs)
 
--- Routes.
-
 route-read : (version : Version) (r : RouteDraft) → IsRouteIn version r → as_route version (route_value version r) ≡ Some r
 route-read First r none =
     rw (optional-read r.destination, texts-read r.path, texts-read r.overlap, points-read r.points, texts-read r.conflicts) (ap Some (bare r none.0 none.1))
@@ -111,12 +103,10 @@ route-read First r none =
 route-read Second r none =
     rw (optional-read r.destination, texts-read r.path, texts-read r.overlap, points-read r.points, texts-read r.conflicts, points-read r.protecting_points, texts-read r.protecting_boards) refl
 
--- Items in order.
-
-section-of-read : (i : ℕ) (s : SectionDraft) → section_names_valid s ≡ true → read_section i (section_value s) ≡ Ok s
+section-of-read : (i : ℕ) (s : SectionDraft) → section_names_valid s ≡ true → section_from_value i (section_value s) ≡ Ok s
 section-of-read i s named = rw (section-read s, named) refl
 
-sections-read : (i : ℕ) (ss : List SectionDraft) → list_all section_names_valid ss ≡ true → try_map_numbered read_section i (map section_value ss) ≡ Ok ss
+sections-read : (i : ℕ) (ss : List SectionDraft) → list_all section_names_valid ss ≡ true → try_map_numbered section_from_value i (map section_value ss) ≡ Ok ss
 sections-read i [] named = refl
 sections-read i (s ∷ ss) named =
     rw (section-of-read i s (and-first (section_names_valid s) (list_all section_names_valid ss) named), sections-read (i + 1) ss (and-second (section_names_valid s) (list_all section_names_valid ss) named)) refl
@@ -138,8 +128,6 @@ routes-read version i (r ∷ rs) in_version named limited =
     (and-second (route_within_limits r) (list_all route_within_limits rs) limited) in
     rw (first, rest) refl
 
--- The document.
-
 abbrev parts_of : Version → NetDraft → TableDraft → VersionedDocument
 parts_of version net table = record {
   version = version;
@@ -149,28 +137,26 @@ parts_of version net table = record {
 
 counts-read : (version : Version) (net : NetDraft) (table : TableDraft) → WithinLimits net table → has_allowed_counts (parts_of version net table) ≡ true
 counts-read version net table limits =
-    ap₂ counts_are_allowed (count section_value net.sections) (count (route_value version) table.routes)
+    ap₂ section_and_route_counts_allowed (count section_value net.sections) (count (route_value version) table.routes)
     ∙ rw (le-leb 1 (length net.sections) limits.of_network.some, le-leb (length net.sections) MAX_SECTIONS limits.of_network.few, le-leb (length table.routes) MAX_ROUTES limits.of_table.few) refl
 
-document-read : (version : Version) (net : NetDraft) (table : TableDraft) → WithinLimits net table → read_document (configuration_value version net table) ≡ Ok (parts_of version net table)
+document-read : (version : Version) (net : NetDraft) (table : TableDraft) → WithinLimits net table → document_from_value (configuration_value version net table) ≡ Ok (parts_of version net table)
 document-read First net table limits = rw (counts-read First net table limits) refl
 document-read Second net table limits = rw (counts-read Second net table limits) refl
 
-network-read : (version : Version) (net : NetDraft) (table : TableDraft) → WithinLimits net table → network_from_data (configuration_value version net table) ≡ Ok net
+network-read : (version : Version) (net : NetDraft) (table : TableDraft) → WithinLimits net table → network_from_value (configuration_value version net table) ≡ Ok net
 network-read version net table limits =
     rw (document-read version net table limits, entries (map section_value net.sections), sections-read 0 net.sections limits.of_network.named) refl
 
-table-read : (version : Version) (net : NetDraft) (table : TableDraft) → WithinLimits net table → fits_version version table ≡ true → table_draft_from_value (configuration_value version net table) ≡ Ok table
+table-read : (version : Version) (net : NetDraft) (table : TableDraft) → WithinLimits net table → table_fits_version version table ≡ true → table_draft_from_value (configuration_value version net table) ≡ Ok table
 table-read version net table limits in_version =
     rw (document-read version net table limits, entries (map (route_value version) table.routes), routes-read version 0 table.routes (each-in version table in_version) limits.of_table.named limits.of_table.each) refl
-
--- The text.
 
 items-shallow : {A : Type 0} (value : A → Data) (n : ℕ) → ((x : A) → depth (value x) ≤ n) → (xs : List A) → items_depth (items_of (map value xs)) ≤ n
 items-shallow value n each [] = omega arith
 items-shallow value n each (x ∷ xs) = omega (arith, each x, items-shallow value n each xs)
 
-optional-flat : (x : Option Name) → depth (optional_value x) ≡ 0
+optional-flat : (x : Option Name) → depth (text_or_null_value x) ≡ 0
 optional-flat None = refl
 optional-flat (Some text) = refl
 
@@ -197,18 +183,16 @@ depth-few version net table =
     omega (arith, items-shallow section_value 1 section-shallow net.sections, items-shallow (route_value version) 3 (route-shallow version) table.routes)
 
 pub text-read : (version : Version) (net : NetDraft) (table : TableDraft) (text : List ℕ) →
-    WithinLimits net table → fits_version version table ≡ true → IsUtf8 text →
+    WithinLimits net table → table_fits_version version table ≡ true → IsUtf8 text →
     read text ≡ Some (configuration_value version net table) → net_and_table_drafts text ≡ Ok (net, table)
 text-read version net table text limits in_version utf8 is =
     rw (value_of-read text (configuration_value version net table) utf8 is, network-read version net table limits, table-read version net table limits in_version) refl
-
--- No value is a float.
 
 items-whole : {A : Type 0} (value : A → Data) → ((x : A) → has_float (value x) ≡ false) → (xs : List A) → items_have_float (items_of (map value xs)) ≡ false
 items-whole value each [] = refl
 items-whole value each (x ∷ xs) = rw (each x, items-whole value each xs) refl
 
-optional-whole : (x : Option Name) → has_float (optional_value x) ≡ false
+optional-whole : (x : Option Name) → has_float (text_or_null_value x) ≡ false
 optional-whole None = refl
 optional-whole (Some text) = refl
 
@@ -234,8 +218,6 @@ pub no-float : (version : Version) (net : NetDraft) (table : TableDraft) → has
 no-float First net table = rw (items-whole section_value section-whole net.sections, items-whole (route_value First) (route-whole First) table.routes) refl
 no-float Second net table = rw (items-whole section_value section-whole net.sections, items-whole (route_value Second) (route-whole Second) table.routes) refl
 
--- The written text.
-
 pub text-of :
     {A E : Type 0} (bytes : A → List ℕ) (written : Result A E) (d : Data) (version : Version) (net : NetDraft)
     (table : TableDraft) →
@@ -249,7 +231,7 @@ text-of bytes (Ok b) d version net table same told =
 pub read-of :
     {A E : Type 0} (bytes : A → List ℕ) (written : Result A E) (d : Data) (version : Version) (net : NetDraft)
     (table : TableDraft) →
-    WithinLimits net table → fits_version version table ≡ true → d ≡ configuration_value version net table →
+    WithinLimits net table → table_fits_version version table ≡ true → d ≡ configuration_value version net table →
     IfOk written (λ b. IsUtf8 (bytes b)) → IfOk written (λ b. depth d ≤ max_depth → read (bytes b) ≡ Some d) →
     IfOk written (λ b. net_and_table_drafts (bytes b) ≡ Ok (net, table))
 read-of bytes (Err e) d version net table limits in_version same utf8 told = tt

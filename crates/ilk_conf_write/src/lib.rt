@@ -1,10 +1,10 @@
-//! Writes a configuration, the drafts of a network and an interlocking table, as JSON that is read
-//! back as exactly these drafts.
+//! Writes the drafts of a network and an interlocking table as JSON that is read back as exactly
+//! these drafts.
 //!
-//! `specs/ConfigurationText.antt` defines the value written for the drafts, member by member, in
-//! each of the two versions. `configuration_json` returns its text. The reader (`ilk_table_read`)
-//! is separate: the two share only the names of members, the versions and the word tables. A clause
-//! of the call states that reading undoes writing.
+//! `specs/ConfigurationText.antt` defines the written value, member by member, in each of the two
+//! versions. `configuration_json` returns its text; its contract states that reading undoes
+//! writing. The reader (`ilk_table_read`) is separate: the two share only the names of members, the
+//! versions and the word tables.
 #![tactic(auto)]
 
 mod value;

@@ -1,5 +1,3 @@
-//! Drafts as JSON.
-
 ghost use Rattle.std.specs.Prelude.{◌≡◌, [], IfOk, OnOk};
 ghost use Rattle.serde_json.specs.Data.{object, string, put as with_member};
 ghost use Rattle.serde_json.specs.View.{members_view, view};
@@ -18,9 +16,8 @@ fn text_value(alloc: Global, text: &Text) -> Result<Value, AllocError>
     Value::try_from_str(alloc, text.as_str())
 }
 
-// Returns a text, or null if it is missing.
-fn optional_value(alloc: Global, text: &Option<Text>) -> Result<Value, AllocError>
-    ensures { IfOk result (λ value. view value ≡ written.optional_value text.now) }
+fn text_or_null_value(alloc: Global, text: &Option<Text>) -> Result<Value, AllocError>
+    ensures { IfOk result (λ value. view value ≡ written.text_or_null_value text.now) }
 {
     match text {
         None => Ok(Value::Null),
@@ -28,7 +25,6 @@ fn optional_value(alloc: Global, text: &Option<Text>) -> Result<Value, AllocErro
     }
 }
 
-// Returns a section with this name.
 fn section_value_by_kind(alloc: Global, name: &Text, kind: &KindDraft) -> Result<Value, AllocError>
     ensures { IfOk result (λ value. view value ≡ written.section_value_by_kind name.now kind.now) }
 {
@@ -40,10 +36,10 @@ fn section_value_by_kind(alloc: Global, name: &Text, kind: &KindDraft) -> Result
             board_down,
             board_up,
         } => {
-            let down = optional_value(alloc, down)?;
-            let up = optional_value(alloc, up)?;
-            let board_down = optional_value(alloc, board_down)?;
-            let board_up = optional_value(alloc, board_up)?;
+            let down = text_or_null_value(alloc, down)?;
+            let up = text_or_null_value(alloc, up)?;
+            let board_down = text_or_null_value(alloc, board_down)?;
+            let board_up = text_or_null_value(alloc, board_up)?;
             json!(in alloc; {
                 "name": name, "kind": "linear", "down": down, "up": up,
                 "board_down": board_down, "board_up": board_up
@@ -67,7 +63,7 @@ fn section_value_by_kind(alloc: Global, name: &Text, kind: &KindDraft) -> Result
 
 fn sections_value(alloc: Global, sections: &[SectionDraft]) -> Result<Value, AllocError>
     ensures { IfOk result
-        (λ value. view value ≡ written.array_of written.section_value sections.now) }
+        (λ value. view value ≡ written.array_of_mapped written.section_value sections.now) }
 {
     let mut values = Vec::new(alloc);
     for section in sections {
@@ -77,7 +73,7 @@ fn sections_value(alloc: Global, sections: &[SectionDraft]) -> Result<Value, All
 }
 
 fn texts_value(alloc: Global, texts: &Row<Text>) -> Result<Value, AllocError>
-    ensures { IfOk result (λ value. view value ≡ written.array_of string texts.now) }
+    ensures { IfOk result (λ value. view value ≡ written.array_of_mapped string texts.now) }
 {
     let mut values = Vec::new(alloc);
     for text in texts.as_slice() {
@@ -96,7 +92,7 @@ fn listed_point_value(alloc: Global, listed: &ListedDraft) -> Result<Value, Allo
 
 fn points_value(alloc: Global, points: &[ListedDraft]) -> Result<Value, AllocError>
     ensures { IfOk result
-        (λ value. view value ≡ written.array_of written.listed_point_value points.now) }
+        (λ value. view value ≡ written.array_of_mapped written.listed_point_value points.now) }
 {
     let mut values = Vec::new(alloc);
     for listed in points {
@@ -105,7 +101,6 @@ fn points_value(alloc: Global, points: &[ListedDraft]) -> Result<Value, AllocErr
     Ok(Value::Array(values))
 }
 
-// Adds a member that is a text to an object.
 fn put_text(
     alloc: Global,
     members: &mut Map<String, Value>,
@@ -119,7 +114,6 @@ fn put_text(
     put(members, alloc, name, text_value(alloc, text)?)
 }
 
-// Adds a member that is a text, or null if the text is missing.
 fn put_optional(
     alloc: Global,
     members: &mut Map<String, Value>,
@@ -128,13 +122,12 @@ fn put_optional(
 ) -> Result<(), AllocError>
     ensures { OnOk result
         (members_view members.new.entries
-        ≡ with_member name.now (written.optional_value text.now)
+        ≡ with_member name.now (written.text_or_null_value text.now)
         (members_view members.old.entries)) }
 {
-    put(members, alloc, name, optional_value(alloc, text)?)
+    put(members, alloc, name, text_or_null_value(alloc, text)?)
 }
 
-// Adds a member that is an array of texts.
 fn put_texts(
     alloc: Global,
     members: &mut Map<String, Value>,
@@ -143,13 +136,12 @@ fn put_texts(
 ) -> Result<(), AllocError>
     ensures { OnOk result
         (members_view members.new.entries
-        ≡ with_member name.now (written.array_of string texts.now)
+        ≡ with_member name.now (written.array_of_mapped string texts.now)
         (members_view members.old.entries)) }
 {
     put(members, alloc, name, texts_value(alloc, texts)?)
 }
 
-// Adds a member that is an array of points, each with its required position.
 fn put_points(
     alloc: Global,
     members: &mut Map<String, Value>,
@@ -158,13 +150,13 @@ fn put_points(
 ) -> Result<(), AllocError>
     ensures { OnOk result
         (members_view members.new.entries
-        ≡ with_member name.now (written.array_of written.listed_point_value points.now)
+        ≡ with_member name.now (written.array_of_mapped written.listed_point_value points.now)
         (members_view members.old.entries)) }
 {
     put(members, alloc, name, points_value(alloc, points)?)
 }
 
-// Adds the members of a route to an empty object. In version 1 it has no protecting points and
+// Adds the members of a route to an empty object; in version 1 without protecting points and
 // boards.
 fn put_route(
     alloc: Global,
@@ -204,7 +196,7 @@ fn route_value(alloc: Global, version: Version, route: &RouteDraft) -> Result<Va
 
 fn routes_value(alloc: Global, version: Version, routes: &[RouteDraft]) -> Result<Value, AllocError>
     ensures { IfOk result
-        (λ value. view value ≡ written.array_of (written.route_value version) routes.now) }
+        (λ value. view value ≡ written.array_of_mapped (written.route_value version) routes.now) }
 {
     let mut values = Vec::new(alloc);
     for route in routes {
@@ -222,8 +214,9 @@ fn version_number(version: Version) -> u64
     }
 }
 
-/// Returns the document of a network and an interlocking table, in a version.
-pub fn configuration_value(
+/// Returns the JSON value of a configuration: an object with its version, the sections of `net` and
+/// the routes of `table`. Fails only if memory runs out.
+pub(crate) fn configuration_value(
     alloc: Global,
     version: Version,
     net: &NetDraft,

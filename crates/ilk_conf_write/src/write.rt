@@ -1,17 +1,17 @@
 ghost use Rattle.std.specs.Prelude.{◌≡◌, IfOk, IsTrue, Ok};
 ghost use Rattle.ilk_plant.specs.Limits.{WithinLimits};
 ghost use Rattle.ilk_table_read.specs.Table.{net_and_table_drafts};
-ghost use Rattle.ilk_conf_write.specs.ConfigurationText.{configuration_text, fits_version};
+ghost use Rattle.ilk_conf_write.specs.ConfigurationText.{configuration_text, table_fits_version};
 
 use crate::value::configuration_value;
 use ilk_net_read::Version;
 use ilk_plant::{NetDraft, TableDraft};
 use std::alloc::{AllocError, Global};
 
-/// Returns the configuration of a network and an interlocking table, in a version, as JSON without
-/// spaces and without a line end. Both must be within the limits, and in version 1 no route may
-/// list protecting points or boards. The text is read back as exactly these drafts. Fails only if
-/// memory runs out.
+/// Returns the JSON text of the configuration with network `net` and interlocking table `table`, in
+/// `version`, without spaces and without a line end. It is read back as exactly these drafts. Both
+/// must be within the limits. In version 1 no route may list protecting points or boards. Fails
+/// only if memory runs out.
 pub fn configuration_json(
     alloc: Global,
     version: Version,
@@ -19,7 +19,7 @@ pub fn configuration_json(
     table: &TableDraft,
 ) -> Result<Vec<u8>, AllocError>
     requires limits { WithinLimits net.now table.now }
-    requires version { IsTrue (fits_version version table.now) }
+    requires version { IsTrue (table_fits_version version table.now) }
     ensures text { IfOk result (λ text. text.items ≡ configuration_text version net.now table.now) }
     ensures read { IfOk result (λ text. net_and_table_drafts text.items ≡ Ok (net.now, table.now)) }
 {

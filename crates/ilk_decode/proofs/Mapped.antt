@@ -20,9 +20,9 @@ use Rattle.ilk_plant.specs.declared.state.Mode.{Mode}
 use Rattle.ilk_plant.specs.declared.state.Mode.TheVariants.{Free, Marked, Allocating, Locked, Occupied}
 use Rattle.ilk_plant.specs.declared.state.State.{State}
 use Rattle.ilk_layout.specs.Image.{image_of, occupancy_values}
-use Rattle.ilk_layout.specs.Occupancy.{occupancy_of}
+use Rattle.ilk_layout.specs.Occupancy.{occupancy_or_crash}
 use Rattle.ilk_layout.specs.Values.{aspect_value, lock_value, detected_value, mode_value, occupancy_value, commanded_value}
-use Rattle.ilk_layout.specs.Variables.{detected_var, board_var, boards_begin, lock_var, locks_begin, mode_var, occupancies_begin, occupancy_var, points_begin, rel_var, seen_var, commanded_var}
+use Rattle.ilk_layout.specs.Variables.{detected_var, board_var, boards_begin, lock_var, locks_begin, mode_var, occupancies_begin, occupancy_var, points_begin, released_count_var, seen_count_var, commanded_var}
 use Rattle.ilk_layout.specs.declared.values.Occupancy.{Occupancy}
 use Rattle.ilk_layout.specs.declared.values.Occupancy.TheVariants.{Vacant, Taken, Crash}
 use Rattle.ilk_layout.proofs.Writes.{at-at, board-at, lock-at, mode-at, occupancy-at, rel-at, seen-at, to-at}
@@ -88,8 +88,8 @@ module _ (p : PlantLists) (s : State) (shape : HasShape p s) where
   routes-back =
       mapped-range (decoded_route (image_of p s)) (length p.routes) s.routes shape.routes (λ r now at. (
       let mode : mode_from_number (get_or (image_of p s) (mode_var r) 0) ≡ now.mode = ap mode_from_number (value-is (mode_var r) (mode_value now.mode) (mode-at p s (occupancy_values p s) shape r now at)) ∙ mode-numbered now.mode in
-      let seen : get_or (image_of p s) (seen_var r) 0 ≡ now.seen = value-is (seen_var r) now.seen (seen-at p s (occupancy_values p s) shape r now at) in
-      let rel : get_or (image_of p s) (rel_var r) 0 ≡ now.rel = value-is (rel_var r) now.rel (rel-at p s (occupancy_values p s) shape r now at) in
+      let seen : get_or (image_of p s) (seen_count_var r) 0 ≡ now.seen = value-is (seen_count_var r) now.seen (seen-at p s (occupancy_values p s) shape r now at) in
+      let rel : get_or (image_of p s) (released_count_var r) 0 ≡ now.rel = value-is (released_count_var r) now.rel (rel-at p s (occupancy_values p s) shape r now at) in
       λ i. record { mode = mode i; seen = seen i; rel = rel i }))
 
   pub points-back : map (decoded_point (image_of p s) (points_begin p)) (range_with_len 0 (point_count p)) ≡ s.points
@@ -110,20 +110,20 @@ module _ (p : PlantLists) (s : State) (shape : HasShape p s) where
       mapped-range (decoded_lock (image_of p s) (locks_begin p)) (length p.sections) s.locks shape.locks (λ x hold at.
       ap hold_from_number (value-is (lock_var p x) (lock_value hold) (lock-at p s (occupancy_values p s) shape x hold at)) ∙ hold-numbered hold)
 
-  pub occupancies-back : map (decoded_occupancy (image_of p s) (occupancies_begin p)) (range_with_len 0 (length p.sections)) ≡ map (occupancy_of p s) (range_with_len 0 (length p.sections))
+  pub occupancies-back : map (decoded_occupancy (image_of p s) (occupancies_begin p)) (range_with_len 0 (length p.sections)) ≡ map (occupancy_or_crash p s) (range_with_len 0 (length p.sections))
   occupancies-back =
-      mapped-range (decoded_occupancy (image_of p s) (occupancies_begin p)) (length p.sections) (map (occupancy_of p s) (range_with_len 0 (length p.sections))) (length-map-range_with_len (occupancy_of p s) 0 (length p.sections)) each
+      mapped-range (decoded_occupancy (image_of p s) (occupancies_begin p)) (length p.sections) (map (occupancy_or_crash p s) (range_with_len 0 (length p.sections))) (length-map-range_with_len (occupancy_or_crash p s) 0 (length p.sections)) each
     where
-      each : (x : ℕ) (o : Occupancy) → slice_get (map (occupancy_of p s) (range_with_len 0 (length p.sections))) x ≡ Some o → decoded_occupancy (image_of p s) (occupancies_begin p) x ≡ o
+      each : (x : ℕ) (o : Occupancy) → slice_get (map (occupancy_or_crash p s) (range_with_len 0 (length p.sections))) x ≡ Some o → decoded_occupancy (image_of p s) (occupancies_begin p) x ≡ o
       each x o at =
           let there : slice_get (occupancy_values p s) x ≡ Some (occupancy_value o) =
-          slice_get-map (λ y. occupancy_value (occupancy_of p s y)) (range_with_len 0 (length p.sections))
+          slice_get-map (λ y. occupancy_value (occupancy_or_crash p s y)) (range_with_len 0 (length p.sections))
           x
           ∙ in_steps (slice_get (range_with_len 0 (length p.sections)) x)
           ∙ ap (option_map occupancy_value)
-          (sym (slice_get-map (occupancy_of p s) (range_with_len 0 (length p.sections)) x) ∙ at) in
+          (sym (slice_get-map (occupancy_or_crash p s) (range_with_len 0 (length p.sections)) x) ∙ at) in
           ap occupancy_from_number (value-is (occupancy_var p x) (occupancy_value o) (occupancy-at p s (occupancy_values p s) shape x ∙ there)) ∙ occupancy-numbered o
         where
-          in_steps : (found : Option ℕ) → option_map (λ y. occupancy_value (occupancy_of p s y)) found ≡ option_map occupancy_value (option_map (occupancy_of p s) found)
+          in_steps : (found : Option ℕ) → option_map (λ y. occupancy_value (occupancy_or_crash p s y)) found ≡ option_map occupancy_value (option_map (occupancy_or_crash p s) found)
           in_steps None = refl
           in_steps (Some y) = refl

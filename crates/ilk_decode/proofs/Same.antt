@@ -14,13 +14,13 @@ use Rattle.ilk_plant.specs.State.{detected_position}
 use Rattle.ilk_plant.specs.declared.network.Dir.{Dir}
 use Rattle.ilk_plant.specs.declared.state.State.{State}
 use Rattle.ilk_motion.specs.Ahead.{ahead}
-use Rattle.ilk_layout.specs.Decoded.{follow_steps, next_body_section, train_from_tail, trains_of}
+use Rattle.ilk_layout.specs.Decoded.{follow_steps, next_body_section, train_from_tail, trains_from_occupancies}
 use Rattle.ilk_layout.specs.Image.{image_of}
 use Rattle.ilk_layout.specs.Laws.{AreImageOfSafeState, IsWellFormedAndSafe}
-use Rattle.ilk_layout.specs.Occupancy.{occupancy_of}
+use Rattle.ilk_layout.specs.Occupancy.{occupancy_or_crash}
 use Rattle.ilk_layout.specs.Values.{occupancy_value}
 use Rattle.ilk_layout.specs.Variables.{ranges_of_plant}
-use Rattle.ilk_layout.specs.Wellformed.{has_more_behind, is_wellformed, mutual_section_ahead, occupancy_is_consistent}
+use Rattle.ilk_layout.specs.Wellformed.{train_in_dir_continues_behind, is_wellformed, mutual_section_ahead, occupancy_is_consistent}
 use Rattle.ilk_layout.specs.declared.values.Occupancy.{Occupancy}
 use Rattle.ilk_layout.specs.declared.values.Occupancy.TheVariants.{Vacant, Taken, Crash}
 use Rattle.ilk_layout.proofs.Made.{made-calm, made-occupancy, made-shape}
@@ -29,21 +29,20 @@ use Rattle.ilk_layout.proofs.Ranged.{wellformed-image}
 use Rattle.ilk_layout.proofs.Told.{told-fits}
 use Rattle.ilk_layout.proofs.Tracks.{demands}
 use Rattle.ilk_layout.proofs.Writes.{image_with}
-use Rattle.ilk_decode.specs.Read.{decoded, next_in_body, decoded_occupancies, train_with_tail, trains_by_tails, without_trains}
+use Rattle.ilk_decode.specs.Read.{decoded_state, next_in_body, decoded_occupancies, train_with_tail, trains_by_tails, decoded_without_trains}
 use Rattle.ilk_decode.proofs.Mapped.{boards-back, locks-back, occupancies-back, points-back, routes-back}
 
 module _ (p : PlantLists) (plant : IsPlant p) (never : IsAcyclic p) (s : State)
     (occupancies : List Occupancy) (long : length occupancies ≡ length p.sections)
     (fits : (x : ℕ) → x < length p.sections →
     occupancy_is_consistent p (detected_position p s) (slice_get occupancies) x (slice_get occupancies x) ≡ true) where
-  -- Unless the head is there, the section ahead of a train's section is the next one of its body.
   next-is : (x : ℕ) → next_in_body p s occupancies x ≡ next_body_section p (detected_position p s) (slice_get occupancies) x
   next-is x = by_occupancy (slice_get occupancies x) refl
     where
       ahead-is : (d : Dir) (tail : Bool) → slice_get occupancies x ≡ Some (Taken d tail false) → ahead p s x d ≡ mutual_section_ahead p (detected_position p s) x d
       ahead-is d tail at =
           let within = slice_get_within occupancies x (Taken d tail false) at in
-          let next = some-and (mutual_section_ahead p (detected_position p s) x d) (λ y. is_some_and (slice_get occupancies y) (has_more_behind d))
+          let next = some-and (mutual_section_ahead p (detected_position p s) x d) (λ y. is_some_and (slice_get occupancies y) (train_in_dir_continues_behind d))
           (demands p plant never (detected_position p s) (slice_get occupancies) fits x d tail false (omega arith) at).1 in
           (joined-parts p (detected_position p s) x next.0 d next.1).0 ∙ sym next.1
 
@@ -54,7 +53,7 @@ module _ (p : PlantLists) (plant : IsPlant p) (never : IsAcyclic p) (s : State)
       by_occupancy (Some (Taken d tail true)) at = rw at refl
       by_occupancy (Some (Taken d tail false)) at = let same = ahead-is d tail at in rw at same
 
-  trains-are : trains_by_tails p s occupancies ≡ trains_of p (detected_position p s) (slice_get occupancies)
+  trains-are : trains_by_tails p s occupancies ≡ trains_from_occupancies p (detected_position p s) (slice_get occupancies)
   trains-are = ap (λ f. filter_map f (range_with_len 0 (length p.sections))) same
     where
       steps : next_in_body p s occupancies ≡ next_body_section p (detected_position p s) (slice_get occupancies)
@@ -78,14 +77,13 @@ module _ (p : PlantLists) (plant : IsPlant p) (never : IsAcyclic p) (s : State)
 
 module _ (p : PlantLists) (plant : IsPlant p) (never : IsAcyclic p) (s : State) (calm : IsWellFormedAndSafe p s) where
   abbrev had : List Occupancy
-  had = map (occupancy_of p s) (range_with_len 0 (length p.sections))
+  had = map (occupancy_or_crash p s) (range_with_len 0 (length p.sections))
 
-  -- The same state, with its trains in the order of their tails.
   abbrev by_tails : State
-  by_tails = record s { trains = trains_of p (detected_position p s) (slice_get had) }
+  by_tails = record s { trains = trains_from_occupancies p (detected_position p s) (slice_get had) }
 
-  told : (x : ℕ) → x < length p.sections → slice_get had x ≡ Some (occupancy_of p s x)
-  told x within = slice_get-map (occupancy_of p s) (range_with_len 0 (length p.sections)) x ∙ ap (option_map (occupancy_of p s)) (range-at (length p.sections) x within)
+  told : (x : ℕ) → x < length p.sections → slice_get had x ≡ Some (occupancy_or_crash p s x)
+  told x within = slice_get-map (occupancy_or_crash p s) (range_with_len 0 (length p.sections)) x ∙ ap (option_map (occupancy_or_crash p s)) (range-at (length p.sections) x within)
 
   fit : (x : ℕ) → x < length p.sections → occupancy_is_consistent p (detected_position p s) (slice_get had) x (slice_get had x) ≡ true
   fit = told-fits p plant never s calm.shape calm.no_hazard (slice_get had) told
@@ -101,12 +99,12 @@ module _ (p : PlantLists) (plant : IsPlant p) (never : IsAcyclic p) (s : State) 
 
   tails-image : image_of p by_tails ≡ image_of p s
   tails-image =
-      ap (image_with s) (map-range-congr (λ x. occupancy_value (occupancy_of p by_tails x)) (λ x. occupancy_value (occupancy_of p s x)) 0 (length p.sections) (λ x low high. ap occupancy_value (same x (omega arith))))
+      ap (image_with s) (map-range-congr (λ x. occupancy_value (occupancy_or_crash p by_tails x)) (λ x. occupancy_value (occupancy_or_crash p s x)) 0 (length p.sections) (λ x low high. ap occupancy_value (same x (omega arith))))
     where
-      same : (x : ℕ) → x < length p.sections → occupancy_of p by_tails x ≡ occupancy_of p s x
-      same x within = same_Some (occupancy_of p by_tails x) (occupancy_of p s x) (sym (made-occupancy p plant never (detected_position p s) (slice_get had) fit by_tails (λ y. refl) refl others x within) ∙ told x within)
+      same : (x : ℕ) → x < length p.sections → occupancy_or_crash p by_tails x ≡ occupancy_or_crash p s x
+      same x within = same_Some (occupancy_or_crash p by_tails x) (occupancy_or_crash p s x) (sym (made-occupancy p plant never (detected_position p s) (slice_get had) fit by_tails (λ y. refl) refl others x within) ∙ told x within)
 
-  image-back : decoded p (image_of p s) ≡ by_tails
+  image-back : decoded_state p (image_of p s) ≡ by_tails
   image-back = λ i. record {
     routes = routes-back p s calm.shape i;
     points = points-back p s calm.shape i;
@@ -115,7 +113,7 @@ module _ (p : PlantLists) (plant : IsPlant p) (never : IsAcyclic p) (s : State) 
     trains = trains i;
   }
     where
-      rest : without_trains p (image_of p s) ≡ record s { trains = [] }
+      rest : decoded_without_trains p (image_of p s) ≡ record s { trains = [] }
       rest i = record {
         routes = routes-back p s calm.shape i;
         points = points-back p s calm.shape i;
@@ -124,23 +122,23 @@ module _ (p : PlantLists) (plant : IsPlant p) (never : IsAcyclic p) (s : State) 
         trains = [];
       }
 
-      trains : trains_by_tails p (without_trains p (image_of p s)) (decoded_occupancies p (image_of p s)) ≡ trains_of p (detected_position p s) (slice_get had)
+      trains : trains_by_tails p (decoded_without_trains p (image_of p s)) (decoded_occupancies p (image_of p s)) ≡ trains_from_occupancies p (detected_position p s) (slice_get had)
       trains =
           (λ i. trains_by_tails p (rest i) (occupancies-back p s calm.shape i))
-          ∙ trains-are p plant never (record s { trains = [] }) had (length-map-range_with_len (occupancy_of p s) 0 (length p.sections)) fit
+          ∙ trains-are p plant never (record s { trains = [] }) had (length-map-range_with_len (occupancy_or_crash p s) 0 (length p.sections)) fit
 
-  pub calm-back : IsWellFormedAndSafe p (decoded p (image_of p s))
+  pub calm-back : IsWellFormedAndSafe p (decoded_state p (image_of p s))
   calm-back = subst (IsWellFormedAndSafe p) (sym image-back) tails-calm
 
-  pub same-image : image_of p (decoded p (image_of p s)) ≡ image_of p s
+  pub same-image : image_of p (decoded_state p (image_of p s)) ≡ image_of p s
   same-image = ap (image_of p) image-back ∙ tails-image
 
 module _ (p : PlantLists) (plant : IsPlant p) (never : IsAcyclic p) (values : List ℕ) (h : in_ranges values (ranges_of_plant p) ≡ true) (fits : is_wellformed p values ≡ true) where
   known : AreImageOfSafeState p values
   known = wellformed-image p plant never values h fits
 
-  pub decoded-calm : IsWellFormedAndSafe p (decoded p values)
-  decoded-calm = (let P : List ℕ → Type 0 = λ v. IsWellFormedAndSafe p (decoded p v) in subst P known.image (calm-back p plant never known.state known.calm))
+  pub decoded_state-calm : IsWellFormedAndSafe p (decoded_state p values)
+  decoded_state-calm = (let P : List ℕ → Type 0 = λ v. IsWellFormedAndSafe p (decoded_state p v) in subst P known.image (calm-back p plant never known.state known.calm))
 
-  pub decoded-image : image_of p (decoded p values) ≡ values
-  decoded-image = (let P : List ℕ → Type 0 = λ v. image_of p (decoded p v) ≡ v in subst P known.image (same-image p plant never known.state known.calm))
+  pub decoded_state-image : image_of p (decoded_state p values) ≡ values
+  decoded_state-image = (let P : List ℕ → Type 0 = λ v. image_of p (decoded_state p v) ≡ v in subst P known.image (same-image p plant never known.state known.calm))

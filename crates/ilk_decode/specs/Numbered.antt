@@ -1,4 +1,5 @@
--- Used only in private contracts: the value with a number, or the last value if no value has it.
+-- The value that a number stands for in an image. A number too great for its type gives the last
+-- value. Used only in private contracts.
 use Rattle.std.specs.Prelude.{ℕ, true, false, ◌==◌, if◌then◌else◌}
 use Rattle.ilk_plant.specs.declared.network.Dir.TheVariants.{Up, Down}
 use Rattle.ilk_plant.specs.declared.network.Position.{Position}

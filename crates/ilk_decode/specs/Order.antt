@@ -4,7 +4,7 @@ use Rattle.std.specs.List.{flat_map}
 use Rattle.std.specs.List.Sorted.{IsStrictlyIncreasing}
 use Rattle.ilk_plant.specs.declared.state.Train.{Train}
 
--- The section of each train's tail, in the order of the trains.
+-- Returns the section of each train's tail, in the order of the trains.
 abbrev pub tail_sections : List Train → List ℕ
 tail_sections trains = flat_map (λ train. take 1 train.body) trains
 

@@ -1,4 +1,4 @@
--- Used only in private contracts: the state decoded from values, part by part.
+-- The state decoded from the values of an image, part by part. Used only in private contracts.
 use Rattle.std.specs.Prelude.{ℕ, ◌+◌, ◌*◌, true, false, Option, Some, None, List, [], ◌∷◌, filter_map, get_or, length, map, option_map, slice_get}
 use Rattle.std.specs.List.{range_with_len}
 use Rattle.ilk_plant.specs.Plant.{PlantLists, point_count}
@@ -11,29 +11,34 @@ use Rattle.ilk_plant.specs.declared.state.State.{State}
 use Rattle.ilk_plant.specs.declared.state.Train.{Train}
 use Rattle.ilk_motion.specs.Ahead.{ahead}
 use Rattle.ilk_layout.specs.Decoded.{follow_steps}
-use Rattle.ilk_layout.specs.Variables.{boards_begin, locks_begin, mode_var, occupancies_begin, points_begin, rel_var, seen_var}
+use Rattle.ilk_layout.specs.Variables.{boards_begin, locks_begin, mode_var, occupancies_begin, points_begin, released_count_var, seen_count_var}
 use Rattle.ilk_layout.specs.declared.values.Occupancy.{Occupancy}
 use Rattle.ilk_layout.specs.declared.values.Occupancy.TheVariants.{Vacant, Taken, Crash}
 use Rattle.ilk_decode.specs.Numbered.{aspect_from_number, hold_from_number, lie_from_number, mode_from_number, occupancy_from_number, position_from_number}
 
+-- Returns the state of route `r` by these values.
 abbrev pub decoded_route : List ℕ → ℕ → RouteState
-decoded_route values r = record { mode = mode_from_number (get_or values (mode_var r) 0); seen = get_or values (seen_var r) 0; rel = get_or values (rel_var r) 0 }
+decoded_route values r = record { mode = mode_from_number (get_or values (mode_var r) 0); seen = get_or values (seen_count_var r) 0; rel = get_or values (released_count_var r) 0 }
 
+-- Returns the state of point number `n` by these values. `begin` is the points' first variable.
 abbrev pub decoded_point : List ℕ → ℕ → ℕ → PointState
 decoded_point values begin n = record { at = lie_from_number (get_or values (begin + 2 * n) 0); to = position_from_number (get_or values (begin + 2 * n + 1) 0) }
 
+-- Returns the aspect of board `m` by these values. `begin` is the boards' first variable.
 abbrev pub decoded_board : List ℕ → ℕ → ℕ → Aspect
 decoded_board values begin m = aspect_from_number (get_or values (begin + m) 0)
 
+-- Returns the lock of section `x` by these values. `begin` is the locks' first variable.
 abbrev pub decoded_lock : List ℕ → ℕ → ℕ → Hold
 decoded_lock values begin x = hold_from_number (get_or values (begin + x) 0)
 
+-- Returns the occupancy of section `x` by these values. `begin` is the occupancies' first variable.
 abbrev pub decoded_occupancy : List ℕ → ℕ → ℕ → Occupancy
 decoded_occupancy values begin x = occupancy_from_number (get_or values (begin + x) 0)
 
--- The state without trains that has these values.
-abbrev pub without_trains : PlantLists → List ℕ → State
-without_trains p values = record {
+-- Returns the state that has these values for its routes, points, boards and locks, but no trains.
+abbrev pub decoded_without_trains : PlantLists → List ℕ → State
+decoded_without_trains p values = record {
   routes = map (decoded_route values) (range_with_len 0 (length p.routes));
   points = map (decoded_point values (points_begin p)) (range_with_len 0 (point_count p));
   boards = map (decoded_board values (boards_begin p)) (range_with_len 0 (length p.boards));
@@ -41,11 +46,12 @@ without_trains p values = record {
   trains = [];
 }
 
+-- Returns the occupancies of all sections by these values, in order.
 abbrev pub decoded_occupancies : PlantLists → List ℕ → List Occupancy
 decoded_occupancies p values = map (decoded_occupancy values (occupancies_begin p)) (range_with_len 0 (length p.sections))
 
--- The section after `x` in its train's body, which is the one ahead; `None` if the head is at `x`
--- or there is no train.
+-- Returns the next section towards the head, in the body of the train on `x`. Returns `None` if the
+-- head is at `x`, or no train is.
 abbrev pub next_in_body : PlantLists → State → List Occupancy → ℕ → Option ℕ
 next_in_body p s occupancies x = by_occupancy (slice_get occupancies x)
   where
@@ -56,7 +62,7 @@ next_in_body p s occupancies x = by_occupancy (slice_get occupancies x)
     by_occupancy (Some (Taken d tail true)) = None
     by_occupancy (Some (Taken d tail false)) = ahead p s x d
 
--- The direction of the train with its tail at `x`, or `None`.
+-- Returns the direction of the train with its tail at `x`. Returns `None` if no tail is there.
 abbrev pub tail_direction : List Occupancy → ℕ → Option Dir
 tail_direction occupancies x = by_occupancy (slice_get occupancies x)
   where
@@ -67,15 +73,15 @@ tail_direction occupancies x = by_occupancy (slice_get occupancies x)
     by_occupancy (Some (Taken d false head)) = None
     by_occupancy (Some (Taken d true head)) = Some d
 
--- The train with its tail at `x`, or `None`.
+-- Returns the train with its tail at `x`. Returns `None` if no tail is there.
 abbrev pub train_with_tail : PlantLists → State → List Occupancy → ℕ → Option Train
 train_with_tail p s occupancies x =
     option_map (λ d. record { dir = d; body = x ∷ follow_steps (length p.sections) (next_in_body p s occupancies) x }) (tail_direction occupancies x)
 
--- The trains, in ascending order of the sections of their tails.
+-- Returns the trains, in ascending order of the sections of their tails.
 abbrev pub trains_by_tails : PlantLists → State → List Occupancy → List Train
 trains_by_tails p s occupancies = filter_map (train_with_tail p s occupancies) (range_with_len 0 (length p.sections))
 
--- The state with these values.
-abbrev pub decoded : PlantLists → List ℕ → State
-decoded p values = record (without_trains p values) { trains = trains_by_tails p (without_trains p values) (decoded_occupancies p values) }
+-- Returns the state that has these values, with its trains in ascending order of their tails.
+abbrev pub decoded_state : PlantLists → List ℕ → State
+decoded_state p values = record (decoded_without_trains p values) { trains = trains_by_tails p (decoded_without_trains p values) (decoded_occupancies p values) }

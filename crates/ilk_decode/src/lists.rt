@@ -11,7 +11,6 @@ use ilk_layout::Occupancy;
 use ilk_plant::{Aspect, Hold, PointState, RouteState};
 use std::alloc::{AllocError, Global};
 
-// Returns the states of `count` routes.
 pub(crate) fn decode_routes(
     alloc: Global,
     values: &[u8],
@@ -31,7 +30,6 @@ pub(crate) fn decode_routes(
     Ok(made)
 }
 
-// Returns the states of `count` points, from variable `begin`.
 pub(crate) fn decode_points(
     alloc: Global,
     values: &[u8],
@@ -53,7 +51,6 @@ pub(crate) fn decode_points(
     Ok(made)
 }
 
-// Returns the aspects of `count` boards, from variable `begin`.
 pub(crate) fn decode_boards(
     alloc: Global,
     values: &[u8],
@@ -71,7 +68,6 @@ pub(crate) fn decode_boards(
     Ok(made)
 }
 
-// Returns the locks of `count` sections, from variable `begin`.
 pub(crate) fn decode_locks(
     alloc: Global,
     values: &[u8],
@@ -89,7 +85,6 @@ pub(crate) fn decode_locks(
     Ok(made)
 }
 
-// Returns the occupancies of `count` sections, from variable `begin`.
 pub(crate) fn decode_occupancies(
     alloc: Global,
     values: &[u8],

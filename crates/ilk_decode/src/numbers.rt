@@ -26,7 +26,6 @@ pub(crate) fn mode_from_number(number: u8) -> Mode
     }
 }
 
-// Returns the detected position with this number.
 pub(crate) fn lie_from_number(number: u8) -> Lie
     ensures { result ≡ numbered.lie_from_number number }
 {
@@ -37,7 +36,6 @@ pub(crate) fn lie_from_number(number: u8) -> Lie
     }
 }
 
-// Returns the commanded position with this number.
 pub(crate) fn position_from_number(number: u8) -> Position
     ensures { result ≡ numbered.position_from_number number }
 {

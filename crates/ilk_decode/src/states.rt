@@ -5,7 +5,7 @@ ghost use Rattle.ilk_layout.specs.Laws.{IsWellFormedAndSafe};
 ghost use Rattle.ilk_layout.specs.Variables.{ranges_of_plant};
 ghost use Rattle.ilk_layout.specs.Wellformed.{is_wellformed};
 ghost use Rattle.ilk_decode.specs.Order.{AreSortedByTail};
-ghost use Rattle.ilk_decode.specs.Read.{decoded, decoded_occupancies, without_trains};
+ghost use Rattle.ilk_decode.specs.Read.{decoded_state, decoded_occupancies, decoded_without_trains};
 
 use crate::lists::{decode_boards, decode_locks, decode_occupancies, decode_points, decode_routes};
 use crate::trains::trains_by_tails;
@@ -15,13 +15,12 @@ use ilk_layout::Occupancy;
 use ilk_plant::{Plant, State};
 use std::alloc::{AllocError, Global};
 
-// Returns the state without trains that has these values, and the occupancies of the sections.
 fn parts_of(
     alloc: Global,
     plant: &Plant,
     values: &[u8],
 ) -> Result<(State, Row<Occupancy>), AllocError>
-    ensures state { IfOk result (λ parts. parts.0 ≡ without_trains plant.now values.now) }
+    ensures state { IfOk result (λ parts. parts.0 ≡ decoded_without_trains plant.now values.now) }
     ensures occupancies { IfOk result (λ parts. parts.1
         ≡ decoded_occupancies plant.now values.now) }
 {
@@ -40,18 +39,17 @@ fn parts_of(
     Ok((s, occupied))
 }
 
-// Returns the state that has these values.
 fn decode(alloc: Global, plant: &Plant, values: &[u8]) -> Result<State, AllocError>
-    ensures { IfOk result (λ s. s ≡ decoded plant.now values.now) }
+    ensures { IfOk result (λ s. s ≡ decoded_state plant.now values.now) }
 {
     let (mut s, occupancies) = parts_of(alloc, plant, values)?;
     s.trains = trains_by_tails(alloc, plant, &s, occupancies.as_slice())?;
     Ok(s)
 }
 
-/// Returns the state whose image is `values`, with its trains in ascending order of their tails. By
-/// the theorems of `ilk_layout`, well-formed values in range are the image of a well-formed state
-/// without hazard. Fails only if memory runs out.
+/// Returns a well-formed state without hazard whose image is `values`. Its trains are in ascending
+/// order of their tails' sections. The values must be in range and well-formed. Fails only if
+/// memory runs out.
 pub fn state_of(alloc: Global, plant: &Plant, values: &Values) -> Result<State, AllocError>
     requires in_range { IsTrue (in_ranges values.now (ranges_of_plant plant.now)) }
     requires wellformed { IsTrue (is_wellformed plant.now values.now) }
@@ -60,7 +58,7 @@ pub fn state_of(alloc: Global, plant: &Plant, values: &Values) -> Result<State, 
     ensures order { IfOk result (λ s. AreSortedByTail s.trains) }
 {
     plant.prove_is_plant();
-    plant.prove_from_drafts();
+    plant.prove_sound_acyclic_drafts();
     let s = decode(alloc, plant, values.as_slice())?;
     Ok(s)
 }

@@ -8,8 +8,8 @@ use ilk_motion::ahead;
 use ilk_plant::{Dir, Plant, State, Train};
 use std::alloc::{AllocError, Global};
 
-// Returns the section after `x` in its train's body, which is the one ahead. Returns `None` if the
-// head is at `x` or there is no train.
+// Returns the next section towards the head, in the body of the train on `x`. Returns `None` if the
+// head is at `x`, or no train is.
 fn next_in_body(plant: &Plant, s: &State, occupancies: &[Occupancy], x: u32) -> Option<u32>
     ensures { result ≡ next_in_body plant.now s.now occupancies.now x }
 {
@@ -54,7 +54,6 @@ fn body_from(
     Ok(body)
 }
 
-// Returns the direction of the train with its tail at `x`, or `None`.
 fn tail_direction(occupancies: &[Occupancy], x: u32) -> Option<Dir>
     ensures { result ≡ tail_direction occupancies.now x }
 {

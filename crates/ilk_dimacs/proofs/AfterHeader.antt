@@ -1,4 +1,3 @@
--- The bytes taken from the clauses' lines, after the whole first line.
 use Rattle.std.proofs.Common.{◌≡◌, ℕ, ◌≤◌, [], ◌++◌, length, drop, take, sym, ap, ◌∙◌, append-nil}
 use Rattle.std.proofs.lemmas.List.{drop_all, drop_at, length-take-le, take_all}
 use Rattle.ilk_lines.specs.Lines.{Bytes}

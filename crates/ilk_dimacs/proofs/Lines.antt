@@ -1,4 +1,3 @@
--- The text that is written for a formula is its text.
 use Rattle.std.proofs.Common.{◌≡◌, List, [], ◌∷◌, ◌++◌, map, refl, sym, ap, ◌∙◌, append_assoc}
 use Rattle.std.specs.Prelude.{codes}
 use Rattle.ilk_cnf.specs.Literal.{Literal}
@@ -6,15 +5,15 @@ use Rattle.ilk_lines.specs.Lines.{Bytes}
 use Rattle.ilk_lines.specs.Written.{line_of, join_word_and_rest, text_of}
 use Rattle.ilk_log.specs.StepText.{lit_word}
 use Rattle.ilk_dimacs.specs.DimacsText.{clause_words}
-use Rattle.ilk_dimacs.specs.Left.{line_with_feed, clause_lines_text, lits_spaced}
+use Rattle.ilk_dimacs.specs.Left.{line_with_feed, clause_lines_text, lits_with_space_after_each}
 
 word-led : (word : Bytes) (c : List Literal) → line_of (word ∷ clause_words c) ≡ join_word_and_rest word (line_of (clause_words c))
 word-led word [] = refl
 word-led word (l ∷ c) = refl
 
-pub line-lits : (c : List Literal) → line_of (clause_words c) ≡ lits_spaced c ++ codes "0"
+pub line-lits : (c : List Literal) → line_of (clause_words c) ≡ lits_with_space_after_each c ++ codes "0"
 line-lits [] = refl
-line-lits (l ∷ c) = word-led (lit_word l) c ∙ ap (λ (t : Bytes). lit_word l ++ (32 ∷ t)) (line-lits c) ∙ regroup (lit_word l) (lits_spaced c) (codes "0")
+line-lits (l ∷ c) = word-led (lit_word l) c ∙ ap (λ (t : Bytes). lit_word l ++ (32 ∷ t)) (line-lits c) ∙ regroup (lit_word l) (lits_with_space_after_each c) (codes "0")
   where
     regroup : (a b z : Bytes) → a ++ (32 ∷ (b ++ z)) ≡ ((a ++ 32 ∷ []) ++ b) ++ z
     regroup a b z = sym (append_assoc (a ++ 32 ∷ []) b z ∙ append_assoc a (32 ∷ []) (b ++ z))

@@ -7,18 +7,20 @@ use Rattle.ilk_lines.specs.Lines.{Bytes}
 use Rattle.ilk_lines.specs.Written.{line_of, text_of}
 use Rattle.ilk_log.specs.StepText.{lit_word}
 
--- The words of the first line: `p`, `cnf`, the number of variables and the number of clauses.
+-- Returns the words of the first line: `p`, `cnf`, the number of variables and the number of
+-- clauses.
 abbrev pub header_words : Formula → List Bytes
 header_words f = codes "p" ∷ codes "cnf" ∷ decimal f.vars ∷ decimal (length f.clauses) ∷ []
 
--- The words of a clause: its literals in order, and 0.
+-- Returns the words of a clause: its literals in order, and `0`.
 abbrev pub clause_words : List Literal → List Bytes
 clause_words c = map lit_word c ++ codes "0" ∷ []
 
--- The lines: the first, and one for each clause in order, with one space between each two words.
+-- Returns the lines of a formula: the first, then one for each clause, with one space between each
+-- two words.
 abbrev pub dimacs_lines : Formula → List Bytes
 dimacs_lines f = map line_of (header_words f ∷ map clause_words f.clauses)
 
--- The text: the lines, each ended by one line feed.
+-- Returns the text of a formula: its lines, each ended by one line feed.
 abbrev pub dimacs_text : Formula → Bytes
 dimacs_text f = text_of (dimacs_lines f)

@@ -8,23 +8,23 @@ use Rattle.ilk_log.specs.StepText.{lit_word}
 use Rattle.ilk_dimacs.specs.DimacsText.{clause_words}
 use Rattle.ilk_dimacs.specs.declared.clauses_text.Position.{Position}
 
--- A line with its line feed.
+-- Returns the line of these words, with its line feed.
 abbrev pub line_with_feed : List Bytes → Bytes
 line_with_feed words = line_of words ++ 10 ∷ []
 
--- Literals, each with a space after it.
-abbrev pub lits_spaced : List Literal → Bytes
-lits_spaced c = flat_map (λ l. lit_word l ++ 32 ∷ []) c
+-- Returns the text of literals, with a space after each.
+abbrev pub lits_with_space_after_each : List Literal → Bytes
+lits_with_space_after_each c = flat_map (λ l. lit_word l ++ 32 ∷ []) c
 
--- The lines of clauses, each with its line feed.
+-- Returns the lines of clauses, each with its line feed.
 abbrev pub clause_lines_text : List (List Literal) → Bytes
 clause_lines_text cs = flat_map (λ c. line_with_feed (clause_words c)) cs
 
--- The lines of clauses after the first `n` literals of the first.
+-- Returns the lines of clauses, without the first `n` literals of the first.
 abbrev pub clauses_text_after_lits : ℕ → List (List Literal) → Bytes
 clauses_text_after_lits n [] = []
-clauses_text_after_lits n (c ∷ cs) = lits_spaced (drop n c) ++ (codes "0\n" ++ clause_lines_text cs)
+clauses_text_after_lits n (c ∷ cs) = lits_with_space_after_each (drop n c) ++ (codes "0\n" ++ clause_lines_text cs)
 
--- The lines of a formula's clauses from a position on.
-abbrev pub bytes_left : Formula → Position → Bytes
-bytes_left f at = at.token ++ clauses_text_after_lits at.literals (drop at.made f.clauses)
+-- Returns the bytes of the clauses' lines that are left at a position.
+abbrev pub clauses_text_from_position : Formula → Position → Bytes
+clauses_text_from_position f at = at.token ++ clauses_text_after_lits at.literals (drop at.made f.clauses)

@@ -1,12 +1,11 @@
 ghost use Rattle.std.specs.Prelude.{◌≡◌, ◌<◌, ◌++◌, ◌∷◌, [], true, false, drop, length, min, take};
 ghost use Rattle.ilk_log.specs.StepText.{lit_word};
-ghost use Rattle.ilk_dimacs.specs.Left.{bytes_left, clause_lines_text};
+ghost use Rattle.ilk_dimacs.specs.Left.{clauses_text_from_position, clause_lines_text};
 
 use ilk_cnf::{Cnf, Lit};
-use ilk_lines::ShortBytes;
+use ilk_lines::ShortByteStack;
 
-// Makes the word of a literal, with a space after it.
-fn lead_lit(token: &mut ShortBytes, l: Lit)
+fn lead_lit(token: &mut ShortByteStack, l: Lit)
     requires { token.old ≡ [] }
     ensures { token.new ≡ lit_word l ++ 32 ∷ [] }
 {
@@ -21,7 +20,7 @@ fn lead_lit(token: &mut ShortBytes, l: Lit)
 #[derive(Drop)]
 pub(crate) struct Position {
     // The rest of the last word that was made.
-    token: ShortBytes,
+    token: ShortByteStack,
     // The number of clauses made, and of literals of the next.
     made: u64,
     literals: u64,
@@ -33,10 +32,11 @@ impl Position {
     #[tactic(auto, using(crate::proofs::Left::left_whole))]
     /// Creates the position before the first clause.
     pub(crate) fn start() -> Position
-        ensures { (f : Formula) → bytes_left f result ≡ clause_lines_text f.clauses }
+        ensures { (f : Formula) → clauses_text_from_position f result ≡
+            clause_lines_text f.clauses }
     {
         Position {
-            token: ShortBytes::empty(),
+            token: ShortByteStack::empty(),
             made: 0,
             literals: 0,
         }
@@ -45,9 +45,10 @@ impl Position {
     // Makes the next word, with the space or line feed after it. Returns `false` if there is none.
     fn make_word(&mut self, cnf: &Cnf) -> bool
         requires { self.old.token ≡ [] }
-        ensures left { bytes_left cnf.now self.new ≡ bytes_left cnf.now self.old }
+        ensures left { clauses_text_from_position cnf.now self.new ≡
+            clauses_text_from_position cnf.now self.old }
         ensures some { result ≡ true → 0 < length self.new.token }
-        ensures none { result ≡ false → bytes_left cnf.now self.old ≡ [] }
+        ensures none { result ≡ false → clauses_text_from_position cnf.now self.old ≡ [] }
     {
         if self.made >= cnf.clauses() {
             return false;
@@ -66,9 +67,12 @@ impl Position {
 
     /// Copies the next bytes to the front of `into`, as many as fit, and returns their number.
     pub(crate) fn take(&mut self, cnf: &Cnf, into: &mut [u8]) -> usize
-        ensures count { result ≡ min (length into.old) (length (bytes_left cnf.now self.old)) }
-        ensures bytes { take result into.new ≡ take result (bytes_left cnf.now self.old) }
-        ensures rest { bytes_left cnf.now self.new ≡ drop result (bytes_left cnf.now self.old) }
+        ensures count { result ≡ min (length into.old) (length (clauses_text_from_position cnf.now
+            self.old)) }
+        ensures bytes { take result into.new ≡
+            take result (clauses_text_from_position cnf.now self.old) }
+        ensures rest { clauses_text_from_position cnf.now self.new ≡
+            drop result (clauses_text_from_position cnf.now self.old) }
     {
         let mut count = self.token.take(into);
         'tokens: while count < into.len() {

@@ -8,9 +8,8 @@ use ilk_lines::RemainingBytes;
 use std::alloc::{AllocError, Global};
 use std::marker::Model;
 
-/// A formula as a text produced in pieces. Contracts see the bytes that are still to be taken. It
-/// owns the formula and holds only the first line and a word of the text, so taking needs no
-/// memory.
+/// The DIMACS text of a formula, produced in pieces. It owns the formula, and taking needs no
+/// memory. Contracts see the bytes that are still to be taken.
 #[derive(Drop)]
 pub struct FormulaText {
     header: RemainingBytes,
@@ -20,17 +19,17 @@ pub struct FormulaText {
 
 impl Model for FormulaText {
     ghost use Rattle.std.specs.Prelude.{ℕ, ◌++◌, List};
-    ghost use Rattle.ilk_dimacs.specs.Left.{bytes_left};
+    ghost use Rattle.ilk_dimacs.specs.Left.{clauses_text_from_position};
 
     ghost Value = { List ℕ };
 
-    ghost view = { λ text. text.header ++ bytes_left text.cnf text.at };
+    ghost view = { λ text. text.header ++ clauses_text_from_position text.cnf text.at };
 }
 
 impl FormulaText {
     #[tactic(auto, using(crate::proofs::Left::text_is))]
-    /// Creates the text of a formula, with nothing taken. Fails only if there is no memory for its
-    /// first line.
+    /// Creates the text of `cnf`, with nothing taken. Fails if there is no memory for its first
+    /// line.
     pub fn from_cnf(alloc: Global, cnf: Cnf) -> Result<FormulaText, AllocError>
         ensures { IfOk result (λ text. text ≡ dimacs_text cnf) }
     {
@@ -44,7 +43,6 @@ impl FormulaText {
     }
 
     /// Copies the next bytes to the front of `into`, as many as fit, and returns their number.
-    /// Needs no memory.
     pub fn take(&mut self, into: &mut [u8]) -> usize
         ensures count { result ≡ min (length into.old) (length self.old) }
         ensures bytes { take result into.new ≡ take result self.old }

@@ -1,16 +1,15 @@
 ghost use Rattle.std.specs.Prelude.{◌≡◌, ◌++◌, ◌∷◌, [], IfOk, OnOk, string_bytes};
 ghost use Rattle.ilk_lines.specs.Written.{line_of};
 ghost use Rattle.ilk_dimacs.specs.DimacsText.{dimacs_text, header_words};
-ghost use Rattle.ilk_dimacs.specs.Left.{bytes_left};
+ghost use Rattle.ilk_dimacs.specs.Left.{clauses_text_from_position};
 
 use crate::clauses_text::Position;
 use ilk_cnf::Cnf;
 use std::alloc::{AllocError, Global};
 
-// The number of bytes that are copied at once.
 const PIECE: usize = 64;
 
-/// Appends the first line.
+/// Appends the first line of a formula's text.
 pub(crate) fn push_header(text: &mut String, cnf: &Cnf) -> Result<(), AllocError>
     ensures { OnOk result
         (string_bytes text.new
@@ -19,9 +18,9 @@ pub(crate) fn push_header(text: &mut String, cnf: &Cnf) -> Result<(), AllocError
     write!(text, "p cnf {} {}\n", cnf.vars(), cnf.clauses())
 }
 
-// Appends the lines of the clauses from a position on.
 fn push_rest(text: &mut Vec<u8>, cnf: &Cnf, at: &mut Position) -> Result<(), AllocError>
-    ensures { OnOk result (text.new.items ≡ text.old.items ++ bytes_left cnf.now at.old) }
+    ensures { OnOk result (text.new.items ≡ text.old.items ++
+        clauses_text_from_position cnf.now at.old) }
 {
     let mut piece = [0; PIECE];
     'pieces: loop {
@@ -35,8 +34,8 @@ fn push_rest(text: &mut Vec<u8>, cnf: &Cnf, at: &mut Position) -> Result<(), All
 
 #[tactic(auto, using(crate::proofs::Left::text_is))]
 /// Returns the text of a formula in the DIMACS CNF format. The line `p cnf V C` has the numbers of
-/// variables and clauses. For each clause in order, a line with its literals and `0` follows. Fails
-/// only if memory runs out.
+/// variables and clauses. A line for each clause follows, with its literals and `0`. Fails only if
+/// memory runs out.
 pub fn write_dimacs(alloc: Global, cnf: &Cnf) -> Result<Vec<u8>, AllocError>
     ensures { IfOk result (λ text. text.items ≡ dimacs_text cnf.now) }
 {

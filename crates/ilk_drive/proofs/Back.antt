@@ -25,18 +25,17 @@ use Rattle.ilk_plant.specs.declared.table.Listed.{Listed}
 use Rattle.ilk_plant.specs.declared.table.Route.{Route}
 use Rattle.ilk_motion.specs.Ahead.{ahead}
 use Rattle.ilk_motion.specs.Body.{has_head_at, has_movable_tail_at, occupies_only}
-use Rattle.ilk_motion.specs.Trains.{after_head, after_leave, after_tail, has_neighbour, may_pass}
-use Rattle.ilk_routes.specs.Boards.{has_aspect, is_held_closed}
+use Rattle.ilk_motion.specs.Trains.{after_head, after_leave, after_tail, has_neighbour, may_pass_board}
+use Rattle.ilk_routes.specs.Boards.{has_aspect, is_protecting_locked_route}
 use Rattle.ilk_routes.specs.Claims.{required_points}
 use Rattle.ilk_routes.specs.Lies.{is_detected_moving, is_detected_as_listed}
 use Rattle.ilk_routes.specs.Modes.{is_allocating_or_locked, same_mode}
 use Rattle.ilk_routes.specs.Points.{after_settle, after_throw}
-use Rattle.ilk_routes.specs.Routes.{after_allocate, after_finish, after_lock, after_release, after_sense, can_reserve_sections, can_lock}
+use Rattle.ilk_routes.specs.Routes.{after_allocate, after_finish, after_lock, after_release, after_sense, can_allocate_if_marked, can_lock_if_allocating}
 use Rattle.ilk_model.proofs.PointFrames.{settle-frame, throw-frame}
 use Rattle.ilk_model.proofs.RouteFrames.{finish-frame, release-frame, sense-frame}
 use Rattle.ilk_model.specs.Holding.{is_locked_or_occupied}
 
--- Route q was in its present state before, if that state passes a test.
 abbrev pub StateBack : State → State → ℕ → (RouteState → Bool) → Type 0
 StateBack s t q test = (now : RouteState) → slice_get t.routes q ≡ Some now → test now ≡ true → slice_get s.routes q ≡ Some now
 
@@ -59,7 +58,7 @@ module _ (p : PlantLists) (s t : State) (q : ℕ) where
       option_and_then_some _ (slice_get p.routes q) made.0 made.1 (λ route known e1.
       option_and_then_some _ (slice_get t.routes q) made.0 e1 (λ now at e2.
       let done = cond_some _ _ made.0 e2 in
-      let asked = and_parts (same_mode now.mode Marked) (can_reserve_sections t route) done.0 in
+      let asked = and_parts (same_mode now.mode Marked) (can_allocate_if_marked t route) done.0 in
       let parts = and_parts (not (list_any (is_allocating_or_locked t) route.conflicts)) (list_all (is_unlocked_and_vacant t) (sections_locked_for route)) asked.1 in
       let unclaimed : list_any (is_allocating_or_locked s) route.conflicts ≡ false =
       none-pass (is_allocating_or_locked s) route.conflicts (λ k c there. conflicts route known k c there (list_any-none (is_allocating_or_locked t) route.conflicts k c (fails (list_any (is_allocating_or_locked t) route.conflicts) parts.0) there)) in
@@ -70,23 +69,23 @@ module _ (p : PlantLists) (s t : State) (q : ℕ) where
   pub lock-back : StateBack s t q allocating
       → ((route : Route) → slice_get p.routes q ≡ Some route → (k : ℕ) (listed : Listed) → slice_get (required_points route) k ≡ Some listed → is_detected_as_listed p t listed ≡ true → is_detected_as_listed p s listed ≡ true)
       → ((route : Route) → slice_get p.routes q ≡ Some route → (k m : ℕ) → slice_get route.protecting_boards k ≡ Some m → has_aspect t m Closed ≡ true → has_aspect s m Closed ≡ true)
-      → ((route : Route) → slice_get p.routes q ≡ Some route → is_held_closed p t route.source ≡ false → is_held_closed p s route.source ≡ false)
+      → ((route : Route) → slice_get p.routes q ≡ Some route → is_protecting_locked_route p t route.source ≡ false → is_protecting_locked_route p s route.source ≡ false)
       → is_some (after_lock p t q) ≡ true → is_some (after_lock p s q) ≡ true
   lock-back state lies closed unprotecting h =
       let made = some-is (after_lock p t q) h in
       option_and_then_some _ (slice_get p.routes q) made.0 made.1 (λ route known e1.
       option_and_then_some _ (slice_get t.routes q) made.0 e1 (λ now at e2.
       let done = cond_some _ _ made.0 e2 in
-      let asked = and_parts (same_mode now.mode Allocating) (can_lock p t route) done.0 in
+      let asked = and_parts (same_mode now.mode Allocating) (can_lock_if_allocating p t route) done.0 in
       let lie = list_all (is_detected_as_listed p t) (required_points route) in
       let close = list_all (λ m. has_aspect t m Closed) route.protecting_boards in
-      let parts = and_parts (lie && close) (not (is_held_closed p t route.source)) asked.1 in
+      let parts = and_parts (lie && close) (not (is_protecting_locked_route p t route.source)) asked.1 in
       let both = and_parts lie close parts.0 in
       let lain : list_all (is_detected_as_listed p s) (required_points route) ≡ true =
       all-pass (is_detected_as_listed p s) (required_points route) (λ k listed there. lies route known k listed there (list_all-slice_get (is_detected_as_listed p t) (required_points route) k listed both.0 there)) in
       let shut : list_all (λ m. has_aspect s m Closed) route.protecting_boards ≡ true =
       all-pass (λ m. has_aspect s m Closed) route.protecting_boards (λ k m there. closed route known k m there (list_all-slice_get (λ m. has_aspect t m Closed) route.protecting_boards k m both.1 there)) in
-      let free : is_held_closed p s route.source ≡ false = unprotecting route known (fails (is_held_closed p t route.source) parts.1) in
+      let free : is_protecting_locked_route p s route.source ≡ false = unprotecting route known (fails (is_protecting_locked_route p t route.source) parts.1) in
       rw (known, state now at asked.0, asked.0, lain, shut, free) refl))
 
   pub sense-back : StateBack s t q is_locked_or_occupied
@@ -129,7 +128,6 @@ module _ (p : PlantLists) (s t : State) (q : ℕ) where
       let rel : (f.now.rel + 1 == length f.route.path) ≡ true = eq-eqb (f.now.rel + 1) (length f.route.path) f.rest in
       rw (f.changes.known, state f.now f.changes.state mode, last, mode, seen, rel) refl
 
--- Points, by their sections
 module _ (p : PlantLists) (s t : State) (x : ℕ) where
   pub throw-back : ((n : ℕ) → point_number p x ≡ Some n → slice_get t.points n ≡ slice_get s.points n) → is_some (after_throw p t x) ≡ true → is_some (after_throw p s x) ≡ true
   throw-back same h =
@@ -148,7 +146,6 @@ module _ (p : PlantLists) (s t : State) (x : ℕ) where
       let was = same f.n f.point f.number f.state f.moved in
       rw (f.number, was.1, was.2) refl
 
--- The direction of the first train that passes a test.
 abbrev pub first_dir : (Train → Bool) → List Train → Option Dir
 first_dir f [] = None
 first_dir f (train ∷ rest) = cond (f train) (Some train.dir) (first_dir f rest)
@@ -199,7 +196,6 @@ first_dir-found : (f : Train → Bool) (trains : List Train) (d : Dir) → first
 first_dir-found f [] d h = cc
 first_dir-found f (one ∷ rest) d h = found-shifted f one rest d (λ e. first_dir-found f rest d e) (f one) refl h
 
--- Changing a train keeps this if its test result and direction stay.
 pub first_dir-set : (f : Train → Bool) (trains : List Train) (i : ℕ) (a b : Train) → slice_get trains i ≡ Some a → f b ≡ f a → b.dir ≡ a.dir → first_dir f (set trains i b) ≡ first_dir f trains
 first_dir-set f [] i a b at same dir = cc
 first_dir-set f (one ∷ rest) zero a b at same dir =
@@ -220,11 +216,10 @@ first_dir-remove f (one ∷ rest) zero a at passes =
     sym (ap (λ (c : Bool). cond c (Some one.dir) (first_dir f rest)) (ap f (same_Some _ _ at) ∙ passes))
 first_dir-remove f (one ∷ rest) (suc i) a at passes = ap (λ (o : Option Dir). cond (f one) (Some one.dir) o) (first_dir-remove f rest i a at passes)
 
--- Trains, by their sections
 module _ (p : PlantLists) (s t : State) (x : ℕ) where
   pub head-back : first_dir (has_head_at x) t.trains ≡ first_dir (has_head_at x) s.trains
       → ((d : Dir) (y : ℕ) → ahead p t x d ≡ Some y → is_some (ahead p s x d) ≡ true)
-      → ((d : Dir) → may_pass t (board_of p x d) ≡ true → may_pass s (board_of p x d) ≡ true)
+      → ((d : Dir) → may_pass_board t (board_of p x d) ≡ true → may_pass_board s (board_of p x d) ≡ true)
       → is_some (after_head p t x) ≡ true → is_some (after_head p s x) ≡ true
   head-back same leads passes h =
       let made = some-is (after_head p t x) h in
@@ -235,7 +230,7 @@ module _ (p : PlantLists) (s t : State) (x : ℕ) where
       let there = first_dir-found (has_head_at x) s.trains train.dir (sym same ∙ first_dir-position (has_head_at x) t.trains i train first at) in
       let one : is_some (ahead p s x there.train.dir) ≡ true = subst (λ (d : Dir). is_some (ahead p s x d) ≡ true) (sym there.runs) (leads train.dir y led) in
       let way = some-is (ahead p s x there.train.dir) one in
-      let pass : may_pass s (board_of p x there.train.dir) ≡ true = subst (λ (d : Dir). may_pass s (board_of p x d) ≡ true) (sym there.runs) (passes train.dir done.0) in
+      let pass : may_pass_board s (board_of p x there.train.dir) ≡ true = subst (λ (d : Dir). may_pass_board s (board_of p x d) ≡ true) (sym there.runs) (passes train.dir done.0) in
       rw (there.first, there.at, way.1, pass) refl)))
 
   pub tail-back : first_dir (has_movable_tail_at x) t.trains ≡ first_dir (has_movable_tail_at x) s.trains → is_some (after_tail p t x) ≡ true → is_some (after_tail p s x) ≡ true

@@ -8,9 +8,9 @@ use Rattle.ilk_base.specs.Option.{is_some_and}
 use Rattle.ilk_base.proofs.Lists.{slice_get-set_other, slice_get-set_same}
 use Rattle.ilk_base.proofs.Options.{some-and}
 use Rattle.ilk_base.proofs.Truth.{either, fails}
-use Rattle.ilk_plant.specs.Network.{has_section}
+use Rattle.ilk_plant.specs.Network.{contains_section}
 use Rattle.ilk_plant.specs.Plant.{PlantLists}
-use Rattle.ilk_plant.specs.State.{has_lock_state, is_unlocked_and_vacant, is_occupied, same_hold}
+use Rattle.ilk_plant.specs.State.{has_lock_state, is_unlocked_and_vacant, is_occupied, same_lock_state}
 use Rattle.ilk_plant.specs.declared.state.Hold.{Hold}
 use Rattle.ilk_plant.specs.declared.state.Hold.TheVariants.{Free as FreeLock}
 use Rattle.ilk_plant.specs.declared.state.Mode.TheVariants.{Allocating, Locked}
@@ -34,23 +34,20 @@ neither false b h = (refl, h)
 pub apart : (x y : ℕ) → (x == y) ≡ false → x ≡ y → ⊥
 apart x y h e = true-false (x == y) (eq-eqb x y e) h
 
--- Locks
-
--- Some sections get one lock, and no other lock changes.
 pub record GivesLock (s t : State) (hold : Hold) (changed : ℕ → Bool) : Type 0 where
   pub other : (x : ℕ) → changed x ≡ false → slice_get t.locks x ≡ slice_get s.locks x
   pub given : (x : ℕ) (lock : Hold) → changed x ≡ true → slice_get t.locks x ≡ Some lock → lock ≡ hold
 
 module _ (s t : State) (hold : Hold) (changed : ℕ → Bool) (gives : GivesLock s t hold changed) where
   pub lock-same : (x : ℕ) (want : Hold) → changed x ≡ false → has_lock_state t x want ≡ true → has_lock_state s x want ≡ true
-  lock-same x want out h = ap (λ (o : Option Hold). is_some_and o (λ lock. same_hold lock want)) (sym (gives.other x out)) ∙ h
+  lock-same x want out h = ap (λ (o : Option Hold). is_some_and o (λ lock. same_lock_state lock want)) (sym (gives.other x out)) ∙ h
 
-  pub lock-back : (x : ℕ) (want : Hold) → same_hold hold want ≡ false → has_lock_state t x want ≡ true → has_lock_state s x want ≡ true
+  pub lock-back : (x : ℕ) (want : Hold) → same_lock_state hold want ≡ false → has_lock_state t x want ≡ true → has_lock_state s x want ≡ true
   lock-back x want differs h = elim (cases_Bool (changed x)) [
     | inl e ↦
-        let found = some-and (slice_get t.locks x) (λ lock. same_hold lock want) h in
+        let found = some-and (slice_get t.locks x) (λ lock. same_lock_state lock want) h in
         let is : found.0 ≡ hold = gives.given x found.0 e found.1 in
-        true-false (same_hold hold want) (subst (λ (l : Hold). same_hold l want ≡ true) is found.2) differs
+        true-false (same_lock_state hold want) (subst (λ (l : Hold). same_lock_state l want ≡ true) is found.2) differs
     | inr e ↦ lock-same x want e h
   ]
 
@@ -69,7 +66,7 @@ locks-set s t y hold same = record {
         let long : y < length (set s.locks y hold) = slice_get_within (set s.locks y hold) y lock there in
         same_Some _ _ (sym there ∙ slice_get-set_same s.locks y hold (omega (arith, long, length-set s.locks y hold)))
 
-pub locks-with : (s t : State) (ys : List ℕ) (hold : Hold) → t.locks ≡ with_locks s.locks ys hold → GivesLock s t hold (λ x. has_section x ys)
+pub locks-with : (s t : State) (ys : List ℕ) (hold : Hold) → t.locks ≡ with_locks s.locks ys hold → GivesLock s t hold (λ x. contains_section x ys)
 locks-with s t ys hold same = record {
   other = λ x out. ap (λ (l : List Hold). slice_get l x) same ∙ other-lock s.locks ys hold x out;
   given = λ x lock in_ at.
@@ -79,10 +76,10 @@ locks-with s t ys hold same = record {
       same_Some _ _ (sym there ∙ given-lock s.locks ys hold x in_ (omega (arith, long, as_long))));
 }
 
-pub locks-set_with : (s t : State) (y : ℕ) (ys : List ℕ) (hold : Hold) → t.locks ≡ with_locks (set s.locks y hold) ys hold → GivesLock s t hold (λ x. x == y || has_section x ys)
+pub locks-set_with : (s t : State) (y : ℕ) (ys : List ℕ) (hold : Hold) → t.locks ≡ with_locks (set s.locks y hold) ys hold → GivesLock s t hold (λ x. x == y || contains_section x ys)
 locks-set_with s t y ys hold same = record {
-  other = λ x out. second.other x (neither (x == y) (has_section x ys) out).1 ∙ first.other x (neither (x == y) (has_section x ys) out).0;
-  given = λ x lock in_ at. by_section x lock in_ at (cases_Bool (has_section x ys));
+  other = λ x out. second.other x (neither (x == y) (contains_section x ys) out).1 ∙ first.other x (neither (x == y) (contains_section x ys) out).0;
+  given = λ x lock in_ at. by_section x lock in_ at (cases_Bool (contains_section x ys));
 }
   where
     mid : State
@@ -91,17 +88,15 @@ locks-set_with s t y ys hold same = record {
     first : GivesLock s mid hold (λ x. x == y)
     first = locks-set s mid y hold refl
 
-    second : GivesLock mid t hold (λ x. has_section x ys)
+    second : GivesLock mid t hold (λ x. contains_section x ys)
     second = locks-with mid t ys hold same
 
-    by_section : (x : ℕ) (lock : Hold) → (x == y || has_section x ys) ≡ true → slice_get t.locks x ≡ Some lock → ((has_section x ys ≡ true) ⊎ (has_section x ys ≡ false)) → lock ≡ hold
+    by_section : (x : ℕ) (lock : Hold) → (x == y || contains_section x ys) ≡ true → slice_get t.locks x ≡ Some lock → ((contains_section x ys ≡ true) ⊎ (contains_section x ys ≡ false)) → lock ≡ hold
     by_section x lock in_ at (inl e) = second.given x lock e at
-    by_section x lock in_ at (inr e) = elim (either (x == y) (has_section x ys) in_) [
+    by_section x lock in_ at (inr e) = elim (either (x == y) (contains_section x ys) in_) [
       | inl is ↦ first.given x lock is (sym (second.other x e) ∙ at)
-      | inr is ↦ true-false (has_section x ys) is e
+      | inr is ↦ true-false (contains_section x ys) is e
     ]
-
--- Modes
 
 abbrev pub claimed_in : RouteState → Bool
 claimed_in now = same_mode now.mode Allocating || same_mode now.mode Locked
@@ -132,7 +127,6 @@ module _ (p : PlantLists) (s t : State) (r : ℕ) (route : Route) (now new : Rou
   pub states-other : (q : ℕ) (test : RouteState → Bool) → (q == r) ≡ false → StateBack s t q test
   states-other q test out its at passes = sym (state-other q (apart q r out)) ∙ at
 
-  -- If no claim ends, all routes unclaimed afterwards were unclaimed before.
   pub claims-back : ((claimed_in now ≡ false) ⊎ (claimed_in new ≡ true)) → (c : ℕ) → is_allocating_or_locked t c ≡ false → is_allocating_or_locked s c ≡ false
   claims-back how c free = elim (cases_Bool (c == r)) [
     | inl here ↦ at_own how (eqb-true c r here) free

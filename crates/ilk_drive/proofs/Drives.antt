@@ -9,7 +9,7 @@ use Rattle.ilk_plant.proofs.Shapes.{start-shape}
 use Rattle.ilk_plant.specs.Plant.{IsPlant, PlantLists, point_count}
 use Rattle.ilk_plant.specs.Shape.{HasShape}
 use Rattle.ilk_plant.specs.Sound.{IsAcyclic}
-use Rattle.ilk_plant.specs.Start.{free_route, plus_point, start}
+use Rattle.ilk_plant.specs.Start.{free_route_state, plus_point_state, start}
 use Rattle.ilk_plant.specs.declared.state.State.{State}
 use Rattle.ilk_plant.specs.declared.table.Route.{Route}
 use Rattle.ilk_model.specs.Hazard.{hazard}
@@ -26,24 +26,24 @@ use Rattle.ilk_replay.specs.declared.seen.Seen.TheVariants.{NoHazard, Hazard as 
 use Rattle.ilk_replay.specs.declared.told.Tale.TheVariants.{Told as IsTold}
 use Rattle.ilk_strict.proofs.Invariant.{forever-safe}
 use Rattle.ilk_strict.specs.IsStrict.{IsStrict}
-use Rattle.ilk_drive.specs.Drive.{IsDriveFrom, IsDriveOf, DriveState, DriveStep, initial_drive_state, is_done_and_plant_idle, final_state_outcome, next_step}
-use Rattle.ilk_drive.specs.Progress.{IsStepTaken}
+use Rattle.ilk_drive.specs.Drive.{IsDriveFrom, IsDriveOf, StateAndCommandsLeft, DriveStep, initial_drive_state, is_done_empty_and_free, final_state_outcome, next_step_unless_hazard}
+use Rattle.ilk_drive.specs.Progress.{IsStepOrUnchanged}
 use Rattle.ilk_drive.specs.Told.{IsRunFromStart, EndsWithoutHazard, replay_result_of_outcome}
 use Rattle.ilk_drive.specs.declared.outcome.Driven.{Driven}
 use Rattle.ilk_drive.specs.declared.outcome.Rest.{Rest}
 use Rattle.ilk_drive.specs.declared.outcome.Rest.TheVariants.{Driven as IsDriven, Stuck, Hazard}
 use Rattle.ilk_drive.proofs.Potential.{left, points_left, routes_left}
 use Rattle.ilk_model.proofs.Shape.{next-shape}
-use Rattle.ilk_drive.proofs.Turns.{allows, leads-by, next_step-lowers, next_step-next_from_hazard_free}
+use Rattle.ilk_drive.proofs.Turns.{allows, leads-by, next_step_unless_hazard-lowers, next_step_unless_hazard-next_from_hazard_free}
 
--- The end of a drive: the moment after its events, with no next turn.
-pub record EndsAt (p : PlantLists) (m : DriveState) (events : List Event) (rest : Rest) : Type 0 where
-  pub last : DriveState
+-- Holds if the drive ends after these events: there is no next event, and the result is `rest`.
+pub record EndsAt (p : PlantLists) (m : StateAndCommandsLeft) (events : List Event) (rest : Rest) : Type 0 where
+  pub last : StateAndCommandsLeft
   pub ran : run p m.state events ≡ Some last.state
-  pub ends : next_step p last ≡ None
+  pub ends : next_step_unless_hazard p last ≡ None
   pub rests : rest ≡ final_state_outcome p last
 
-pub ends-at : (p : PlantLists) (events : List Event) (m : DriveState) (rest : Rest) → IsDriveFrom p m events rest → EndsAt p m events rest
+pub ends-at : (p : PlantLists) (events : List Event) (m : StateAndCommandsLeft) (rest : Rest) → IsDriveFrom p m events rest → EndsAt p m events rest
 ends-at p [] m rest drives = record { last = m; ran = refl; ends = drives.0; rests = drives.1 }
 ends-at p (event ∷ later) m rest drives =
     let after = drives.0 in
@@ -51,21 +51,21 @@ ends-at p (event ∷ later) m rest drives =
     let by = leads-by p m after event drives.1 in
     record {
       last = more.last;
-      ran = ap (λ (o : Option State). o >>= (λ t. run p t later)) (next_step-next_from_hazard_free p m after event by) ∙ more.ran;
+      ran = ap (λ (o : Option State). o >>= (λ t. run p t later)) (next_step_unless_hazard-next_from_hazard_free p m after event by) ∙ more.ran;
       ends = more.ends;
       rests = more.rests;
     }
 
-pub drives-few : (p : PlantLists) → IsPlant p → IsAcyclic p → (events : List Event) (m : DriveState) (rest : Rest) → HasShape p m.state → IsDriveFrom p m events rest → length events ≤ allows p m
+pub drives-few : (p : PlantLists) → IsPlant p → IsAcyclic p → (events : List Event) (m : StateAndCommandsLeft) (rest : Rest) → HasShape p m.state → IsDriveFrom p m events rest → length events ≤ allows p m
 drives-few p plant never [] m rest shape drives = omega arith
 drives-few p plant never (event ∷ later) m rest shape drives =
     let after = drives.0 in
     let by = leads-by p m after event drives.1 in
     let more = drives-few p plant never later after rest (next-shape p plant m.state after.state event shape by.goes) drives.2 in
-    let less = next_step-lowers p plant never m after event shape by in
+    let less = next_step_unless_hazard-lowers p plant never m after event shape by in
     omega (arith, more, less)
 
-drives-one : (p : PlantLists) (a b : List Event) (m : DriveState) (r q : Rest) → IsDriveFrom p m a r → IsDriveFrom p m b q → (a ≡ b) × (r ≡ q)
+drives-one : (p : PlantLists) (a b : List Event) (m : StateAndCommandsLeft) (r q : Rest) → IsDriveFrom p m a r → IsDriveFrom p m b q → (a ≡ b) × (r ≡ q)
 drives-one p [] [] m r q x y = (refl, x.1 ∙ sym y.1)
 drives-one p [] (f ∷ b) m r q x y = let bad : ◌≡◌ {A = Option DriveStep} None (Some (f, y.0)) = sym x.0 ∙ y.1 in cc
 drives-one p (e ∷ a) [] m r q x y = let bad : ◌≡◌ {A = Option DriveStep} None (Some (e, x.0)) = sym y.0 ∙ x.1 in cc
@@ -73,7 +73,7 @@ drives-one p (e ∷ a) (f ∷ b) m r q x y =
     let pair : ◌≡◌ {A = DriveStep} (e, x.0) (f, y.0) = same_Some _ _ (sym x.1 ∙ y.1) in
     let one : e ≡ f = ap (λ (t : DriveStep). t.0) pair in
     let there : x.0 ≡ y.0 = ap (λ (t : DriveStep). t.1) pair in
-    let rest = drives-one p a b y.0 r q (subst (λ (n : DriveState). IsDriveFrom p n a r) there x.2) y.2 in
+    let rest = drives-one p a b y.0 r q (subst (λ (n : StateAndCommandsLeft). IsDriveFrom p n a r) there x.2) y.2 in
     (ap (λ (v : Event). v ∷ a) one ∙ ap (λ (vs : List Event). f ∷ vs) rest.0, rest.1)
 
 pub drive-one : (p : PlantLists) (scene : List Event) (a b : Driven) → IsDriveOf p scene a → IsDriveOf p scene b → a ≡ b
@@ -85,11 +85,11 @@ drive-one p scene a b x y =
 pub drive-run : (p : PlantLists) (scene : List Event) (driven : Driven) → IsDriveOf p scene driven → IsRunFromStart p driven.events
 drive-run p scene driven drives = let end = ends-at p driven.events (initial_drive_state p scene) driven.rest drives in (end.last.state, end.ran)
 
-routes-at_rest : (routes : List Route) → routes_left routes (replicate (length routes) free_route) ≡ 0
+routes-at_rest : (routes : List Route) → routes_left routes (replicate (length routes) free_route_state) ≡ 0
 routes-at_rest [] = refl
 routes-at_rest (route ∷ routes) = let rest = routes-at_rest routes in omega (arith, rest)
 
-points-at_rest : (n : ℕ) → points_left (replicate n plus_point) ≡ 0
+points-at_rest : (n : ℕ) → points_left (replicate n plus_point_state) ≡ 0
 points-at_rest zero = refl
 points-at_rest (suc n) = let rest = points-at_rest n in omega (arith, rest)
 
@@ -105,10 +105,10 @@ drive-few p plant never scene driven drives =
     let none = start-at_rest p in
     omega (arith, few, none)
 
-rest-calm : (p : PlantLists) (m : DriveState) → hazard p m.state ≡ None → final_state_outcome p m ≡ (if is_done_and_plant_idle m then IsDriven else Stuck m.number)
+rest-calm : (p : PlantLists) (m : StateAndCommandsLeft) → hazard p m.state ≡ None → final_state_outcome p m ≡ (if is_done_empty_and_free m then IsDriven else Stuck m.number)
 rest-calm p m calm = rw calm refl
 
-rest-hazard : (p : PlantLists) (m : DriveState) (at : HazardAt) → hazard p m.state ≡ Some at → final_state_outcome p m ≡ Hazard at
+rest-hazard : (p : PlantLists) (m : StateAndCommandsLeft) (at : HazardAt) → hazard p m.state ≡ Some at → final_state_outcome p m ≡ Hazard at
 rest-hazard p m at there = rw there refl
 
 seen-calm : (p : PlantLists) (s t : State) (events : List Event) → run p s events ≡ Some t → hazard p t ≡ None → replay_result p s events ≡ NoHazard
@@ -130,8 +130,8 @@ drive-seen p scene driven drives = by_hazard (hazard p end.last.state) refl
     by_hazard : (o : Option HazardAt) → hazard p end.last.state ≡ o → replay_result p (start p) driven.events ≡ replay_result_of_outcome driven.rest
     by_hazard None e =
         let shown : replay_result p (start p) driven.events ≡ NoHazard = seen-calm p (start p) end.last.state driven.events end.ran e in
-        let rests : driven.rest ≡ (if is_done_and_plant_idle end.last then IsDriven else Stuck end.last.number) = end.rests ∙ rest-calm p end.last e in
-        shown ∙ sym (ap replay_result_of_outcome rests ∙ seen-without (is_done_and_plant_idle end.last) end.last.number)
+        let rests : driven.rest ≡ (if is_done_empty_and_free end.last then IsDriven else Stuck end.last.number) = end.rests ∙ rest-calm p end.last e in
+        shown ∙ sym (ap replay_result_of_outcome rests ∙ seen-without (is_done_empty_and_free end.last) end.last.number)
     by_hazard (Some at) e =
         let shown : replay_result p (start p) driven.events ≡ SeenHazard at = seen-hazard p (start p) end.last.state driven.events at end.ran e in
         let rests : driven.rest ≡ Hazard at = end.rests ∙ rest-hazard p end.last at e in
@@ -145,8 +145,8 @@ pub drive-safe : (p : PlantLists) → IsPlant p → IsStrict p → (scene : List
 drive-safe p plant strict scene driven drives at e =
     let end = ends-at p driven.events (initial_drive_state p scene) driven.rest drives in
     let meets = forever-safe p plant strict driven.events end.last.state end.ran in
-    let rests : driven.rest ≡ (if is_done_and_plant_idle end.last then IsDriven else Stuck end.last.number) = end.rests ∙ rest-calm p end.last meets.no_hazard in
-    calm-rests (is_done_and_plant_idle end.last) end.last.number at (sym rests ∙ e)
+    let rests : driven.rest ≡ (if is_done_empty_and_free end.last then IsDriven else Stuck end.last.number) = end.rests ∙ rest-calm p end.last meets.no_hazard in
+    calm-rests (is_done_empty_and_free end.last) end.last.number at (sym rests ∙ e)
 
 pub drive-writable : (p : PlantLists) (scene : List Event) (driven : Driven) → IsDriveOf p scene driven → IsRunOfPlant p (run_from_start p driven.events)
 drive-writable p scene driven drives =
@@ -157,9 +157,9 @@ pub drive-read : (p : PlantLists) → IsPlant p → (scene : List Event) (driven
 drive-read p plant scene driven drives = written-run_from_lines p plant (run_from_start p driven.events) (drive-writable p scene driven drives)
 
 pub drives-more :
-    (p : PlantLists) (first m after : DriveState) (events new later : List Event) (event : Event) (rest : Rest) →
+    (p : PlantLists) (first m after : StateAndCommandsLeft) (events new later : List Event) (event : Event) (rest : Rest) →
     ((more : List Event) (r : Rest) → IsDriveFrom p m more r → IsDriveFrom p first (events ++ more) r) →
-    next_step p m ≡ Some (event, after) → new ≡ events ++ event ∷ [] → IsDriveFrom p after later rest →
+    next_step_unless_hazard p m ≡ Some (event, after) → new ≡ events ++ event ∷ [] → IsDriveFrom p after later rest →
     IsDriveFrom p first (new ++ later) rest
 drives-more p first m after events new later event rest before taken grown drives =
     let whole : IsDriveFrom p first (events ++ event ∷ later) rest = before (event ∷ later) rest (after, taken, drives) in
@@ -167,12 +167,12 @@ drives-more p first m after events new later event rest before taken grown drive
     subst (λ (es : List Event). IsDriveFrom p first es rest) same whole
 
 pub drives-end :
-    (p : PlantLists) (scene : List Event) (m after : DriveState) (events : List Event) (o : Option Event)
+    (p : PlantLists) (scene : List Event) (m after : StateAndCommandsLeft) (events : List Event) (o : Option Event)
     (rest : Rest) →
     ((more : List Event) (r : Rest) → IsDriveFrom p m more r → IsDriveFrom p (initial_drive_state p scene) (events ++ more) r) →
-    IsStepTaken (next_step p m) m after o → o ≡ None → rest ≡ final_state_outcome p after →
+    IsStepOrUnchanged (next_step_unless_hazard p m) m after o → o ≡ None → rest ≡ final_state_outcome p after →
     IsDriveOf p scene (record { rest = rest; events = events })
 drives-end p scene m after events o rest before comes none is =
-    let ends : (next_step p m ≡ None) × (after ≡ m) = subst (IsStepTaken (next_step p m) m after) none comes in
+    let ends : (next_step_unless_hazard p m ≡ None) × (after ≡ m) = subst (IsStepOrUnchanged (next_step_unless_hazard p m) m after) none comes in
     let whole : IsDriveFrom p (initial_drive_state p scene) (events ++ []) rest = before [] rest (ends.0, is ∙ ap (final_state_outcome p) ends.1) in
     subst (λ (es : List Event). IsDriveFrom p (initial_drive_state p scene) es rest) (append-nil events) whole

@@ -1,8 +1,8 @@
--- Release, finish and cancel enable no automatic event that `may_enable` doesn't list.
+-- Release, finish and cancel enable no automatic event that `may_enable_automatic` doesn't list.
 use Rattle.std.proofs.Common.{◌≡◌, ℕ, ◌+◌, Bool, true, false, ◌||◌, ◌==◌, Some, List, slice_get, inl, refl, ap, ◌∙◌}
 use Rattle.std.specs.Prelude.{if◌then◌else◌}
 use Rattle.ilk_base.proofs.Tested.{list_any-none}
-use Rattle.ilk_plant.specs.Network.{has_section}
+use Rattle.ilk_plant.specs.Network.{contains_section}
 use Rattle.ilk_plant.specs.Plant.{IsPlant, PlantLists, board_of}
 use Rattle.ilk_plant.specs.Shape.{HasShape}
 use Rattle.ilk_plant.specs.TableRules.{sections_locked_for}
@@ -73,10 +73,9 @@ release-keeps p plant s t shape r it (Tail x) own out h = tail-stays p s t x it.
 release-keeps p plant s t shape r it (Leave x) own out h = leave-stays p s t x it.trains h
 release-keeps p plant s t shape r it (Cancel q) own out h = cc
 
--- Finish releases no section that the route doesn't lock.
-finished-other : (route : Route) (k x z : ℕ) → slice_get route.path k ≡ Some x → has_section z (sections_locked_for route) ≡ false → (z == x || has_section z (sections_outside_path route)) ≡ false
+finished-other : (route : Route) (k x z : ℕ) → slice_get route.path k ≡ Some x → contains_section z (sections_locked_for route) ≡ false → (z == x || contains_section z (sections_outside_path route)) ≡ false
 finished-other route k x z at out =
-    ap (λ (b : Bool). b || has_section z (sections_outside_path route)) (not-these (sections_locked_for route) z x out (path-locked_for route k x at)) ∙ beside-none z route out
+    ap (λ (b : Bool). b || contains_section z (sections_outside_path route)) (not-these (sections_locked_for route) z x out (path-locked_for route k x at)) ∙ beside-none z route out
 
 pub finish-keeps : (p : PlantLists) → IsPlant p → (s t : State) → HasShape p s → (r : ℕ) → IsFinished p s t r → Keeps p s t (Finish r)
 finish-keeps p plant s t shape r it (Mark q) own out h = cc
@@ -87,7 +86,7 @@ finish-keeps p plant s t shape r it (Allocate q) own out h = allocate-back p s t
     (record { mode = Free; seen = 0; rel = 0 }) it.changes
     (inl (ap (λ (m : Mode). same_mode m Allocating || same_mode m Locked) it.was)) c free)
     (λ route known k x at. clear-back s t x
-    (lock-same s t FreeLock (λ z. z == it.x || has_section z (sections_outside_path it.route))
+    (lock-same s t FreeLock (λ z. z == it.x || contains_section z (sections_outside_path it.route))
     (locks-set_with s t it.x (sections_outside_path it.route) FreeLock it.locks) x FreeLock
     (finished-other it.route it.now.rel it.x x it.last
     (not-shared it.route route
@@ -106,7 +105,7 @@ finish-keeps p plant s t shape r it (Sense q) own out h = sense-back p s t q
     is_locked_or_occupied (refl))
     (λ route now x known at next occupied locked. (
       occupied-stays s t it.trains x occupied,
-      other-lock-back s t FreeLock (λ z. z == it.x || has_section z (sections_outside_path it.route))
+      other-lock-back s t FreeLock (λ z. z == it.x || contains_section z (sections_outside_path it.route))
           (locks-set_with s t it.x (sections_outside_path it.route) FreeLock it.locks) x LockedLock refl
           locked,
     )) h
@@ -115,7 +114,7 @@ finish-keeps p plant s t shape r it (Release q) own out h = release-back p s t q
     in_occupation (refl))
     (λ route now x known at first vacant used. (
       vacant-stays s t it.trains x vacant,
-      other-lock-back s t FreeLock (λ z. z == it.x || has_section z (sections_outside_path it.route))
+      other-lock-back s t FreeLock (λ z. z == it.x || contains_section z (sections_outside_path it.route))
           (locks-set_with s t it.x (sections_outside_path it.route) FreeLock it.locks) x UsedLock refl used,
     ))
     h
@@ -128,14 +127,13 @@ finish-keeps p plant s t shape r it (Tail x) own out h = tail-stays p s t x it.t
 finish-keeps p plant s t shape r it (Leave x) own out h = leave-stays p s t x it.trains h
 finish-keeps p plant s t shape r it (Cancel q) own out h = cc
 
--- The locks that a cancelled route releases, if any.
 record GivesBack (s t : State) (ys : List ℕ) : Type 0 where
   changed : ℕ → Bool
   gives : GivesLock s t FreeLock changed
-  only : (x : ℕ) → has_section x ys ≡ false → changed x ≡ false
+  only : (x : ℕ) → contains_section x ys ≡ false → changed x ≡ false
 
 given-back : (s t : State) (ys : List ℕ) (b : Bool) → t.locks ≡ (if b then with_locks s.locks ys FreeLock else s.locks) → GivesBack s t ys
-given-back s t ys true same = record { changed = λ x. has_section x ys; gives = locks-with s t ys FreeLock same; only = λ x out. out }
+given-back s t ys true same = record { changed = λ x. contains_section x ys; gives = locks-with s t ys FreeLock same; only = λ x out. out }
 given-back s t ys false same = record { changed = λ x. false; gives = locks-stay s t FreeLock same; only = λ x out. refl }
 
 cancelled-unlocked : (mode : Mode) → (same_mode mode Marked || same_mode mode Allocating) ≡ true → same_mode mode Locked ≡ false

@@ -7,28 +7,27 @@ use Rattle.ilk_plant.specs.declared.network.Dir.{Dir}
 use Rattle.ilk_plant.specs.declared.network.Dir.TheVariants.{Up, Down}
 use Rattle.ilk_plant.specs.declared.network.Section.TheVariants.{Linear}
 use Rattle.ilk_plant.specs.declared.table.Route.{Route}
-use Rattle.ilk_motion.specs.TwoSections.{two_sections}
+use Rattle.ilk_motion.specs.TwoSections.{two_section_plant}
 use Rattle.ilk_model.specs.declared.event.Event.{Event}
 use Rattle.ilk_model.specs.declared.event.Event.TheVariants.{Mark, Allocate, Lock, Sense, Finish, Enter, Head, Tail, Leave, Cancel}
 use Rattle.ilk_model.specs.declared.hazards.HazardAt.TheVariants.{Two}
-use Rattle.ilk_drive.specs.Drive.{DriveState, DriveStep, initial_drive_state, final_state_outcome, next_step}
+use Rattle.ilk_drive.specs.Drive.{StateAndCommandsLeft, DriveStep, initial_drive_state, final_state_outcome, next_step_unless_hazard}
 use Rattle.ilk_drive.specs.Scene.{scene_from_text}
 use Rattle.ilk_drive.specs.declared.outcome.Rest.{Rest}
 use Rattle.ilk_drive.specs.declared.outcome.Rest.TheVariants.{Driven, Stuck, Hazard}
 use Rattle.ilk_drive.specs.declared.scene.Scene.TheVariants.{Scene as IsScene, Bad}
 
--- The drive from a moment on, if it ends within n turns.
-abbrev driven_in : ℕ → PlantLists → DriveState → Option (List Event × Rest)
+-- The drive from a moment on, if it ends within `n` events.
+abbrev driven_in : ℕ → PlantLists → StateAndCommandsLeft → Option (List Event × Rest)
 driven_in zero p m = None
-driven_in (suc n) p m = after_turn (next_step p m) (driven_in n p)
+driven_in (suc n) p m = after_turn (next_step_unless_hazard p m) (driven_in n p)
   where
-    after_turn : Option DriveStep → (DriveState → Option (List Event × Rest)) → Option (List Event × Rest)
+    after_turn : Option DriveStep → (StateAndCommandsLeft → Option (List Event × Rest)) → Option (List Event × Rest)
     after_turn None later = Some ([], final_state_outcome p m)
     after_turn (Some taken) later = do
       more ← later taken.1
       Some (taken.0 ∷ more.0, more.1)
 
--- The drive of a scenario, within twenty turns.
 abbrev drive : PlantLists → List Event → Option (List Event × Rest)
 drive p scene = driven_in 20 p (initial_drive_state p scene)
 
@@ -70,7 +69,6 @@ short_route = record {
   route_names = codes "r1" ∷ [];
 }
 
--- A train enters, its route is requested, and it runs through.
 train_runs_through : drive line (Enter 0 ∷ Mark 0 ∷ []) ≡ Some (Enter 0 ∷ Mark 0 ∷ Allocate 0 ∷ Lock 0 ∷ Head 0 ∷ Sense 0 ∷ Finish 0 ∷ Tail 0 ∷ Leave 1 ∷ [], Driven)
 train_runs_through = refl
 
@@ -78,26 +76,21 @@ train_runs_through = refl
 trains_face_each_other : drive line (Enter 0 ∷ Enter 1 ∷ Mark 0 ∷ []) ≡ Some (Enter 0 ∷ Enter 1 ∷ Mark 0 ∷ [], Stuck 4)
 trains_face_each_other = refl
 
--- The second command isn't enabled.
 entry_is_occupied : drive line (Enter 0 ∷ Enter 0 ∷ []) ≡ Some (Enter 0 ∷ [], Stuck 2)
 entry_is_occupied = refl
 
--- The route is Locked before it could be cancelled.
 cancelled_too_late : drive line (Mark 0 ∷ Cancel 0 ∷ []) ≡ Some (Mark 0 ∷ Allocate 0 ∷ Lock 0 ∷ [], Stuck 2)
 cancelled_too_late = refl
 
--- Without boards one train runs through after the other.
-one_after_the_other : drive two_sections (Enter 0 ∷ Enter 1 ∷ []) ≡ Some (Enter 0 ∷ Head 0 ∷ Tail 0 ∷ Leave 1 ∷ Enter 1 ∷ Head 1 ∷ Tail 1 ∷ Leave 0 ∷ [], Driven)
+one_after_the_other : drive two_section_plant (Enter 0 ∷ Enter 1 ∷ []) ≡ Some (Enter 0 ∷ Head 0 ∷ Tail 0 ∷ Leave 1 ∷ Enter 1 ∷ Head 1 ∷ Tail 1 ∷ Leave 0 ∷ [], Driven)
 one_after_the_other = refl
 
--- A train runs on from the end of its route into another.
 runs_into_another : drive short_route (Enter 2 ∷ Enter 0 ∷ Mark 0 ∷ []) ≡ Some (Enter 2 ∷ Enter 0 ∷ Mark 0 ∷ Allocate 0 ∷ Lock 0 ∷ Head 0 ∷ Sense 0 ∷ Finish 0 ∷ Head 1 ∷ [], Hazard (Two 2))
 runs_into_another = refl
 
 no_command : drive line [] ≡ Some ([], Driven)
 no_command = refl
 
--- Texts
 two_commands : scene_from_text line (codes "drive 1\nenter a\nmark r1\nend\n") ≡ IsScene (Enter 0 ∷ Mark 0 ∷ [])
 two_commands = refl
 

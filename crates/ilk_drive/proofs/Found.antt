@@ -13,7 +13,7 @@ use Rattle.ilk_plant.specs.declared.state.State.{State}
 use Rattle.ilk_model.specs.Event.{next}
 use Rattle.ilk_model.specs.declared.event.Event.{Event}
 use Rattle.ilk_drive.specs.Drive.{automatic_events, first_automatic}
-use Rattle.ilk_drive.specs.Progress.{after_automatic}
+use Rattle.ilk_drive.specs.Progress.{state_after_first_automatic}
 
 pub find-first : {A : Type 0} (test : A → Bool) (xs : List A) (i : ℕ) (x : A) → slice_get xs i ≡ Some x → test x ≡ true → ((j : ℕ) (y : A) → j < i → slice_get xs j ≡ Some y → test y ≡ false) → find test xs ≡ Some x
 find-first test [] i x at passes before = cc
@@ -34,7 +34,7 @@ pub grown : (front now new : List Event) (event : ℕ → Event) (n m : ℕ) →
 grown front now new event n m count is more =
     more ∙ ap (λ (xs : List Event). xs ++ map event (range_with_len 0 n)) is ∙ ap (λ (k : ℕ). front ++ map event (range_with_len 0 k)) count
 
--- No automatic event before this index is enabled.
+-- Holds if no automatic event before this index is enabled.
 abbrev pub NoneBefore : PlantLists → State → ℕ → Type 0
 NoneBefore p s i = (j : ℕ) (event : Event) → j < i → slice_get (automatic_events p) j ≡ Some event → is_some (next p s event) ≡ false
 
@@ -44,7 +44,7 @@ first-is p s i event at enabled before = find-first (λ e. is_some (next p s e))
 pub first-none : (p : PlantLists) (s : State) → ((j : ℕ) (event : Event) → slice_get (automatic_events p) j ≡ Some event → is_some (next p s event) ≡ false) → first_automatic p s ≡ None
 first-none p s none = find-none-from (λ e. is_some (next p s e)) (automatic_events p) none
 
-pub after-none : (p : PlantLists) (s : State) → first_automatic p s ≡ None → s ≡ after_automatic p s
+pub after-none : (p : PlantLists) (s : State) → first_automatic p s ≡ None → s ≡ state_after_first_automatic p s
 after-none p s first = sym (ap (λ (o : Option Event). unwrap_or (o >>= next p s) s) first)
 
 pub left-alone : (p : PlantLists) (s new : State) (event : Event) → is_some (next p s event) ≡ false → new ≡ unwrap_or (next p s event) s → new ≡ s

@@ -13,30 +13,30 @@ use Rattle.ilk_base.proofs.Ranges.{below_or_at}
 use Rattle.ilk_base.proofs.Truth.{or-true}
 use Rattle.ilk_plant.specs.Plant.{PlantLists}
 use Rattle.ilk_model.specs.declared.event.Event.{Event}
-use Rattle.ilk_drive.specs.Awakening.{may_enable}
-use Rattle.ilk_drive.specs.Places.{index_of_descending_rank}
+use Rattle.ilk_drive.specs.Awakening.{may_enable_automatic}
+use Rattle.ilk_drive.specs.Places.{u64_max_minus_rank}
 
 pub ruleset any_mapped = (list_any-map)
 
-held-by : (j : ℕ) (ranks : List ℕ) → has_number j (map index_of_descending_rank ranks) ≡ list_any (λ rank. index_of_descending_rank rank == j) ranks
-held-by j ranks = list_any-map (λ place. place == j) index_of_descending_rank ranks
+held-by : (j : ℕ) (ranks : List ℕ) → has_number j (map u64_max_minus_rank ranks) ≡ list_any (λ rank. u64_max_minus_rank rank == j) ranks
+held-by j ranks = list_any-map (λ place. place == j) u64_max_minus_rank ranks
 
-pub held-more : (rank j : ℕ) (old new : List ℕ) → IsPermutation (rank ∷ old) new → has_number j (map index_of_descending_rank new) ≡ (index_of_descending_rank rank == j || has_number j (map index_of_descending_rank old))
+pub held-more : (rank j : ℕ) (old new : List ℕ) → IsPermutation (rank ∷ old) new → has_number j (map u64_max_minus_rank new) ≡ (u64_max_minus_rank rank == j || has_number j (map u64_max_minus_rank old))
 held-more rank j old new order =
-    held-by j new ∙ sym (list_any-IsPermutation (λ r. index_of_descending_rank r == j) (rank ∷ old) new order) ∙ ap (λ (b : Bool). index_of_descending_rank rank == j || b) (sym (held-by j old))
+    held-by j new ∙ sym (list_any-IsPermutation (λ r. u64_max_minus_rank r == j) (rank ∷ old) new order) ∙ ap (λ (b : Bool). u64_max_minus_rank rank == j || b) (sym (held-by j old))
 
-pub held-pushed : (rank place j : ℕ) (old new : List ℕ) → IsPermutation (rank ∷ old) new → index_of_descending_rank rank ≡ place → has_number j (map index_of_descending_rank new) ≡ (place == j || has_number j (map index_of_descending_rank old))
-held-pushed rank place j old new order is = held-more rank j old new order ∙ ap (λ (p : ℕ). p == j || has_number j (map index_of_descending_rank old)) is
+pub held-pushed : (rank place j : ℕ) (old new : List ℕ) → IsPermutation (rank ∷ old) new → u64_max_minus_rank rank ≡ place → has_number j (map u64_max_minus_rank new) ≡ (place == j || has_number j (map u64_max_minus_rank old))
+held-pushed rank place j old new order is = held-more rank j old new order ∙ ap (λ (p : ℕ). p == j || has_number j (map u64_max_minus_rank old)) is
 
-pub held-popped : (rank j : ℕ) (old new : List ℕ) → IsPermutation old (rank ∷ new) → has_number j (map index_of_descending_rank old) ≡ (index_of_descending_rank rank == j || has_number j (map index_of_descending_rank new))
+pub held-popped : (rank j : ℕ) (old new : List ℕ) → IsPermutation old (rank ∷ new) → has_number j (map u64_max_minus_rank old) ≡ (u64_max_minus_rank rank == j || has_number j (map u64_max_minus_rank new))
 held-popped rank j old new order =
-    held-by j old ∙ list_any-IsPermutation (λ r. index_of_descending_rank r == j) old (rank ∷ new) order ∙ ap (λ (b : Bool). index_of_descending_rank rank == j || b) (sym (held-by j new))
+    held-by j old ∙ list_any-IsPermutation (λ r. u64_max_minus_rank r == j) old (rank ∷ new) order ∙ ap (λ (b : Bool). u64_max_minus_rank rank == j || b) (sym (held-by j new))
 
-pub held-least : (rank j : ℕ) (ranks : List ℕ) → All (λ r. r ≤ rank) ranks → has_number j (map index_of_descending_rank ranks) ≡ true → index_of_descending_rank rank ≤ j
+pub held-least : (rank j : ℕ) (ranks : List ℕ) → All (λ r. r ≤ rank) ranks → has_number j (map u64_max_minus_rank ranks) ≡ true → u64_max_minus_rank rank ≤ j
 held-least rank j ranks most h =
-    let found = list_any-at (λ r. index_of_descending_rank r == j) ranks (sym (held-by j ranks) ∙ h) in
+    let found = list_any-at (λ r. u64_max_minus_rank r == j) ranks (sym (held-by j ranks) ∙ h) in
     let least : found.1 ≤ rank = all-at (λ r. r ≤ rank) ranks found.0 found.1 most found.2 in
-    let is : 18446744073709551615 - found.1 ≡ j = eqb-true (index_of_descending_rank found.1) j found.3 in
+    let is : 18446744073709551615 - found.1 ≡ j = eqb-true (u64_max_minus_rank found.1) j found.3 in
     omega (arith, least, is)
 
 pub pushed-kept : (wanted : Bool) (place : ℕ) (old new : List ℕ) → new ≡ old ++ cond wanted (place ∷ []) [] → (j : ℕ) → has_number j old ≡ true → has_number j new ≡ true
@@ -53,17 +53,17 @@ pushed-added wanted place old new grown is =
 pub woken-more :
     (p : PlantLists) (event at_place : Event) (automatic : List Event) (i : ℕ) (wanted : Bool)
     (old new : List ℕ) →
-    slice_get automatic i ≡ Some at_place → wanted ≡ may_enable p event at_place →
-    ((j : ℕ) (other : Event) → j < i → slice_get automatic j ≡ Some other → may_enable p event other ≡ true →
+    slice_get automatic i ≡ Some at_place → wanted ≡ may_enable_automatic p event at_place →
+    ((j : ℕ) (other : Event) → j < i → slice_get automatic j ≡ Some other → may_enable_automatic p event other ≡ true →
     has_number j old ≡ true) →
     ((j : ℕ) → has_number j old ≡ true → has_number j new ≡ true) →
     (wanted ≡ true → has_number i new ≡ true) → (j : ℕ) (other : Event) → j < i + 1 →
-    slice_get automatic j ≡ Some other → may_enable p event other ≡ true → has_number j new ≡ true
+    slice_get automatic j ≡ Some other → may_enable_automatic p event other ≡ true → has_number j new ≡ true
 woken-more p event at_place automatic i wanted old new here is before keeps adds j other less at may = elim (below_or_at j i less) [
   | inl earlier ↦ keeps j (before j other earlier at may)
   | inr same ↦
       (let one : other ≡ at_place = same_Some _ _ (sym at ∙ ap (slice_get automatic) same ∙ here) in
-      ap (λ (k : ℕ). has_number k new) same ∙ adds (is ∙ ap (may_enable p event) (sym one) ∙ may))
+      ap (λ (k : ℕ). has_number k new) same ∙ adds (is ∙ ap (may_enable_automatic p event) (sym one) ∙ may))
 ]
 
 pub kept-on : (place : ℕ) (old new : List ℕ) → ((j : ℕ) → has_number j new ≡ (place == j || has_number j old)) → (j : ℕ) → has_number j old ≡ true → has_number j new ≡ true

@@ -1,12 +1,12 @@
--- Throw, settle, enter, head, tail and leave enable no automatic event that `may_enable` doesn't
--- list.
+-- Throw, settle, enter, head, tail and leave enable no automatic event that `may_enable_automatic`
+-- doesn't list.
 use Rattle.std.proofs.Common.{◌≡◌, ℕ, true, false, ◌==◌, Option, Some, List, [], set, slice_get, inl, inr, refl, sym, ap, ◌∙◌}
 use Rattle.std.specs.List.{list_any}
 use Rattle.std.proofs.lemmas.Bool.{cases_eq, eqb-true}
 use Rattle.ilk_base.specs.Option.{is_some_and}
 use Rattle.ilk_base.proofs.Lists.{slice_get-set_other}
 use Rattle.ilk_base.proofs.Tested.{list_any-at, list_any-none}
-use Rattle.ilk_plant.specs.Network.{has_section}
+use Rattle.ilk_plant.specs.Network.{contains_section}
 use Rattle.ilk_plant.specs.Plant.{IsPlant, PlantLists, board_of, point_number}
 use Rattle.ilk_plant.specs.Shape.{HasShape}
 use Rattle.ilk_plant.specs.State.{detected_position}
@@ -32,7 +32,7 @@ use Rattle.ilk_plant.proofs.PointNumbers.{number-once}
 use Rattle.ilk_plant.proofs.InLists.{section-from}
 use Rattle.ilk_strict.proofs.Points.{lie-other, lies-new}
 use Rattle.ilk_strict.proofs.Table.{path-locked_for}
-use Rattle.ilk_drive.specs.Awakening.{neighbours_of, route_depends_by_number, is_board_on_section}
+use Rattle.ilk_drive.specs.Awakening.{neighbours_of, route_has_element_by_number, is_board_on_section}
 use Rattle.ilk_drive.proofs.Back.{allocate-back, allocating, finish-back, head-back, in_occupation, leave-back, lock-back, marked, release-back, sense-back, settle-back, tail-back, throw-back}
 use Rattle.ilk_drive.proofs.Changes.{apart, clear-back, neither, states-stay, true-false}
 use Rattle.ilk_drive.proofs.TrainChanges.{enter-alone, enter-heads, enter-leaves, enter-tails, enter-was, head-alone, head-heads, head-leaves, head-tails, head-was, leave-alone, leave-heads, leave-leaves, leave-tails, leave-was, next-neighbours_of, tail-alone, tail-heads, tail-leaves, tail-tails, tail-was}
@@ -43,7 +43,6 @@ point-other : (p : PlantLists) (s t : State) (x n : ℕ) (new : PointState) → 
 point-other p s t x n new number same y out m that =
     ap (λ (l : List PointState). slice_get l m) same ∙ slice_get-set_other s.points n m new (λ e. apart y x out (number-once p y x n (that ∙ ap Some (sym e)) number))
 
--- A route that can be locked while a point moves doesn't need that point.
 thrown-lies : (p : PlantLists) (s t : State) (x : ℕ) → (it : IsThrown p s t x) → (listed : Listed) → is_detected_as_listed p t listed ≡ true → is_detected_as_listed p s listed ≡ true
 thrown-lies p s t x it listed h = elim (cases_eq listed.point x) [
   | inl here ↦
@@ -147,13 +146,13 @@ enter-keeps p plant s t shape x it (Tail z) own out h = tail-back p s t z (enter
 enter-keeps p plant s t shape x it (Leave z) own out h = leave-back p s t z (enter-alone p s t x it z out) h
 enter-keeps p plant s t shape x it (Cancel q) own out h = cc
 
-pub headed-neighbours_of : (p : PlantLists) (s t : State) (x : ℕ) → (it : IsHeaded p s t x) → has_section it.y (neighbours_of p x) ≡ true
+pub headed-neighbours_of : (p : PlantLists) (s t : State) (x : ℕ) → (it : IsHeaded p s t x) → contains_section it.y (neighbours_of p x) ≡ true
 headed-neighbours_of p s t x it = next-neighbours_of p x it.y it.train.dir (ahead-next_to p s x it.y it.train.dir it.leads)
 
-headed-unasked : (p : PlantLists) (s t : State) (x q : ℕ) → (it : IsHeaded p s t x) → list_any (λ y. route_depends_by_number p y q) (neighbours_of p x) ≡ false → route_depends_by_number p it.y q ≡ false
+headed-unasked : (p : PlantLists) (s t : State) (x q : ℕ) → (it : IsHeaded p s t x) → list_any (λ y. route_has_element_by_number p y q) (neighbours_of p x) ≡ false → route_has_element_by_number p it.y q ≡ false
 headed-unasked p s t x q it out =
     let found = list_any-at (λ y. y == it.y) (neighbours_of p x) (headed-neighbours_of p s t x it) in
-    ap (λ (y : ℕ). route_depends_by_number p y q) (sym (eqb-true found.1 it.y found.3)) ∙ list_any-none (λ y. route_depends_by_number p y q) (neighbours_of p x) found.0 found.1 out found.2
+    ap (λ (y : ℕ). route_has_element_by_number p y q) (sym (eqb-true found.1 it.y found.3)) ∙ list_any-none (λ y. route_has_element_by_number p y q) (neighbours_of p x) found.0 found.1 out found.2
 
 headed-board : (p : PlantLists) → IsPlant p → (s t : State) (x : ℕ) → (it : IsHeaded p s t x) → (m : ℕ) → is_board_on_section p x m ≡ false → slice_get t.boards m ≡ slice_get s.boards m
 headed-board p plant s t x it m off =
@@ -186,8 +185,8 @@ head-keeps p plant s t shape x it (Throw z) own out h = throw-stays p s t z it.p
 head-keeps p plant s t shape x it (Settle z) own out h = settle-stays p s t z it.points h
 head-keeps p plant s t shape x it (Enter z) own out h = cc
 head-keeps p plant s t shape x it (Head z) own out h = head-back p s t z
-    (head-heads p s t x it z (neither (z == x) (has_section z (neighbours_of p x)) out).0
-    (not-these (neighbours_of p x) z it.y (neither (z == x) (has_section z (neighbours_of p x)) out).1
+    (head-heads p s t x it z (neither (z == x) (contains_section z (neighbours_of p x)) out).0
+    (not-these (neighbours_of p x) z it.y (neither (z == x) (contains_section z (neighbours_of p x)) out).1
     (headed-neighbours_of p s t x it)))
     (leads-back p s t z (lie-stays p s t it.points z))
     (λ d. passes-headed s t (board_of p x it.train.dir) it.boards (board_of p z d)) h
@@ -225,7 +224,7 @@ tail-keeps p plant s t shape x it (Throw z) own out h = throw-stays p s t z it.p
 tail-keeps p plant s t shape x it (Settle z) own out h = settle-stays p s t z it.points h
 tail-keeps p plant s t shape x it (Enter z) own out h = cc
 tail-keeps p plant s t shape x it (Head z) own out h = head-back p s t z (tail-heads p s t shape x it z) (leads-back p s t z (lie-stays p s t it.points z)) (λ d. passes-same s t it.boards (board_of p z d)) h
-tail-keeps p plant s t shape x it (Tail z) own out h = tail-back p s t z (tail-tails p s t shape x it z (neither (z == x) (has_section z (neighbours_of p x)) out).0 (neither (z == x) (has_section z (neighbours_of p x)) out).1) h
+tail-keeps p plant s t shape x it (Tail z) own out h = tail-back p s t z (tail-tails p s t shape x it z (neither (z == x) (contains_section z (neighbours_of p x)) out).0 (neither (z == x) (contains_section z (neighbours_of p x)) out).1) h
 tail-keeps p plant s t shape x it (Leave z) own out h = leave-back p s t z (tail-alone p s t shape x it z out) h
 tail-keeps p plant s t shape x it (Cancel q) own out h = cc
 

@@ -61,7 +61,6 @@ trains_left p (train ∷ trains) = train_left p train + trains_left p trains
 abbrev pub left : PlantLists → State → ℕ
 left p s = routes_left p.routes s.routes + points_left s.points + trains_left p s.trains
 
--- The effect on the sum of changing one route, point or train
 pub routes_left-set :
     (routes : List Route) (states : List RouteState) (r : ℕ) (route : Route) (now new : RouteState) →
     slice_get routes r ≡ Some route → slice_get states r ≡ Some now →

@@ -1,4 +1,5 @@
--- Mark, allocate, lock and sense enable no automatic event that `may_enable` doesn't list.
+-- Mark, allocate, lock and sense enable no automatic event that `may_enable_automatic` doesn't
+-- list.
 use Rattle.std.proofs.Common.{◌≡◌, ℕ, ◌+◌, Bool, true, false, not, ◌||◌, ◌==◌, Option, Some, None, List, [], ◌∷◌, slice_get, is_some, option_map, unwrap_or, inl, inr, refl, sym, ap, ◌∙◌}
 use Rattle.std.specs.Option.{option_or}
 use Rattle.std.specs.List.{list_any}
@@ -8,7 +9,7 @@ use Rattle.ilk_base.proofs.Numbered.{slice_get-map_numbered}
 use Rattle.ilk_base.proofs.Options.{mapped-Some}
 use Rattle.ilk_base.proofs.Tested.{list_all-slice_get, list_any-at, list_any-none}
 use Rattle.ilk_base.proofs.Truth.{fails}
-use Rattle.ilk_plant.specs.Network.{has_section}
+use Rattle.ilk_plant.specs.Network.{contains_section}
 use Rattle.ilk_plant.specs.Plant.{IsPlant, PlantLists, board_of, point_number}
 use Rattle.ilk_plant.specs.Shape.{HasShape}
 use Rattle.ilk_plant.specs.State.{has_lock_state, is_unlocked_and_vacant, is_occupied}
@@ -23,7 +24,7 @@ use Rattle.ilk_plant.specs.declared.state.RouteState.{RouteState}
 use Rattle.ilk_plant.specs.declared.state.State.{State}
 use Rattle.ilk_plant.specs.declared.table.Listed.{Listed}
 use Rattle.ilk_plant.specs.declared.table.Route.{Route}
-use Rattle.ilk_routes.specs.Boards.{is_held_closed, is_protecting_board}
+use Rattle.ilk_routes.specs.Boards.{is_protecting_locked_route, is_protecting_board}
 use Rattle.ilk_routes.specs.Claims.{required_points}
 use Rattle.ilk_routes.specs.Lies.{is_detected_moving, listed_position, is_entry_for_point, with_commands}
 use Rattle.ilk_routes.specs.Modes.{same_mode}
@@ -33,15 +34,14 @@ use Rattle.ilk_model.specs.Holding.{is_locked_or_occupied}
 use Rattle.ilk_model.specs.declared.event.Event.{Event}
 use Rattle.ilk_model.specs.declared.event.Event.TheVariants.{Mark, Allocate, Lock, Sense, Release, Finish, Throw, Settle, Enter, Head, Tail, Leave, Cancel}
 use Rattle.ilk_strict.proofs.Points.{lie-kept, lists-named}
-use Rattle.ilk_drive.specs.Awakening.{has_source_on_section, may_enable, is_board_on_section, requires_point}
+use Rattle.ilk_drive.specs.Awakening.{has_source_on_section, may_enable_automatic, is_board_on_section, requires_point}
 use Rattle.ilk_drive.specs.Commands.{is_command}
 use Rattle.ilk_drive.proofs.Back.{allocate-back, allocating, finish-back, in_occupation, lock-back, marked, release-back, sense-back, settle-back, throw-back}
 use Rattle.ilk_drive.proofs.Changes.{apart, claims-back, claims-other, clear-back, lock-back as other-lock-back, lock-same, locks-set, locks-with, neither, states-back, states-other, true-false}
 use Rattle.ilk_drive.proofs.Staying.{are-apart, aspect-alike, aspect-opened, aspect-stays, board-sensed, head-stays, leave-stays, lie-stays, lies-back, locks-kept, mode-alike, occupied-stays, passes-opened, passes-same, passes-sensed, protecting-back, protecting-keeps, settle-stays, stays-other, tail-stays, throw-stays, vacant-stays}
 
--- The event enables no automatic event that `may_enable` doesn't list.
 abbrev pub Keeps : PlantLists → State → State → Event → Type 0
-Keeps p s t event = (other : Event) → is_command other ≡ false → may_enable p event other ≡ false → is_some (next p t other) ≡ true → is_some (next p s other) ≡ true
+Keeps p s t event = (other : Event) → is_command other ≡ false → may_enable_automatic p event other ≡ false → is_some (next p t other) ≡ true → is_some (next p s other) ≡ true
 
 pub mark-keeps : (p : PlantLists) → IsPlant p → (s t : State) → HasShape p s → (r : ℕ) → IsMarked p s t r → Keeps p s t (Mark r)
 mark-keeps p plant s t shape r it (Mark q) own out h = cc
@@ -75,8 +75,8 @@ mark-keeps p plant s t shape r it (Tail x) own out h = tail-stays p s t x it.tra
 mark-keeps p plant s t shape r it (Leave x) own out h = leave-stays p s t x it.trains h
 mark-keeps p plant s t shape r it (Cancel q) own out h = cc
 
-allocated-vacant : (p : PlantLists) (s t : State) (r : ℕ) → (it : IsAllocated p s t r) → (x : ℕ) → is_occupied s x ≡ true → has_section x (sections_locked_for it.route) ≡ false
-allocated-vacant p s t r it x occupied = false_from_ne_true (has_section x (sections_locked_for it.route)) (λ h.
+allocated-vacant : (p : PlantLists) (s t : State) (r : ℕ) → (it : IsAllocated p s t r) → (x : ℕ) → is_occupied s x ≡ true → contains_section x (sections_locked_for it.route) ≡ false
+allocated-vacant p s t r it x occupied = false_from_ne_true (contains_section x (sections_locked_for it.route)) (λ h.
     let found = list_any-at (λ y. y == x) (sections_locked_for it.route) h in
     let clear : is_unlocked_and_vacant s found.1 ≡ true = list_all-slice_get (is_unlocked_and_vacant s) (sections_locked_for it.route) found.0 found.1 it.clear found.2 in
     let vacant : is_occupied s found.1 ≡ false = fails (is_occupied s found.1) (and_parts (has_lock_state s found.1 FreeLock) (not (is_occupied s found.1)) clear).1 in
@@ -121,7 +121,7 @@ allocate-keeps p plant s t shape r it (Allocate q) own out h = allocate-back p s
     (λ route known k c at free. claims-back p s t r it.route it.now (record it.now { mode = Allocating })
     it.changes (inr refl) c free)
     (λ route known k x at. clear-back s t x
-    (other-lock-back s t LockedLock (λ z. has_section z (sections_locked_for it.route))
+    (other-lock-back s t LockedLock (λ z. contains_section z (sections_locked_for it.route))
     (locks-with s t (sections_locked_for it.route) LockedLock it.locks) x FreeLock refl)
     (vacant-stays s t it.trains x)) h
 allocate-keeps p plant s t shape r it (Lock q) own out h = lock-back p s t q
@@ -136,7 +136,7 @@ allocate-keeps p plant s t shape r it (Sense q) own out h = sense-back p s t q
     is_locked_or_occupied (refl))
     (λ route now x known at next occupied locked. (
       occupied-stays s t it.trains x occupied,
-      lock-same s t LockedLock (λ z. has_section z (sections_locked_for it.route))
+      lock-same s t LockedLock (λ z. contains_section z (sections_locked_for it.route))
           (locks-with s t (sections_locked_for it.route) LockedLock it.locks) x LockedLock
           (allocated-vacant p s t r it x (occupied-stays s t it.trains x occupied)) locked,
     )) h
@@ -145,7 +145,7 @@ allocate-keeps p plant s t shape r it (Release q) own out h = release-back p s t
     (refl))
     (λ route now x known at first vacant used. (
       vacant-stays s t it.trains x vacant,
-      other-lock-back s t LockedLock (λ z. has_section z (sections_locked_for it.route))
+      other-lock-back s t LockedLock (λ z. contains_section z (sections_locked_for it.route))
           (locks-with s t (sections_locked_for it.route) LockedLock it.locks) x UsedLock refl used,
     )) h
 allocate-keeps p plant s t shape r it (Finish q) own out h = finish-back p s t q (states-back p s t r it.route it.now (record it.now { mode = Allocating }) it.changes q in_occupation (refl)) h
@@ -196,8 +196,8 @@ lock-keeps p plant s t shape r it (Cancel q) own out h = cc
 
 protecting-apart : (p : PlantLists) (s t : State) (r : ℕ) (route : Route) (now new : RouteState) →
     (changes : ChangesRoute p s t r route now new) → (m : ℕ) →
-    list_any (λ k. k == m) route.protecting_boards ≡ false → is_held_closed p t m ≡ false →
-    is_held_closed p s m ≡ false
+    list_any (λ k. k == m) route.protecting_boards ≡ false → is_protecting_locked_route p t m ≡ false →
+    is_protecting_locked_route p s m ≡ false
 protecting-apart p s t r route now new changes m out = protecting-back p s t m (λ k locked protects. elim (cases_Bool (k == r)) [
   | inl here ↦
       (let same : is_protecting_board p r m ≡ list_any (λ j. j == m) route.protecting_boards = rw changes.known refl in

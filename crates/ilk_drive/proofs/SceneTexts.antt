@@ -11,11 +11,11 @@ use Rattle.ilk_base.proofs.Lists.{drop-mapped}
 use Rattle.ilk_base.proofs.Options.{bind_some}
 use Rattle.ilk_base.proofs.Results.{bind_ok, err_is, ok_is, ok_no_err}
 use Rattle.ilk_lines.specs.Lines.{Bytes, unterminated_tail, lines_of}
-use Rattle.ilk_lines.specs.Reading.{strip_first_line, expect_end, leading_values}
+use Rattle.ilk_lines.specs.Reading.{expect_first_line, expect_end_of_text, leading_values}
 use Rattle.ilk_lines.specs.Written.{LacksByte, text_of}
 use Rattle.ilk_lines.proofs.ByLine.{IsByLine, after_by_line, leading_by_line, leading_then}
 use Rattle.ilk_lines.proofs.FirstBad.{ReadsWritten, end_by_line, end_then, first_exactly, from_text, text_exactly}
-use Rattle.ilk_lines.proofs.EachTold.{strip_first_line-joins, expect_end-ends}
+use Rattle.ilk_lines.proofs.EachTold.{expect_first_line-joins, expect_end_of_text-ends}
 use Rattle.ilk_lines.proofs.Leading.{leading_all, leading_back, leading_lines}
 use Rattle.ilk_lines.proofs.TextLines.{lines_back, text-lines}
 use Rattle.ilk_plant.specs.Plant.{IsPlant, PlantLists}
@@ -39,7 +39,6 @@ use Rattle.ilk_drive.proofs.Scenes.{told-commands}
 command_back : (p : PlantLists) → IsPlant p → (event : Event) → IsTrue (is_command event) → IsEventSubjectOfPlant p event → command_from_line p (event_line p event) ≡ Some event
 command_back p plant event is about = rw (event_back p plant event about, is) refl
 
--- The line is the one written for a command whose subject the plant has.
 record IsCommandLine (p : PlantLists) (line : Bytes) (event : Event) : Type 0 where
   own : line ≡ event_line p event
   about : IsEventSubjectOfPlant p event
@@ -55,19 +54,19 @@ command_from_line-written p plant line event e =
 
 told-scene : (p : PlantLists) → IsPlant p → (lines : List Bytes) (bytes : Bytes) (commands : List Event) → commands_from_lines p lines bytes ≡ Ok commands → AreCommandsOfPlant p commands × (lines ≡ scene_lines p commands) × (bytes ≡ [])
 told-scene p plant lines bytes commands e =
-    let second = bind_ok (strip_first_line (codes "drive 1") 1 lines) _ commands e in
+    let second = bind_ok (expect_first_line (codes "drive 1") 1 lines) _ commands e in
     let found : List Event = leading_values (command_from_line p) second.0 in
-    let more = bind_ok (strip_first_line (codes "end") (2 + length found) (drop (length found) second.0)) _ commands second.2 in
-    let end = bind_ok (expect_end (2 + length found + 1) more.0 bytes) _ commands more.2 in
-    let last = expect_end-ends (2 + length found + 1) more.0 bytes end.1 in
+    let more = bind_ok (expect_first_line (codes "end") (2 + length found) (drop (length found) second.0)) _ commands second.2 in
+    let end = bind_ok (expect_end_of_text (2 + length found + 1) more.0 bytes) _ commands more.2 in
+    let last = expect_end_of_text-ends (2 + length found + 1) more.0 bytes end.1 in
     let tells = command_from_line-written p plant in (
       record {
         commanded = told-commands p lines bytes commands e;
         about = subst (All (IsEventSubjectOfPlant p)) (ok_is end.2) (leading_all (command_from_line p) (IsEventSubjectOfPlant p) (λ line event is. (tells line event is).about) second.0);
       },
-      strip_first_line-joins (codes "drive 1") 1 lines second.0 second.1
+      expect_first_line-joins (codes "drive 1") 1 lines second.0 second.1
           ∙ ap (λ ls. codes "drive 1" ∷ ls) (leading_lines (command_from_line p) (event_line p) (λ line event is. (tells line event is).own) second.0
-          ∙ ap (λ ls. map (event_line p) found ++ ls) (strip_first_line-joins (codes "end") (2 + length found) (drop (length found) second.0) more.0 more.1)
+          ∙ ap (λ ls. map (event_line p) found ++ ls) (expect_first_line-joins (codes "end") (2 + length found) (drop (length found) second.0) more.0 more.1)
           ∙ ap (λ ls. map (event_line p) found ++ codes "end" ∷ ls) last.0)
           ∙ ap (scene_lines p) (ok_is end.2),
       last.1,
@@ -77,9 +76,9 @@ lines_told : (p : PlantLists) → IsPlant p → (commands : List Event) → AreC
 lines_told p plant commands is =
     let lines : List Bytes = map (event_line p) commands ++ codes "end" ∷ [] in
     let told : All (λ event. command_from_line p (event_line p event) ≡ Some event) commands = λ k d within. command_back p plant (get_or commands k d) (is.commanded k d within) (is.about k d within) in
-    ap (λ (es : List Event). strip_first_line (codes "end") (2 + length es) (drop (length es) lines) >>= (λ more. expect_end (2 + length es + 1) more [] >>= (λ none. Ok es)))
+    ap (λ (es : List Event). expect_first_line (codes "end") (2 + length es) (drop (length es) lines) >>= (λ more. expect_end_of_text (2 + length es + 1) more [] >>= (λ none. Ok es)))
     (leading_back (command_from_line p) (event_line p) commands (codes "end") [] told refl)
-    ∙ ap (λ (ls : List Bytes). strip_first_line (codes "end") (2 + length commands) ls >>= (λ more. expect_end (2 + length commands + 1) more [] >>= (λ none. Ok commands))) (drop-mapped (event_line p) commands (codes "end" ∷ []))
+    ∙ ap (λ (ls : List Bytes). expect_first_line (codes "end") (2 + length commands) ls >>= (λ more. expect_end_of_text (2 + length commands + 1) more [] >>= (λ none. Ok commands))) (drop-mapped (event_line p) commands (codes "end" ∷ []))
 
 abbrev answered : Result (List Event) ℕ → Scene
 answered (Ok commands) = IsScene commands

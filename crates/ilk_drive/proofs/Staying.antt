@@ -8,10 +8,10 @@ use Rattle.ilk_base.specs.Option.{◌>>=◌, is_some_and}
 use Rattle.ilk_base.proofs.Lists.{slice_get-set_other, slice_get_set}
 use Rattle.ilk_base.proofs.Options.{some-and}
 use Rattle.ilk_base.proofs.Tested.{list_any-none, none-pass}
-use Rattle.ilk_plant.specs.Network.{has_section}
+use Rattle.ilk_plant.specs.Network.{contains_section}
 use Rattle.ilk_plant.specs.Plant.{IsPlant, PlantLists, board_of, point_number}
 use Rattle.ilk_plant.specs.State.{has_lock_state, is_occupied, detected_position}
-use Rattle.ilk_plant.specs.TableRules.{protecting_points_of, sections_locked_for, sections_of}
+use Rattle.ilk_plant.specs.TableRules.{protecting_points_of, sections_locked_for, path_and_overlap_of}
 use Rattle.ilk_plant.specs.declared.network.Board.{Board}
 use Rattle.ilk_plant.specs.declared.network.Dir.{Dir}
 use Rattle.ilk_plant.specs.declared.state.Aspect.{Aspect}
@@ -28,8 +28,8 @@ use Rattle.ilk_plant.specs.declared.table.Listed.{Listed}
 use Rattle.ilk_plant.specs.declared.table.Route.{Route}
 use Rattle.ilk_motion.specs.Body.{has_head_at, has_movable_tail_at, occupies_only}
 use Rattle.ilk_motion.specs.Ahead.{ahead, section_led_to}
-use Rattle.ilk_motion.specs.Trains.{is_open, may_pass, with_board_closed}
-use Rattle.ilk_routes.specs.Boards.{has_aspect, is_held_closed, is_protecting_board, same_aspect}
+use Rattle.ilk_motion.specs.Trains.{is_open, may_pass_board, with_board_closed}
+use Rattle.ilk_routes.specs.Boards.{has_aspect, is_protecting_locked_route, is_protecting_board, same_aspect}
 use Rattle.ilk_routes.specs.Claims.{sections_outside_path, required_points}
 use Rattle.ilk_routes.specs.Lies.{is_detected_as_listed, is_lie_at_position}
 use Rattle.ilk_routes.specs.Modes.{has_mode, is_allocating_or_locked, same_mode}
@@ -38,49 +38,43 @@ use Rattle.ilk_model.specs.Event.{next}
 use Rattle.ilk_model.specs.declared.event.Event.TheVariants.{Throw, Settle, Head, Tail, Leave}
 use Rattle.ilk_plant.proofs.InLists.{section-at}
 use Rattle.ilk_strict.proofs.After.{same-occupied}
-use Rattle.ilk_drive.specs.Awakening.{route_depends_on_section, route_may_affect_route, route_depends_by_number, source_protects_route, route_may_affect_by_number, share_section, is_board_on_section}
+use Rattle.ilk_drive.specs.Awakening.{route_has_element_on, may_affect_allocation_or_locking, route_has_element_by_number, source_protects_route, route_may_affect_by_number, routes_lock_common_section, is_board_on_section}
 use Rattle.ilk_drive.proofs.Back.{first_dir, head-back, leave-back, settle-back, tail-back, throw-back}
 use Rattle.ilk_drive.proofs.Changes.{apart, claimed-alike, lock-same, locks-stay, neither, state-new, true-false}
 
--- Tests of known items
-
--- Route `other` has no conflict with r, shares no section with it, and neither guards the other.
 pub record AreApart (r : ℕ) (route other : Route) : Type 0 where
   pub conflict : list_any (λ c. c == r) other.conflicts ≡ false
-  pub sections : share_section route other ≡ false
+  pub sections : routes_lock_common_section route other ≡ false
   pub guarded : source_protects_route route other ≡ false
   pub guarding : source_protects_route other route ≡ false
 
 pub are-apart : (p : PlantLists) (r q : ℕ) (route other : Route) → slice_get p.routes r ≡ Some route → slice_get p.routes q ≡ Some other → route_may_affect_by_number p r q ≡ false → AreApart r route other
 are-apart p r q route other known that out =
-    let same : route_may_affect_by_number p r q ≡ route_may_affect_route r route other = rw (known, that) refl in
-    let one = neither (list_any (λ c. c == r) other.conflicts) (share_section route other || (source_protects_route route other || source_protects_route other route)) (sym same ∙ out) in
-    let two = neither (share_section route other) (source_protects_route route other || source_protects_route other route) one.1 in
+    let same : route_may_affect_by_number p r q ≡ may_affect_allocation_or_locking r route other = rw (known, that) refl in
+    let one = neither (list_any (λ c. c == r) other.conflicts) (routes_lock_common_section route other || (source_protects_route route other || source_protects_route other route)) (sym same ∙ out) in
+    let two = neither (routes_lock_common_section route other) (source_protects_route route other || source_protects_route other route) one.1 in
     let three = neither (source_protects_route route other) (source_protects_route other route) two.1 in
     record { conflict = one.0; sections = two.0; guarded = three.0; guarding = three.1 }
 
-pub not-shared : (a b : Route) → share_section a b ≡ false → (x : ℕ) → has_section x (sections_locked_for b) ≡ true → has_section x (sections_locked_for a) ≡ false
-not-shared a b out x in_ = false_from_ne_true (has_section x (sections_locked_for a)) (λ h.
+pub not-shared : (a b : Route) → routes_lock_common_section a b ≡ false → (x : ℕ) → contains_section x (sections_locked_for b) ≡ true → contains_section x (sections_locked_for a) ≡ false
+not-shared a b out x in_ = false_from_ne_true (contains_section x (sections_locked_for a)) (λ h.
     let found = section-at x (sections_locked_for a) h in
-    true-false (has_section x (sections_locked_for b)) in_ (list_any-none (λ y. has_section y (sections_locked_for b)) (sections_locked_for a) found.0 x out found.1))
+    true-false (contains_section x (sections_locked_for b)) in_ (list_any-none (λ y. contains_section y (sections_locked_for b)) (sections_locked_for a) found.0 x out found.1))
 
--- A route that doesn't depend on section x.
 pub record AsksNot (p : PlantLists) (x : ℕ) (route : Route) : Type 0 where
-  pub section : has_section x (sections_locked_for route) ≡ false
+  pub section : contains_section x (sections_locked_for route) ≡ false
   pub point : list_any (λ listed. listed.point == x) (required_points route) ≡ false
   pub board : list_any (is_board_on_section p x) route.protecting_boards ≡ false
 
-pub asks-not : (p : PlantLists) (x q : ℕ) (route : Route) → slice_get p.routes q ≡ Some route → route_depends_by_number p x q ≡ false → AsksNot p x route
+pub asks-not : (p : PlantLists) (x q : ℕ) (route : Route) → slice_get p.routes q ≡ Some route → route_has_element_by_number p x q ≡ false → AsksNot p x route
 asks-not p x q route known out =
-    let same : route_depends_by_number p x q ≡ route_depends_on_section p x route = rw known refl in
-    let one = neither (has_section x (sections_locked_for route)) (list_any (λ listed. listed.point == x) (required_points route) || list_any (is_board_on_section p x) route.protecting_boards) (sym same ∙ out) in
+    let same : route_has_element_by_number p x q ≡ route_has_element_on p x route = rw known refl in
+    let one = neither (contains_section x (sections_locked_for route)) (list_any (λ listed. listed.point == x) (required_points route) || list_any (is_board_on_section p x) route.protecting_boards) (sym same ∙ out) in
     let two = neither (list_any (λ listed. listed.point == x) (required_points route)) (list_any (is_board_on_section p x) route.protecting_boards) one.1 in
     record { section = one.0; point = two.0; board = two.1 }
 
-pub not-that : (xs : List ℕ) (x y : ℕ) → has_section x xs ≡ true → has_section y xs ≡ false → (x == y) ≡ false
-not-that xs x y in_ out = false_from_ne_true (x == y) (λ e. true-false (has_section y xs) (ap (λ (z : ℕ). has_section z xs) (sym (eqb-true x y e)) ∙ in_) out)
-
--- Points and boards
+pub not-that : (xs : List ℕ) (x y : ℕ) → contains_section x xs ≡ true → contains_section y xs ≡ false → (x == y) ≡ false
+not-that xs x y in_ out = false_from_ne_true (x == y) (λ e. true-false (contains_section y xs) (ap (λ (z : ℕ). contains_section z xs) (sym (eqb-true x y e)) ∙ in_) out)
 
 pub lie-stays : (p : PlantLists) (s t : State) → t.points ≡ s.points → (x : ℕ) → detected_position p t x ≡ detected_position p s x
 lie-stays p s t same x = ap (λ (points : List PointState). point_number p x >>= (λ n. slice_get points n >>= (λ point. Some point.at))) same
@@ -93,11 +87,11 @@ leads-back p s t x same d y h =
 pub lies-back : (p : PlantLists) (s t : State) (listed : Listed) → detected_position p t listed.point ≡ detected_position p s listed.point → is_detected_as_listed p t listed ≡ true → is_detected_as_listed p s listed ≡ true
 lies-back p s t listed same h = ap (λ (o : Option Lie). is_some_and o (λ lie. is_lie_at_position lie listed.at)) (sym same) ∙ h
 
-pub passes-same : (s t : State) → t.boards ≡ s.boards → (board : Option ℕ) → may_pass t board ≡ true → may_pass s board ≡ true
+pub passes-same : (s t : State) → t.boards ≡ s.boards → (board : Option ℕ) → may_pass_board t board ≡ true → may_pass_board s board ≡ true
 passes-same s t same None h = refl
 passes-same s t same (Some m) h = ap (λ (l : List Aspect). is_some_and (slice_get l m) is_open) (sym same) ∙ h
 
-passes-closed : (s t : State) (c : ℕ) → t.boards ≡ set s.boards c Closed → (board : Option ℕ) → may_pass t board ≡ true → may_pass s board ≡ true
+passes-closed : (s t : State) (c : ℕ) → t.boards ≡ set s.boards c Closed → (board : Option ℕ) → may_pass_board t board ≡ true → may_pass_board s board ≡ true
 passes-closed s t c same None h = refl
 passes-closed s t c same (Some m) h =
     let found = some-and (slice_get t.boards m) is_open h in
@@ -123,7 +117,8 @@ aspect-opened s t c same m h =
       | inr it ↦ ap (λ (o : Option Aspect). is_some_and o (λ now. same_aspect now Closed)) it ∙ found.2
     ]
 
-pub protecting-back : (p : PlantLists) (s t : State) (m : ℕ) → ((k : ℕ) → has_mode s k Locked ≡ true → is_protecting_board p k m ≡ true → has_mode t k Locked ≡ true) → is_held_closed p t m ≡ false → is_held_closed p s m ≡ false
+pub protecting-back : (p : PlantLists) (s t : State) (m : ℕ) → ((k : ℕ) → has_mode s k Locked ≡ true → is_protecting_board p k m ≡ true → has_mode t k Locked ≡ true) → is_protecting_locked_route p t m ≡ false →
+    is_protecting_locked_route p s m ≡ false
 protecting-back p s t m keeps free =
     none-pass (λ k. has_mode s k Locked && is_protecting_board p k m) (range_with_len 0 (length p.routes)) (λ i k at.
     false_from_ne_true (has_mode s k Locked && is_protecting_board p k m) (λ h.
@@ -137,12 +132,10 @@ mode-alike s t k mode same h = ap (λ (o : Option RouteState). is_some_and o (λ
 mode-is : (s : State) (k : ℕ) (now : RouteState) (mode : Mode) → slice_get s.routes k ≡ Some now → has_mode s k mode ≡ same_mode now.mode mode
 mode-is s k now mode at = rw at refl
 
--- Unchanged routes and points
-
 pub conflicts-stay : (s t : State) → t.routes ≡ s.routes → (c : ℕ) → is_allocating_or_locked t c ≡ false → is_allocating_or_locked s c ≡ false
 conflicts-stay s t same c free = sym (claimed-alike s t c (ap (λ (l : List RouteState). slice_get l c) same)) ∙ free
 
-pub protecting-stays : (p : PlantLists) (s t : State) → t.routes ≡ s.routes → (m : ℕ) → is_held_closed p t m ≡ false → is_held_closed p s m ≡ false
+pub protecting-stays : (p : PlantLists) (s t : State) → t.routes ≡ s.routes → (m : ℕ) → is_protecting_locked_route p t m ≡ false → is_protecting_locked_route p s m ≡ false
 protecting-stays p s t same m = protecting-back p s t m (λ k locked protects. mode-alike s t k Locked (ap (λ (l : List RouteState). slice_get l k) same) locked)
 
 pub vacant-stays : (s t : State) → t.trains ≡ s.trains → (x : ℕ) → is_occupied t x ≡ false → is_occupied s x ≡ false
@@ -158,7 +151,7 @@ pub settle-stays : (p : PlantLists) (s t : State) (x : ℕ) → t.points ≡ s.p
 settle-stays p s t x same = settle-back p s t x (λ n point number at moves. (point, sym (ap (λ (l : List PointState). slice_get l n) same) ∙ at, moves))
 
 pub head-stays : (p : PlantLists) (s t : State) (x : ℕ) → t.trains ≡ s.trains → detected_position p t x ≡ detected_position p s x →
-    ((d : Dir) → may_pass t (board_of p x d) ≡ true → may_pass s (board_of p x d) ≡ true) →
+    ((d : Dir) → may_pass_board t (board_of p x d) ≡ true → may_pass_board s (board_of p x d) ≡ true) →
     is_some (next p t (Head x)) ≡ true → is_some (next p s (Head x)) ≡ true
 head-stays p s t x same lies passes = head-back p s t x (ap (first_dir (has_head_at x)) same) (leads-back p s t x lies) passes
 
@@ -168,38 +161,36 @@ tail-stays p s t x same = tail-back p s t x (ap (first_dir (has_movable_tail_at 
 pub leave-stays : (p : PlantLists) (s t : State) (x : ℕ) → t.trains ≡ s.trains → is_some (next p t (Leave x)) ≡ true → is_some (next p s (Leave x)) ≡ true
 leave-stays p s t x same = leave-back p s t x (ap (first_dir (occupies_only x)) same)
 
--- Sections in neither of two lists
-
-none-parts : (x : ℕ) (xs ys : List ℕ) → has_section x (xs ++ ys) ≡ false → (has_section x xs ≡ false) × (has_section x ys ≡ false)
+none-parts : (x : ℕ) (xs ys : List ℕ) → contains_section x (xs ++ ys) ≡ false → (contains_section x xs ≡ false) × (contains_section x ys ≡ false)
 none-parts x [] ys h = (refl, h)
 none-parts x (u ∷ xs) ys h =
-    let first = neither (u == x) (has_section x (xs ++ ys)) h in
+    let first = neither (u == x) (contains_section x (xs ++ ys)) h in
     let rest = none-parts x xs ys first.1 in
-    (both-none (u == x) (has_section x xs) first.0 rest.0, rest.1)
+    (both-none (u == x) (contains_section x xs) first.0 rest.0, rest.1)
   where
     both-none : (a b : Bool) → a ≡ false → b ≡ false → (a || b) ≡ false
     both-none a b e f = ap (λ (c : Bool). c || b) e ∙ f
 
-none-either_list : (x : ℕ) (xs ys : List ℕ) → has_section x xs ≡ false → has_section x ys ≡ false → has_section x (xs ++ ys) ≡ false
+none-either_list : (x : ℕ) (xs ys : List ℕ) → contains_section x xs ≡ false → contains_section x ys ≡ false → contains_section x (xs ++ ys) ≡ false
 none-either_list x [] ys a b = b
 none-either_list x (u ∷ xs) ys a b =
-    let first = neither (u == x) (has_section x xs) a in
-    ap (λ (c : Bool). c || has_section x (xs ++ ys)) first.0 ∙ none-either_list x xs ys first.1 b
+    let first = neither (u == x) (contains_section x xs) a in
+    ap (λ (c : Bool). c || contains_section x (xs ++ ys)) first.0 ∙ none-either_list x xs ys first.1 b
 
-pub beside-none : (x : ℕ) (route : Route) → has_section x (sections_locked_for route) ≡ false → has_section x (sections_outside_path route) ≡ false
+pub beside-none : (x : ℕ) (route : Route) → contains_section x (sections_locked_for route) ≡ false → contains_section x (sections_outside_path route) ≡ false
 beside-none x route out =
-    let outer = none-parts x (sections_of route) (protecting_points_of route) out in
+    let outer = none-parts x (path_and_overlap_of route) (protecting_points_of route) out in
     let inner = none-parts x route.path route.overlap outer.0 in
     none-either_list x route.overlap (protecting_points_of route) inner.1 outer.1
 
-pub not-these : (xs : List ℕ) (x y : ℕ) → has_section x xs ≡ false → has_section y xs ≡ true → (x == y) ≡ false
-not-these xs x y out in_ = false_from_ne_true (x == y) (λ e. true-false (has_section y xs) in_ (ap (λ (z : ℕ). has_section z xs) (sym (eqb-true x y e)) ∙ out))
+pub not-these : (xs : List ℕ) (x y : ℕ) → contains_section x xs ≡ false → contains_section y xs ≡ true → (x == y) ≡ false
+not-these xs x y out in_ = false_from_ne_true (x == y) (λ e. true-false (contains_section y xs) in_ (ap (λ (z : ℕ). contains_section z xs) (sym (eqb-true x y e)) ∙ out))
 
 pub board-sensed : (s t : State) (c : ℕ) (b : Bool) → t.boards ≡ (if b then set s.boards c Closed else s.boards) → (m : ℕ) → (m ≡ c → ⊥) → slice_get t.boards m ≡ slice_get s.boards m
 board-sensed s t c true same m out = board-other s t c Closed same m out
 board-sensed s t c false same m out = ap (λ (l : List Aspect). slice_get l m) same
 
-pub passes-sensed : (s t : State) (c : ℕ) (b : Bool) → t.boards ≡ (if b then set s.boards c Closed else s.boards) → (board : Option ℕ) → may_pass t board ≡ true → may_pass s board ≡ true
+pub passes-sensed : (s t : State) (c : ℕ) (b : Bool) → t.boards ≡ (if b then set s.boards c Closed else s.boards) → (board : Option ℕ) → may_pass_board t board ≡ true → may_pass_board s board ≡ true
 passes-sensed s t c true same = passes-closed s t c same
 passes-sensed s t c false same = passes-same s t same
 
@@ -207,7 +198,7 @@ pub board-headed : (s t : State) (board : Option ℕ) → t.boards ≡ (with_boa
 board-headed s t None same m out = ap (λ (l : List Aspect). slice_get l m) same
 board-headed s t (Some c) same m out = board-other s t c Closed same m (λ e. out (ap Some (sym e)))
 
-pub passes-headed : (s t : State) (closed : Option ℕ) → t.boards ≡ (with_board_closed closed s).boards → (board : Option ℕ) → may_pass t board ≡ true → may_pass s board ≡ true
+pub passes-headed : (s t : State) (closed : Option ℕ) → t.boards ≡ (with_board_closed closed s).boards → (board : Option ℕ) → may_pass_board t board ≡ true → may_pass_board s board ≡ true
 passes-headed s t None same = passes-same s t same
 passes-headed s t (Some c) same = passes-closed s t c same
 
@@ -217,16 +208,15 @@ stands-there p plant x m d on =
     let known : slice_get p.boards m ≡ Some board = (plant.boards_listed x m d).0 on in
     ap (λ (o : Option Board). is_some_and o (λ b. b.section == x)) known ∙ eq-eqb x x refl
 
-pub passes-opened : (p : PlantLists) → IsPlant p → (s t : State) (c x : ℕ) (d : Dir) → t.boards ≡ set s.boards c Open → is_board_on_section p x c ≡ false → may_pass t (board_of p x d) ≡ true → may_pass s (board_of p x d) ≡ true
+pub passes-opened : (p : PlantLists) → IsPlant p → (s t : State) (c x : ℕ) (d : Dir) → t.boards ≡ set s.boards c Open → is_board_on_section p x c ≡ false → may_pass_board t (board_of p x d) ≡ true → may_pass_board s (board_of p x d) ≡ true
 passes-opened p plant s t c x d same off h = by_board (board_of p x d) refl h
   where
-    by_board : (o : Option ℕ) → board_of p x d ≡ o → may_pass t o ≡ true → may_pass s o ≡ true
+    by_board : (o : Option ℕ) → board_of p x d ≡ o → may_pass_board t o ≡ true → may_pass_board s o ≡ true
     by_board None e h = refl
     by_board (Some m) e h =
         let other : m ≡ c → ⊥ = λ is. true-false (is_board_on_section p x c) (ap (is_board_on_section p x) (sym is) ∙ stands-there p plant x m d e) off in
         ap (λ (o : Option Aspect). is_some_and o is_open) (sym (board-other s t c Open same m other)) ∙ h
 
--- A route that ends or begins a claim
 module _ (p : PlantLists) (s t : State) (r : ℕ) (route : Route) (now new : RouteState) (changes : ChangesRoute p s t r route now new) where
   pub stays-other : (k : ℕ) → (k == r) ≡ false → slice_get t.routes k ≡ slice_get s.routes k
   stays-other k out = ap (λ (l : List RouteState). slice_get l k) changes.routes ∙ slice_get-set_other s.routes r k new (λ e. apart k r out (sym e))
@@ -241,7 +231,7 @@ module _ (p : PlantLists) (s t : State) (r : ℕ) (route : Route) (now new : Rou
       at_own (inl not_so) e locked = true-false (same_mode now.mode Locked) (sym (mode-is s r now Locked changes.state) ∙ ap (λ (i : ℕ). has_mode s i Locked) (sym e) ∙ locked) not_so
       at_own (inr so) e locked = ap (λ (i : ℕ). has_mode t i Locked) e ∙ mode-is t r new Locked (state-new p s t r route now new changes) ∙ so
 
-  pub protecting-keeps : ((same_mode now.mode Locked ≡ false) ⊎ (same_mode new.mode Locked ≡ true)) → (m : ℕ) → is_held_closed p t m ≡ false → is_held_closed p s m ≡ false
+  pub protecting-keeps : ((same_mode now.mode Locked ≡ false) ⊎ (same_mode new.mode Locked ≡ true)) → (m : ℕ) → is_protecting_locked_route p t m ≡ false → is_protecting_locked_route p s m ≡ false
   protecting-keeps how m = protecting-back p s t m (λ k locked protects. modes-keep how k locked)
 
 pub locks-kept : (s t : State) → t.locks ≡ s.locks → (x : ℕ) (want : Hold) → has_lock_state t x want ≡ true → has_lock_state s x want ≡ true

@@ -24,8 +24,6 @@ use Rattle.ilk_routes.specs.Modes.{same_mode}
 use Rattle.ilk_drive.proofs.Potential.{body_left, path_left, point_left, points_left, points_left-set, route_left_in}
 use Rattle.ilk_drive.proofs.Walks.{far, far-falls, is_step}
 
--- Points
-
 point_left-most : (point : PointState) → point_left point ≤ 2
 point_left-most point = by_moving (is_detected_moving point.at) (is_lie_at_position point.at point.to)
   where
@@ -66,8 +64,6 @@ pub settled : (to : Position) → point_left (record { at = lie_from_position to
 settled Plus = refl
 settled Minus = refl
 
--- Trains
-
 pub head-lowers : (p : PlantLists) → IsPlant p → IsAcyclic p → (d : Dir) (x y : ℕ) (body : List ℕ) → is_last_section x body ≡ true → is_step p d x y ≡ true → body_left p d (body ++ y ∷ []) + 1 ≤ body_left p d body
 head-lowers p plant never d x y [] last step = cc
 head-lowers p plant never d x y (z ∷ []) last step =
@@ -87,8 +83,6 @@ pub only-left : (p : PlantLists) (d : Dir) (x : ℕ) (body : List ℕ) → is_on
 only-left p d x [] only = cc
 only-left p d x (z ∷ []) only = omega arith
 only-left p d x (z ∷ u ∷ rest) only = cc
-
--- Routes
 
 pub in-use : (route : Route) (now : RouteState) (mode : Mode) → (same_mode mode Locked || same_mode mode Occupied) ≡ true → route_left_in mode route now ≡ path_left route now
 in-use route now Free use_ = cc

@@ -4,9 +4,9 @@ use Rattle.std.specs.List.{list_any}
 use Rattle.std.proofs.lemmas.Bool.{and_parts, eqb-true, false_from_ne_true}
 use Rattle.std.proofs.lemmas.Option.{same_Some}
 use Rattle.ilk_base.proofs.Tested.{list_all-slice_get}
-use Rattle.ilk_plant.specs.Network.{has_section}
+use Rattle.ilk_plant.specs.Network.{contains_section}
 use Rattle.ilk_plant.specs.Plant.{PlantLists, next_to}
-use Rattle.ilk_plant.specs.Shape.{HasShape, train_body_is_valid, is_connected_chain}
+use Rattle.ilk_plant.specs.Shape.{HasShape, has_nonempty_connected_body, is_connected_chain}
 use Rattle.ilk_plant.specs.State.{is_occupied}
 use Rattle.ilk_plant.specs.declared.network.Dir.{Dir}
 use Rattle.ilk_plant.specs.declared.network.Dir.TheVariants.{Up, Down}
@@ -19,8 +19,6 @@ use Rattle.ilk_strict.proofs.Trains.{enter-vacant, head-vacant, leave-vacant, ta
 use Rattle.ilk_drive.specs.Awakening.{neighbours_of}
 use Rattle.ilk_drive.proofs.Back.{first_dir, first_dir-push, first_dir-remove, first_dir-set}
 use Rattle.ilk_drive.proofs.Changes.{apart, true-false}
-
--- Lists of which one item changes
 
 any-either : (a b c d : Bool) → (a || b) ≡ true → (a ≡ true → c ≡ true) → (b ≡ true → d ≡ true) → (c || d) ≡ true
 any-either true b c d h f g = ap (λ (x : Bool). x || d) (f refl)
@@ -48,10 +46,10 @@ any-remove f (x ∷ xs) zero a at none h = any-rest (f x) (list_any f xs) h (ap 
     any-rest false c h e = h
 any-remove f (x ∷ xs) (suc i) a at none h = any-either (f x) (list_any f xs) (f x) (list_any f (remove xs i)) h (λ e. e) (λ e. any-remove f xs i a at none e)
 
-longer-keeps : (z y : ℕ) (body : List ℕ) → has_section z body ≡ true → has_section z (body ++ y ∷ []) ≡ true
+longer-keeps : (z y : ℕ) (body : List ℕ) → contains_section z body ≡ true → contains_section z (body ++ y ∷ []) ≡ true
 longer-keeps z y body h = any-push (λ u. u == z) body y h
 
-shorter-keeps : (z x : ℕ) (body : List ℕ) → is_first_of_several x body ≡ true → (z == x) ≡ false → has_section z body ≡ true → has_section z (remove body 0) ≡ true
+shorter-keeps : (z x : ℕ) (body : List ℕ) → is_first_of_several x body ≡ true → (z == x) ≡ false → contains_section z body ≡ true → contains_section z (remove body 0) ≡ true
 shorter-keeps z x [] several out h = cc
 shorter-keeps z x (u ∷ []) several out h = cc
 shorter-keeps z x (u ∷ v ∷ rest) several out h = any-remove (λ w. w == z) (u ∷ v ∷ rest) 0 u refl (other-first z x u out several) h
@@ -59,31 +57,30 @@ shorter-keeps z x (u ∷ v ∷ rest) several out h = any-remove (λ w. w == z) (
     other-first : (z x u : ℕ) → (z == x) ≡ false → (u == x) ≡ true → (u == z) ≡ false
     other-first z x u out is = false_from_ne_true (u == z) (λ e. apart z x out (sym (eqb-true u z e) ∙ eqb-true u x is))
 
--- Vacant and occupied sections
-
 pub vacant-by : (a b : Bool) → (a ≡ true → b ≡ true) → b ≡ false → a ≡ false
 vacant-by a b keeps vacant = false_from_ne_true a (λ e. true-false b (keeps e) vacant)
 
 pub enter-leaves : (p : PlantLists) (s t : State) (x : ℕ) → IsEntered p s t x → (z : ℕ) → is_occupied t z ≡ false → is_occupied s z ≡ false
 enter-leaves p s t x it z = vacant-by (is_occupied s z) (is_occupied t z) (λ e.
-    ap (λ (trains : List Train). list_any (λ train. has_section z train.body) trains) it.trains ∙ any-push (λ train. has_section z train.body) s.trains (new_train_on x it.inward) e)
+    ap (λ (trains : List Train). list_any (λ train. contains_section z train.body) trains) it.trains ∙ any-push (λ train. contains_section z train.body) s.trains (new_train_on x it.inward) e)
 
 pub head-leaves : (p : PlantLists) (s t : State) (x : ℕ) → IsHeaded p s t x → (z : ℕ) → is_occupied t z ≡ false → is_occupied s z ≡ false
 head-leaves p s t x it z = vacant-by (is_occupied s z) (is_occupied t z) (λ e.
-    ap (λ (trains : List Train). list_any (λ train. has_section z train.body) trains) it.trains ∙ any-set (λ train. has_section z train.body) s.trains it.i it.train (with_new_head it.y it.train) it.at (longer-keeps z it.y it.train.body) e)
+    ap (λ (trains : List Train). list_any (λ train. contains_section z train.body) trains) it.trains ∙ any-set (λ train. contains_section z train.body) s.trains it.i it.train (with_new_head it.y it.train) it.at (longer-keeps z it.y it.train.body) e)
 
 pub tail-leaves : (p : PlantLists) (s t : State) (x : ℕ) → IsTailed p s t x → (z : ℕ) → (z == x) ≡ false → is_occupied t z ≡ false → is_occupied s z ≡ false
 tail-leaves p s t x it z out = vacant-by (is_occupied s z) (is_occupied t z) (λ e.
-    ap (λ (trains : List Train). list_any (λ train. has_section z train.body) trains) it.trains ∙ any-set (λ train. has_section z train.body) s.trains it.i it.train (without_tail it.train) it.at (shorter-keeps z x it.train.body it.several out) e)
+    ap (λ (trains : List Train). list_any (λ train. contains_section z train.body) trains) it.trains ∙ any-set (λ train. contains_section z train.body) s.trains it.i it.train (without_tail it.train) it.at (shorter-keeps z x it.train.body
+    it.several out) e)
 
-only-there : (z x : ℕ) (body : List ℕ) → is_only_section x body ≡ true → (z == x) ≡ false → has_section z body ≡ false
+only-there : (z x : ℕ) (body : List ℕ) → is_only_section x body ≡ true → (z == x) ≡ false → contains_section z body ≡ false
 only-there z x [] only out = cc
 only-there z x (u ∷ []) only out = ap (λ (b : Bool). b || false) (false_from_ne_true (u == z) (λ e. apart z x out (sym (eqb-true u z e) ∙ eqb-true u x only)))
 only-there z x (u ∷ v ∷ rest) only out = cc
 
 pub leave-leaves : (p : PlantLists) (s t : State) (x : ℕ) → IsLeft p s t x → (z : ℕ) → (z == x) ≡ false → is_occupied t z ≡ false → is_occupied s z ≡ false
 leave-leaves p s t x it z out = vacant-by (is_occupied s z) (is_occupied t z) (λ e.
-    ap (λ (trains : List Train). list_any (λ train. has_section z train.body) trains) it.trains ∙ any-remove (λ train. has_section z train.body) s.trains it.i it.train it.at (only-there z x it.train.body it.alone out) e)
+    ap (λ (trains : List Train). list_any (λ train. contains_section z train.body) trains) it.trains ∙ any-remove (λ train. contains_section z train.body) s.trains it.i it.train it.at (only-there z x it.train.body it.alone out) e)
 
 occupied-by : (a b : Bool) → (a ≡ false → b ≡ false) → b ≡ true → a ≡ true
 occupied-by true b keeps h = refl
@@ -100,8 +97,6 @@ tail-was p s t x it z = occupied-by (is_occupied s z) (is_occupied t z) (λ e. t
 
 pub leave-was : (p : PlantLists) (s t : State) (x : ℕ) → IsLeft p s t x → (z : ℕ) → is_occupied t z ≡ true → is_occupied s z ≡ true
 leave-was p s t x it z = occupied-by (is_occupied s z) (is_occupied t z) (λ e. leave-vacant p s t x it z e)
-
--- Heads, tails and single trains
 
 differs : (u x z : ℕ) → (u == x) ≡ true → (z == x) ≡ false → (u == z) ≡ false
 differs u x z is out = false_from_ne_true (u == z) (λ e. apart z x out (sym (eqb-true u z e) ∙ eqb-true u x is))
@@ -149,25 +144,25 @@ last-shorter_is x z [] several = cc
 last-shorter_is x z (u ∷ []) several = cc
 last-shorter_is x z (u ∷ v ∷ rest) several = refl
 
-any-joined_left : (z : ℕ) (xs ys : List ℕ) → has_section z xs ≡ true → has_section z (xs ++ ys) ≡ true
+any-joined_left : (z : ℕ) (xs ys : List ℕ) → contains_section z xs ≡ true → contains_section z (xs ++ ys) ≡ true
 any-joined_left z [] ys h = cc
-any-joined_left z (u ∷ xs) ys h = any-either (u == z) (has_section z xs) (u == z) (has_section z (xs ++ ys)) h (λ e. e) (λ e. any-joined_left z xs ys e)
+any-joined_left z (u ∷ xs) ys h = any-either (u == z) (contains_section z xs) (u == z) (contains_section z (xs ++ ys)) h (λ e. e) (λ e. any-joined_left z xs ys e)
 
-pub next-neighbours_of : (p : PlantLists) (x y : ℕ) (d : Dir) → has_section y (next_to p x d) ≡ true → has_section y (neighbours_of p x) ≡ true
+pub next-neighbours_of : (p : PlantLists) (x y : ℕ) (d : Dir) → contains_section y (next_to p x d) ≡ true → contains_section y (neighbours_of p x) ≡ true
 next-neighbours_of p x y Down h = any-joined_left y (next_to p x Down) (next_to p x Up) h
 next-neighbours_of p x y Up h = section-behind y (next_to p x Down) (next_to p x Up) h
 
-pub not-neighbours_of : (p : PlantLists) (x y z : ℕ) → has_section y (neighbours_of p x) ≡ true → has_section z (neighbours_of p x) ≡ false → (y == z) ≡ false
-not-neighbours_of p x y z in_ out = false_from_ne_true (y == z) (λ e. true-false (has_section z (neighbours_of p x)) (subst (λ (v : ℕ). has_section v (neighbours_of p x) ≡ true) (eqb-true y z e) in_) out)
+pub not-neighbours_of : (p : PlantLists) (x y z : ℕ) → contains_section y (neighbours_of p x) ≡ true → contains_section z (neighbours_of p x) ≡ false → (y == z) ≡ false
+not-neighbours_of p x y z in_ out = false_from_ne_true (y == z) (λ e. true-false (contains_section z (neighbours_of p x)) (subst (λ (v : ℕ). contains_section v (neighbours_of p x) ≡ true) (eqb-true y z e) in_) out)
 
-second-neighbours_of : (p : PlantLists) (d : Dir) (x u v : ℕ) (rest : List ℕ) → is_connected_chain p d u (v ∷ rest) ≡ true → (u == x) ≡ true → has_section v (neighbours_of p x) ≡ true
+second-neighbours_of : (p : PlantLists) (d : Dir) (x u v : ℕ) (rest : List ℕ) → is_connected_chain p d u (v ∷ rest) ≡ true → (u == x) ≡ true → contains_section v (neighbours_of p x) ≡ true
 second-neighbours_of p d x u v rest on is =
-    let here : has_section v (next_to p u d) ≡ true = (and_parts (has_section v (next_to p u d)) (is_connected_chain p d v rest) on).0 in
-    next-neighbours_of p x v d (subst (λ (w : ℕ). has_section v (next_to p w d) ≡ true) (eqb-true u x is) here)
+    let here : contains_section v (next_to p u d) ≡ true = (and_parts (contains_section v (next_to p u d)) (is_connected_chain p d v rest) on).0 in
+    next-neighbours_of p x v d (subst (λ (w : ℕ). contains_section v (next_to p w d) ≡ true) (eqb-true u x is) here)
 
 first-shorter : (p : PlantLists) (d : Dir) (x z : ℕ) (body : List ℕ) →
-    train_body_is_valid p (record { dir = d; body = body }) ≡ true → is_first_of_several x body ≡ true →
-    (z == x) ≡ false → has_section z (neighbours_of p x) ≡ false →
+    has_nonempty_connected_body p (record { dir = d; body = body }) ≡ true → is_first_of_several x body ≡ true →
+    (z == x) ≡ false → contains_section z (neighbours_of p x) ≡ false →
     is_first_of_several z (remove body 0) ≡ is_first_of_several z body
 first-shorter p d x z [] made several out off = cc
 first-shorter p d x z (u ∷ []) made several out off = cc
@@ -176,7 +171,7 @@ first-shorter p d x z (u ∷ v ∷ w ∷ rest) made several out off =
     let on : is_connected_chain p d u (v ∷ w ∷ rest) ≡ true = (and_parts _ (is_connected_chain p d u (v ∷ w ∷ rest)) made).1 in
     not-neighbours_of p x v z (second-neighbours_of p d x u v (w ∷ rest) on several) off ∙ sym (differs u x z several out)
 
-only-shorter : (p : PlantLists) (d : Dir) (x z : ℕ) (body : List ℕ) → train_body_is_valid p (record { dir = d; body = body }) ≡ true → is_first_of_several x body ≡ true → has_section z (neighbours_of p x) ≡ false
+only-shorter : (p : PlantLists) (d : Dir) (x z : ℕ) (body : List ℕ) → has_nonempty_connected_body p (record { dir = d; body = body }) ≡ true → is_first_of_several x body ≡ true → contains_section z (neighbours_of p x) ≡ false
     → is_only_section z (remove body 0) ≡ is_only_section z body
 only-shorter p d x z [] made several off = cc
 only-shorter p d x z (u ∷ []) made several off = cc
@@ -186,16 +181,16 @@ only-shorter p d x z (u ∷ v ∷ []) made several off =
 only-shorter p d x z (u ∷ v ∷ w ∷ rest) made several off = refl
 
 module _ (p : PlantLists) (s t : State) (shape : HasShape p s) (x : ℕ) (it : IsTailed p s t x) (z : ℕ) where
-  made_body : train_body_is_valid p it.train ≡ true
-  made_body = list_all-slice_get (train_body_is_valid p) s.trains it.i it.train shape.bodies it.at
+  made_body : has_nonempty_connected_body p it.train ≡ true
+  made_body = list_all-slice_get (has_nonempty_connected_body p) s.trains it.i it.train shape.bodies it.at
 
   pub tail-heads : first_dir (has_head_at z) t.trains ≡ first_dir (has_head_at z) s.trains
   tail-heads = ap (first_dir (has_head_at z)) it.trains ∙ first_dir-set (has_head_at z) s.trains it.i it.train (without_tail it.train) it.at (last-shorter_is x z it.train.body it.several) refl
 
-  pub tail-tails : (z == x) ≡ false → has_section z (neighbours_of p x) ≡ false → first_dir (has_movable_tail_at z) t.trains ≡ first_dir (has_movable_tail_at z) s.trains
+  pub tail-tails : (z == x) ≡ false → contains_section z (neighbours_of p x) ≡ false → first_dir (has_movable_tail_at z) t.trains ≡ first_dir (has_movable_tail_at z) s.trains
   tail-tails out off = ap (first_dir (has_movable_tail_at z)) it.trains ∙ first_dir-set (has_movable_tail_at z) s.trains it.i it.train (without_tail it.train) it.at (first-shorter p it.train.dir x z it.train.body made_body it.several out off) refl
 
-  pub tail-alone : has_section z (neighbours_of p x) ≡ false → first_dir (occupies_only z) t.trains ≡ first_dir (occupies_only z) s.trains
+  pub tail-alone : contains_section z (neighbours_of p x) ≡ false → first_dir (occupies_only z) t.trains ≡ first_dir (occupies_only z) s.trains
   tail-alone off = ap (first_dir (occupies_only z)) it.trains ∙ first_dir-set (occupies_only z) s.trains it.i it.train (without_tail it.train) it.at (only-shorter p it.train.dir x z it.train.body made_body it.several off) refl
 
 only-last : (x z : ℕ) (body : List ℕ) → is_only_section x body ≡ true → (z == x) ≡ false → is_last_section z body ≡ false

@@ -1,5 +1,5 @@
--- A turn of a drive is an enabled event, automatic or the next command, in a state without a
--- hazard.
+-- The next event of a drive is enabled, automatic or the next command, and the state before it has
+-- no hazard.
 use Rattle.std.proofs.Common.{unwrap_or, ◌≡◌, ℕ, ◌+◌, ◌*◌, ◌≤◌, Bool, true, false, ◌||◌, Option, Some, None, List, [], ◌∷◌, ◌++◌, length, map, is_none, is_some, ◌⊎◌, inl, inr, refl, sym, ap, ◌∙◌, subst, arith}
 use Rattle.std.specs.List.{list_any}
 use Rattle.std.specs.Option.{option_or}
@@ -19,8 +19,8 @@ use Rattle.ilk_model.specs.declared.event.Event.{Event}
 use Rattle.ilk_model.specs.declared.event.Event.TheVariants.{Allocate, Lock, Sense, Release, Finish, Throw, Settle, Head, Tail, Leave}
 use Rattle.ilk_model.specs.declared.hazards.HazardAt.{HazardAt}
 use Rattle.ilk_drive.specs.Commands.{is_command}
-use Rattle.ilk_drive.specs.Drive.{DriveState, DriveStep, automatic_events, command_step, automatic_step, first_automatic, next_step}
-use Rattle.ilk_drive.specs.Progress.{IsStepTaken, after_automatic}
+use Rattle.ilk_drive.specs.Drive.{StateAndCommandsLeft, DriveStep, automatic_events, command_step, automatic_step, first_automatic, next_step_unless_hazard}
+use Rattle.ilk_drive.specs.Progress.{IsStepOrUnchanged, state_after_first_automatic}
 use Rattle.ilk_drive.proofs.Lowers.{lowers, raises}
 use Rattle.ilk_drive.proofs.Potential.{left}
 
@@ -68,8 +68,7 @@ first-own p s event e =
     let found = find-at (λ event. is_some (next p s event)) (automatic_events p) event e in
     list_any-none is_command (automatic_events p) found.0 event (automatic-own p) found.1
 
--- One turn, from a moment to the next.
-pub record LeadsBy (p : PlantLists) (m after : DriveState) (event : Event) : Type 0 where
+pub record LeadsBy (p : PlantLists) (m after : StateAndCommandsLeft) (event : Event) : Type 0 where
   pub calm : hazard p m.state ≡ None
   pub goes : next p m.state event ≡ Some after.state
   pub how : ((is_command event ≡ false) × (after.commands ≡ m.commands)) ⊎ (m.commands ≡ event ∷ after.commands)
@@ -78,13 +77,13 @@ calm-of : (o : Option HazardAt) → is_none o ≡ true → o ≡ None
 calm-of None h = refl
 calm-of (Some at) h = cc
 
-pub leads-by : (p : PlantLists) (m after : DriveState) (event : Event) → next_step p m ≡ Some (event, after) → LeadsBy p m after event
+pub leads-by : (p : PlantLists) (m after : StateAndCommandsLeft) (event : Event) → next_step_unless_hazard p m ≡ Some (event, after) → LeadsBy p m after event
 leads-by p m after event e =
-    option_and_then_some {A = DriveState} _ (then_some (is_none (hazard p m.state)) m) (event, after) e (λ safe is_safe taken.
+    option_and_then_some {A = StateAndCommandsLeft} _ (then_some (is_none (hazard p m.state)) m) (event, after) e (λ safe is_safe taken.
     let passed = cond_some (is_none (hazard p m.state)) m safe is_safe in
     let calm : hazard p m.state ≡ None = calm-of (hazard p m.state) passed.0 in
     let same : m ≡ safe = passed.1 in
-    let taken_here : option_or (automatic_step p m) (command_step p m) ≡ Some (event, after) = subst (λ (v : DriveState). option_or (automatic_step p v) (command_step p v) ≡ Some (event, after)) (sym same) taken in
+    let taken_here : option_or (automatic_step p m) (command_step p m) ≡ Some (event, after) = subst (λ (v : StateAndCommandsLeft). option_or (automatic_step p v) (command_step p v) ≡ Some (event, after)) (sym same) taken in
     or_cases (LeadsBy p m after event) (automatic_step p m) (command_step p m) (event, after) taken_here
     (λ own. by_own calm own)
     (λ given. by_given calm m.commands refl given))
@@ -98,8 +97,8 @@ leads-by p m after event e =
         let there : record m { state = t } ≡ after = ap (λ (x : DriveStep). x.1) pair in
         record {
           calm = calm;
-          goes = ap (next p m.state) (sym one) ∙ goes ∙ ap (λ (x : DriveState). Some x.state) there;
-          how = inl (ap is_command (sym one) ∙ first-own p m.state first found, ap (λ (x : DriveState). x.commands) (sym there));
+          goes = ap (next p m.state) (sym one) ∙ goes ∙ ap (λ (x : StateAndCommandsLeft). Some x.state) there;
+          how = inl (ap is_command (sym one) ∙ first-own p m.state first found, ap (λ (x : StateAndCommandsLeft). x.commands) (sym there));
         }))
 
     by_given : hazard p m.state ≡ None → (commands : List Event) → m.commands ≡ commands → command_step p m ≡ Some (event, after) → LeadsBy p m after event
@@ -114,16 +113,16 @@ leads-by p m after event e =
             let there : record { state = t; commands = later; number = m.number + 1 } ≡ after = ap (λ (x : DriveStep). x.1) pair in
             record {
               calm = calm;
-              goes = ap (next p m.state) (sym one) ∙ goes ∙ ap (λ (x : DriveState). Some x.state) there;
-              how = inr (these ∙ ap (λ (c : Event). c ∷ later) one ∙ ap (λ (cs : List Event). event ∷ cs) (ap (λ (x : DriveState). x.commands) there));
+              goes = ap (next p m.state) (sym one) ∙ goes ∙ ap (λ (x : StateAndCommandsLeft). Some x.state) there;
+              how = inr (these ∙ ap (λ (c : Event). c ∷ later) one ∙ ap (λ (cs : List Event). event ∷ cs) (ap (λ (x : StateAndCommandsLeft). x.commands) there));
             })
 
 -- The events that a drive still allows: the potential of the state, plus 512 per command.
-abbrev pub allows : PlantLists → DriveState → ℕ
+abbrev pub allows : PlantLists → StateAndCommandsLeft → ℕ
 allows p m = left p m.state + 512 * length m.commands
 
-pub next_step-lowers : (p : PlantLists) → IsPlant p → IsAcyclic p → (m after : DriveState) (event : Event) → HasShape p m.state → LeadsBy p m after event → allows p after + 1 ≤ allows p m
-next_step-lowers p plant never m after event shape by = elim by.how [
+pub next_step_unless_hazard-lowers : (p : PlantLists) → IsPlant p → IsAcyclic p → (m after : StateAndCommandsLeft) (event : Event) → HasShape p m.state → LeadsBy p m after event → allows p after + 1 ≤ allows p m
+next_step_unless_hazard-lowers p plant never m after event shape by = elim by.how [
   | inl own ↦
       let less = lowers p plant never m.state after.state shape event own.0 by.goes in
       let same : length after.commands ≡ length m.commands = ap length own.1 in
@@ -137,24 +136,25 @@ next_step-lowers p plant never m after event shape by = elim by.how [
     length-more : (x : Event) (xs : List Event) → length (x ∷ xs) ≡ length xs + 1
     length-more x xs = omega arith
 
-pub next_step-next_from_hazard_free : (p : PlantLists) (m after : DriveState) (event : Event) → LeadsBy p m after event → next_from_hazard_free p m.state event ≡ Some after.state
-next_step-next_from_hazard_free p m after event by =
+pub next_step_unless_hazard-next_from_hazard_free : (p : PlantLists) (m after : StateAndCommandsLeft) (event : Event) → LeadsBy p m after event → next_from_hazard_free p m.state event ≡ Some after.state
+next_step_unless_hazard-next_from_hazard_free p m after event by =
     ap (λ (o : Option HazardAt). then_some (is_none o) m.state >>= (λ safe. next p safe event)) by.calm ∙ by.goes
 
-pub came : (taken : Option DriveStep) (m after : DriveState) (o : Option Event) (event : Event) → IsStepTaken taken m after o → o ≡ Some event → taken ≡ Some (event, after)
-came taken m after o event comes is = subst (IsStepTaken taken m after) is comes
+pub came : (taken : Option DriveStep) (m after : StateAndCommandsLeft) (o : Option Event) (event : Event) → IsStepOrUnchanged taken m after o → o ≡ Some event → taken ≡ Some (event, after)
+came taken m after o event comes is = subst (IsStepOrUnchanged taken m after) is comes
 
-pub next_step-own : (p : PlantLists) (m : DriveState) (event : Event) (new : State) → hazard p m.state ≡ None → first_automatic p m.state ≡ Some event → new ≡ after_automatic p m.state → next_step p m ≡ Some (event, record m { state = new })
-next_step-own p m event new calm first is =
+pub next_step_unless_hazard-own : (p : PlantLists) (m : StateAndCommandsLeft) (event : Event) (new : State) → hazard p m.state ≡ None → first_automatic p m.state ≡ Some event → new ≡ state_after_first_automatic p m.state →
+    next_step_unless_hazard p m ≡ Some (event, record m { state = new })
+next_step_unless_hazard-own p m event new calm first is =
     let found = find-at (λ e. is_some (next p m.state e)) (automatic_events p) event first in
     let goes = some-is (next p m.state event) found.2 in
     let same : new ≡ goes.0 = is ∙ ap (λ (o : Option Event). unwrap_or (o >>= next p m.state) m.state) first ∙ ap (λ (o : Option State). unwrap_or o m.state) goes.1 in
     let one : automatic_step p m ≡ (next p m.state event >>= (λ t. Some (event, record m { state = t }))) = ap (λ (o : Option Event). o >>= (λ e. next p m.state e >>= (λ t. Some (e, record m { state = t })))) first in
     let two : automatic_step p m ≡ Some (event, record m { state = goes.0 }) = one ∙ ap (λ (o : Option State). o >>= (λ t. Some (event, record m { state = t }))) goes.1 in
-    let open_ : next_step p m ≡ option_or (automatic_step p m) (command_step p m) = ap (λ (o : Option HazardAt). then_some (is_none o) m >>= (λ safe. option_or (automatic_step p safe) (command_step p safe))) calm in
+    let open_ : next_step_unless_hazard p m ≡ option_or (automatic_step p m) (command_step p m) = ap (λ (o : Option HazardAt). then_some (is_none o) m >>= (λ safe. option_or (automatic_step p safe) (command_step p safe))) calm in
     open_ ∙ ap (λ (o : Option DriveStep). option_or o (command_step p m)) two ∙ ap (λ (t : State). Some (event, record m { state = t })) (sym same)
 
-pub command-refused : (p : PlantLists) (m : DriveState) (command : Event) (later : List Event) → m.commands ≡ command ∷ later → is_some (next p m.state command) ≡ false → command_step p m ≡ None
+pub command-refused : (p : PlantLists) (m : StateAndCommandsLeft) (command : Event) (later : List Event) → m.commands ≡ command ∷ later → is_some (next p m.state command) ≡ false → command_step p m ≡ None
 command-refused p m command later these none =
     let given : command_step p m ≡ command_step p (record m { commands = command ∷ later }) = ap (λ (cs : List Event). command_step p (record m { commands = cs })) these in
     given ∙ ap (λ (o : Option State). o >>= (λ t. Some (command, record { state = t; commands = later; number = m.number + 1 }))) (none-of (next p m.state command) none)

@@ -6,7 +6,7 @@ use Rattle.ilk_base.proofs.Ranges.{range-at, range_within}
 use Rattle.ilk_base.proofs.Truth.{either}
 use Rattle.ilk_base.proofs.Options.{mapped-None}
 use Rattle.ilk_base.proofs.Tested.{find-none-at, find-none-from}
-use Rattle.ilk_plant.specs.Network.{has_section}
+use Rattle.ilk_plant.specs.Network.{contains_section}
 use Rattle.ilk_plant.specs.Plant.{PlantLists, section_inward_if_border, point_number}
 use Rattle.ilk_plant.specs.Start.{start}
 use Rattle.ilk_plant.specs.State.{is_occupied, detected_position}
@@ -41,9 +41,6 @@ use Rattle.ilk_drive.proofs.MotionKeeps.{headed-neighbours_of}
 use Rattle.ilk_drive.proofs.Changes.{apart, neither}
 use Rattle.ilk_drive.proofs.TrainChanges.{not-neighbours_of, vacant-by}
 
--- Hazards at each section
-
--- No section has a hazard.
 abbrev pub IsCalm : PlantLists → State → Type 0
 IsCalm p s = (x : ℕ) → x < length p.sections → is_section_hazardous p s x ≡ false
 
@@ -60,8 +57,6 @@ start-calm p = (start-meets p).no_hazard
 
 no-hazard : (p : PlantLists) (s : State) (x : ℕ) → has_two_trains s x ≡ false → is_wrong_under_train p s x ≡ false → is_section_hazardous p s x ≡ false
 no-hazard p s x two wrong = rw two wrong
-
--- Bodies
 
 pair-longer : (a b x y : ℕ) (body : List ℕ) → is_last_section x body ≡ true → (a ≡ x → ⊥) → (a ≡ y → ⊥) → are_adjacent_in_body a b (body ++ y ∷ []) ≡ true → are_adjacent_in_body a b body ≡ true
 pair-longer a b x y [] last old new h = cc
@@ -95,8 +90,6 @@ is_wrong_under_body-one z x plus minus (Some Moving) h = only-one z x h
 is_wrong_under_body-one z x plus minus (Some Plus) h = cc
 is_wrong_under_body-one z x plus minus (Some Minus) h = cc
 
--- Events
-
 module _ (p : PlantLists) (s t : State) (z : ℕ) (two : has_two_trains s z ≡ false) (wrong : is_wrong_under_train p s z ≡ false) where
   same-there : t.points ≡ s.points → t.trains ≡ s.trains → is_section_hazardous p t z ≡ false
   same-there points trains = no-hazard p t z (two-reads p s t z trains two) (wrong-reads p s t z points trains wrong)
@@ -129,9 +122,9 @@ module _ (p : PlantLists) (s t : State) (z : ℕ) (two : has_two_trains s z ≡ 
       let b = was j other also second in
       two-at p s z two i j a.0 b.0 a.1 b.1 a.2 b.2)) stray
     where
-      was : (i : ℕ) (one : Train) → slice_get t.trains i ≡ Some one → has_section z one.body ≡ true → (old : Train) × (slice_get s.trains i ≡ Some old) × (has_section z old.body ≡ true)
+      was : (i : ℕ) (one : Train) → slice_get t.trains i ≡ Some one → contains_section z one.body ≡ true → (old : Train) × (slice_get s.trains i ≡ Some old) × (contains_section z old.body ≡ true)
       was i one at has = elim (tail-trains p s t x it i one at) [
-        | inl moved ↦ (it.train, ap (slice_get s.trains) moved.0 ∙ it.at, rest-has z it.train.body (subst (λ (train : Train). has_section z train.body ≡ true) moved.1 has))
+        | inl moved ↦ (it.train, ap (slice_get s.trains) moved.0 ∙ it.at, rest-has z it.train.body (subst (λ (train : Train). contains_section z train.body ≡ true) moved.1 has))
         | inr other ↦ (one, other.1, has)
       ]
 
@@ -157,9 +150,9 @@ module _ (p : PlantLists) (s t : State) (z : ℕ) (two : has_two_trains s z ≡ 
       let b = was j other also second in
       two-at p s z two i j a.0 b.0 a.1 b.1 a.2 b.2)) stray
     where
-      was : (i : ℕ) (one : Train) → slice_get t.trains i ≡ Some one → has_section z one.body ≡ true → (old : Train) × (slice_get s.trains i ≡ Some old) × (has_section z old.body ≡ true)
+      was : (i : ℕ) (one : Train) → slice_get t.trains i ≡ Some one → contains_section z one.body ≡ true → (old : Train) × (slice_get s.trains i ≡ Some old) × (contains_section z old.body ≡ true)
       was i one at has = elim (head-trains p s t x it i one at) [
-        | inl moved ↦ elim (longer-has z it.y it.train.body (subst (λ (train : Train). has_section z train.body ≡ true) moved.1 has)) [
+        | inl moved ↦ elim (longer-has z it.y it.train.body (subst (λ (train : Train). contains_section z train.body ≡ true) moved.1 has)) [
           | inl old ↦ (it.train, ap (slice_get s.trains) moved.0 ∙ it.at, old)
           | inr new ↦ absurd (ahead_ new)
         ]
@@ -184,10 +177,10 @@ module _ (p : PlantLists) (s t : State) (z : ℕ) (two : has_two_trains s z ≡ 
   enter-there : (x : ℕ) → IsEntered p s t x → is_section_hazardous p t z ≡ false
   enter-there x it = no-hazard p t z alone right
     where
-      here : (train : Train) → train ≡ new_train_on x it.inward → has_section z train.body ≡ true → x ≡ z
-      here train new has = only-one z x (subst (λ (one : Train). has_section z one.body ≡ true) new has)
+      here : (train : Train) → train ≡ new_train_on x it.inward → contains_section z train.body ≡ true → x ≡ z
+      here train new has = only-one z x (subst (λ (one : Train). contains_section z one.body ≡ true) new has)
 
-      vacant-still : (i : ℕ) (train : Train) → slice_get s.trains i ≡ Some train → has_section z train.body ≡ true → x ≡ z → ⊥
+      vacant-still : (i : ℕ) (train : Train) → slice_get s.trains i ≡ Some train → contains_section z train.body ≡ true → x ≡ z → ⊥
       vacant-still i train at has same = both_ways (is_occupied s z) (rw same at it.vacant) (occupied-from s i train z at has)
 
       alone : has_two_trains t z ≡ false
@@ -214,7 +207,7 @@ module _ (p : PlantLists) (s t : State) (z : ℕ) (two : has_two_trains s z ≡ 
       ])
 
 module _ (p : PlantLists) (s t : State) (z : ℕ) (two : has_two_trains s z ≡ false) (wrong : is_wrong_under_train p s z ≡ false) where
-  untouched-free : (event : Event) → next p s event ≡ Some t → has_section z (sections_at_risk p event) ≡ false → is_section_hazardous p t z ≡ false
+  untouched-free : (event : Event) → next p s event ≡ Some t → contains_section z (sections_at_risk p event) ≡ false → is_section_hazardous p t z ≡ false
   untouched-free (Mark r) e out = let it = mark-frame p s t r e in same-there p s t z two wrong it.points it.trains
   untouched-free (Allocate r) e out =
       let it = allocate-frame p s t r e in lies-there p s t z two wrong (lie-kept p s t (required_points it.route) it.points z) it.trains
@@ -231,13 +224,13 @@ module _ (p : PlantLists) (s t : State) (z : ℕ) (two : has_two_trains s z ≡ 
   untouched-free (Enter x) e out = enter-there p s t z two wrong x (enter-frame p s t x e)
   untouched-free (Head x) e out =
       let it = head-frame p s t x e in
-      let parts = neither (x == z) (has_section z (neighbours_of p x)) out in
+      let parts = neither (x == z) (contains_section z (neighbours_of p x)) out in
       head-there p s t z two wrong x it (λ same. apart x z parts.0 (sym same)) (λ same. apart it.y z (not-neighbours_of p x it.y z (headed-neighbours_of p s t x it) parts.1) (sym same))
   untouched-free (Tail x) e out = tail-there p s t z two wrong x (tail-frame p s t x e)
   untouched-free (Leave x) e out = leave-there p s t z two wrong x (leave-frame p s t x e)
   untouched-free (Cancel r) e out = let it = cancel-frame p s t r e in same-there p s t z two wrong it.points it.trains
 
-pub untouched-calm : (p : PlantLists) (s t : State) (event : Event) → hazard p s ≡ None → next p s event ≡ Some t → (z : ℕ) → z < length p.sections → has_section z (sections_at_risk p event) ≡ false → is_section_hazardous p t z ≡ false
+pub untouched-calm : (p : PlantLists) (s t : State) (event : Event) → hazard p s ≡ None → next p s event ≡ Some t → (z : ℕ) → z < length p.sections → contains_section z (sections_at_risk p event) ≡ false → is_section_hazardous p t z ≡ false
 untouched-calm p s t event none e z within out =
     let parts = neither (has_two_trains s z) (is_wrong_under_train p s z) (calm-of p s none z within) in
     untouched-free p s t z parts.0 parts.1 event e out

@@ -9,7 +9,7 @@ use Rattle.std.specs.Cmp.Derive.{both_true}
 use Rattle.ilk_base.proofs.Ranges.{range-at}
 use Rattle.ilk_base.proofs.Truth.{either}
 use Rattle.ilk_plant.proofs.Leads.{leads-step, leads-through}
-use Rattle.ilk_plant.specs.Network.{has_section}
+use Rattle.ilk_plant.specs.Network.{contains_section}
 use Rattle.ilk_plant.specs.NetworkRules.{reaches_via_below}
 use Rattle.ilk_plant.specs.Once.{numbers_differ}
 use Rattle.ilk_plant.specs.Plant.{IsPlant, PlantLists, next_to}
@@ -20,7 +20,7 @@ use Rattle.ilk_plant.proofs.InLists.{section-behind}
 
 -- Returns whether y is next to x on side d.
 abbrev pub is_step : PlantLists → Dir → ℕ → ℕ → Bool
-is_step p d x y = has_section y (next_to p x d)
+is_step p d x y = contains_section y (next_to p x d)
 
 -- Returns whether a walk in direction d leads from x to y.
 abbrev pub reaches : PlantLists → Dir → ℕ → ℕ → Bool
@@ -30,17 +30,16 @@ reaches p d x y = reaches_via_below (is_step p d) (length p.sections) x y
 abbrev pub far : PlantLists → Dir → ℕ → ℕ
 far p d x = count_by (reaches p d x) (range_with_len 0 (length p.sections))
 
--- A walk in direction d from x to y, of one or more steps.
 record WalkTo (p : PlantLists) (d : Dir) (x y : ℕ) : Type 0 where
   walk : List ℕ
   on : is_connected_chain p d x walk ≡ true
-  comes : has_section y walk ≡ true
+  comes : contains_section y walk ≡ true
   ends : last_or (Some x) walk ≡ Some y
 
 walk-joined : (p : PlantLists) (d : Dir) (x z : ℕ) (front back : List ℕ) → is_connected_chain p d x front ≡ true → last_or (Some x) front ≡ Some z → is_connected_chain p d z back ≡ true → is_connected_chain p d x (front ++ back) ≡ true
 walk-joined p d x z [] back on ends next = subst (λ (v : ℕ). is_connected_chain p d v back ≡ true) (sym (same_Some _ _ ends)) next
 walk-joined p d x z (u ∷ front) back on ends next =
-    let goes = and_parts (has_section u (next_to p x d)) (is_connected_chain p d u front) on in
+    let goes = and_parts (contains_section u (next_to p x d)) (is_connected_chain p d u front) on in
     both_true goes.0 (walk-joined p d u z front back goes.1 ends next)
 
 ends-joined : (o : Option ℕ) (z : ℕ) (front back : List ℕ) → last_or o front ≡ Some z → last_or o (front ++ back) ≡ last_or (Some z) back
@@ -75,8 +74,8 @@ walk-to p d (suc n) x y h =
 never-back : (p : PlantLists) → IsAcyclic p → (d : Dir) (x : ℕ) → reaches p d x x ≡ false
 never-back p never d x = false_from_ne_true (reaches p d x x) (λ h.
     let w = walk-to p d (length p.sections) x x h in
-    let once : (not (has_section x w.walk) && numbers_differ w.walk) ≡ true = never d x w.walk w.on in
-    let not_there : not (has_section x w.walk) ≡ true = (and_parts (not (has_section x w.walk)) (numbers_differ w.walk) once).0 in
+    let once : (not (contains_section x w.walk) && numbers_differ w.walk) ≡ true = never d x w.walk w.on in
+    let not_there : not (contains_section x w.walk) ≡ true = (and_parts (not (contains_section x w.walk)) (numbers_differ w.walk) once).0 in
     let bad : not true ≡ true = subst (λ (b : Bool). not b ≡ true) w.comes not_there in
     cc)
 

@@ -7,7 +7,7 @@ use Rattle.ilk_model.specs.declared.event.Event.{Event}
 use Rattle.ilk_replay.specs.EventLine.{event_from_line}
 use Rattle.ilk_drive.specs.Commands.{is_command}
 
--- The command of a line, or `None` if it isn't the line of a command.
+-- Returns the command of a scenario's line. Returns `None` if the line isn't that of a command.
 abbrev pub command_from_line : PlantLists → Bytes → Option Event
 command_from_line p line = do
   event ← event_from_line p line

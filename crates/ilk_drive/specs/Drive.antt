@@ -1,6 +1,5 @@
 -- A scenario run until it terminates. While an automatic event is enabled, the first one occurs;
--- otherwise the next command is given. It ends when there is a hazard, or neither an automatic
--- event nor the next command is enabled.
+-- otherwise the next command does. The drive ends at a hazard, or if neither is enabled.
 use Rattle.std.specs.Prelude.{ℕ, ◌+◌, ◌≡◌, Bool, ◌&&◌, ◌==◌, Option, Some, None, List, [], ◌∷◌, ◌++◌, find, is_none, is_some, length, map, if◌then◌else◌}
 use Rattle.std.specs.List.{list_all}
 use Rattle.std.specs.Option.{option_or}
@@ -20,8 +19,8 @@ use Rattle.ilk_drive.specs.declared.outcome.Driven.{Driven}
 use Rattle.ilk_drive.specs.declared.outcome.Rest.{Rest}
 use Rattle.ilk_drive.specs.declared.outcome.Rest.TheVariants.{Driven as IsDriven, Stuck, Hazard}
 
--- The automatic events of a plant, in order: allocate, lock, sense, release, finish, throw, settle,
--- head, tail, leave, each by ascending number.
+-- Returns the automatic events of a plant, in order: allocate, lock, sense, release, finish, throw,
+-- settle, head, tail, leave, each by ascending number.
 abbrev pub automatic_events : PlantLists → List Event
 automatic_events p =
     map Allocate (indices_of_items p.routes)
@@ -35,30 +34,32 @@ automatic_events p =
     ++ map Tail (indices_of_items p.sections)
     ++ map Leave (indices_of_items p.sections)
 
--- The first automatic event that is enabled.
+-- Returns the first automatic event that is enabled in a state. Returns `None` if none is.
 abbrev pub first_automatic : PlantLists → State → Option Event
 first_automatic p s = find (λ event. is_some (next p s event)) (automatic_events p)
 
--- The progress of a drive: the state, the remaining commands, and the number of the first of them,
--- from 1. When all are given, the number is one more than the number of commands.
-pub record DriveState : Type 0 where
+-- A moment of a drive: the state, the remaining commands, and the number of the first of them, from
+-- 1. If none remains, the number is one more than the number of all commands.
+pub record StateAndCommandsLeft : Type 0 where
   pub state : State
   pub commands : List Event
   pub number : ℕ
 
--- An event, and the moment after it.
+-- An event of a drive, and the moment after it.
 abbrev pub DriveStep : Type 0
-DriveStep = Event × DriveState
+DriveStep = Event × StateAndCommandsLeft
 
--- The turn by the first enabled automatic event.
-abbrev pub automatic_step : PlantLists → DriveState → Option DriveStep
+-- Returns the first automatic event that is enabled, and the moment after it. Returns `None` if
+-- none is.
+abbrev pub automatic_step : PlantLists → StateAndCommandsLeft → Option DriveStep
 automatic_step p m = do
   event ← first_automatic p m.state
   t ← next p m.state event
   Some (event, record m { state = t })
 
--- The turn by the next command, if there is one and it is enabled.
-abbrev pub command_step : PlantLists → DriveState → Option DriveStep
+-- Returns the next command and the moment after it. Returns `None` if no command remains or it
+-- isn't enabled.
+abbrev pub command_step : PlantLists → StateAndCommandsLeft → Option DriveStep
 command_step p m = given m.commands
   where
     given : List Event → Option DriveStep
@@ -67,39 +68,41 @@ command_step p m = given m.commands
       t ← next p m.state command
       Some (command, record { state = t; commands = later; number = m.number + 1 })
 
--- The next turn. After a hazard there is none. Otherwise it is the first enabled automatic event
--- or, if there is none, the next command.
-abbrev pub next_step : PlantLists → DriveState → Option DriveStep
-next_step p m = do
+-- Returns the next event of a drive and the moment after it: the first enabled automatic event or,
+-- if there is none, the next command. Returns `None` if neither is enabled, or the state has a
+-- hazard.
+abbrev pub next_step_unless_hazard : PlantLists → StateAndCommandsLeft → Option DriveStep
+next_step_unless_hazard p m = do
   safe ← then_some (is_none (hazard p m.state)) m
   option_or (automatic_step p safe) (command_step p safe)
 
--- Returns whether all commands are given, no train is left and every route is Free.
-abbrev pub is_done_and_plant_idle : DriveState → Bool
-is_done_and_plant_idle m =
+-- Returns whether no command remains, no train is left and every route is Free.
+abbrev pub is_done_empty_and_free : StateAndCommandsLeft → Bool
+is_done_empty_and_free m =
     length m.commands == 0
     && length m.state.trains == 0
     && list_all (λ route. same_mode route.mode Free) m.state.routes
 
--- The result of a drive at a moment without a next turn: a hazard, done, or stuck at the next
--- command.
-abbrev pub final_state_outcome : PlantLists → DriveState → Rest
+-- Returns the result of a drive that ends at this moment: its hazard, done (no command, train or
+-- route that isn't Free is left), or stuck at the next command.
+abbrev pub final_state_outcome : PlantLists → StateAndCommandsLeft → Rest
 final_state_outcome p m = rest (hazard p m.state)
   where
     rest : Option HazardAt → Rest
     rest (Some at) = Hazard at
-    rest None = if is_done_and_plant_idle m then IsDriven else Stuck m.number
+    rest None = if is_done_empty_and_free m then IsDriven else Stuck m.number
 
--- Holds if from moment m exactly these events occur, each as the next turn, and then the drive ends
--- with this result.
-abbrev pub IsDriveFrom : PlantLists → DriveState → List Event → Rest → Type 0
-IsDriveFrom p m [] rest = (next_step p m ≡ None) × (rest ≡ final_state_outcome p m)
-IsDriveFrom p m (event ∷ later) rest = (after : DriveState) × (next_step p m ≡ Some (event, after)) × IsDriveFrom p after later rest
+-- Holds if, from moment `m`, exactly these events occur, each the next event of the drive, and then
+-- the drive ends with this result.
+abbrev pub IsDriveFrom : PlantLists → StateAndCommandsLeft → List Event → Rest → Type 0
+IsDriveFrom p m [] rest = (next_step_unless_hazard p m ≡ None) × (rest ≡ final_state_outcome p m)
+IsDriveFrom p m (event ∷ later) rest = (after : StateAndCommandsLeft) × (next_step_unless_hazard p m ≡ Some (event, after)) × IsDriveFrom p after later rest
 
--- The moment at which the drive of a scenario begins.
-abbrev pub initial_drive_state : PlantLists → List Event → DriveState
+-- Returns the first moment of a scenario's drive: the initial state, with all commands remaining.
+abbrev pub initial_drive_state : PlantLists → List Event → StateAndCommandsLeft
 initial_drive_state p scene = record { state = start p; commands = scene; number = 1 }
 
--- Holds if this is the drive of the scenario: its events from the start, and its result.
+-- Holds if `driven` is the drive of the scenario: its events from the initial state, and its
+-- result.
 abbrev pub IsDriveOf : PlantLists → List Event → Driven → Type 0
 IsDriveOf p scene driven = IsDriveFrom p (initial_drive_state p scene) driven.events driven.rest

@@ -1,22 +1,22 @@
--- The progress of the code of a drive. Used only by private contracts.
+-- The progress of a drive in the code. Used only in private contracts.
 use Rattle.std.specs.Prelude.{ℕ, ◌+◌, ◌≡◌, Option, Some, None, List, drop, unwrap_or}
 use Rattle.ilk_base.specs.Option.{◌>>=◌}
 use Rattle.ilk_plant.specs.Plant.{PlantLists}
 use Rattle.ilk_plant.specs.declared.state.State.{State}
 use Rattle.ilk_model.specs.Event.{next}
 use Rattle.ilk_model.specs.declared.event.Event.{Event}
-use Rattle.ilk_drive.specs.Drive.{DriveState, DriveStep, first_automatic}
+use Rattle.ilk_drive.specs.Drive.{StateAndCommandsLeft, DriveStep, first_automatic}
 
--- The moment after `given` commands of the scenario.
-abbrev pub drive_state_after_commands : List Event → State → ℕ → DriveState
-drive_state_after_commands scene s given = record { state = s; commands = drop given scene; number = given + 1 }
+-- Returns the moment with state `s` at which `given` commands of the scenario have occurred.
+abbrev pub drive_state_with_commands_given : List Event → State → ℕ → StateAndCommandsLeft
+drive_state_with_commands_given scene s given = record { state = s; commands = drop given scene; number = given + 1 }
 
--- The state after the first enabled automatic event, or the same state if there is none.
-abbrev pub after_automatic : PlantLists → State → State
-after_automatic p s = unwrap_or (first_automatic p s >>= next p s) s
+-- Returns the state after the first enabled automatic event, or `s` if none is enabled.
+abbrev pub state_after_first_automatic : PlantLists → State → State
+state_after_first_automatic p s = unwrap_or (first_automatic p s >>= next p s) s
 
--- Holds if the event is that of the turn, which leads to this moment. Without an event, there is no
--- turn and the moment is unchanged.
-abbrev pub IsStepTaken : Option DriveStep → DriveState → DriveState → Option Event → Type 0
-IsStepTaken taken m after None = (taken ≡ None) × (after ≡ m)
-IsStepTaken taken m after (Some event) = taken ≡ Some (event, after)
+-- Holds if `event` occurs as the next event of the drive and leads to the moment `after`. Without
+-- an event, holds if there is no next event and the moment stays the same.
+abbrev pub IsStepOrUnchanged : Option DriveStep → StateAndCommandsLeft → StateAndCommandsLeft → Option Event → Type 0
+IsStepOrUnchanged taken m after None = (taken ≡ None) × (after ≡ m)
+IsStepOrUnchanged taken m after (Some event) = taken ≡ Some (event, after)

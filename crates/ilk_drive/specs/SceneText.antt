@@ -1,5 +1,4 @@
--- The text of a scenario: the line `drive 1`, a line for each command, and the line `end`. Also the
--- first bad line of a text, defined by the texts of scenarios alone.
+-- The text of a scenario, and the first bad line of a text, defined only by the texts of scenarios.
 use Rattle.std.specs.Prelude.{ℕ, ◌≡◌, ◌≢◌, All, List, [], ◌∷◌, ◌++◌, codes, map}
 use Rattle.ilk_lines.specs.FirstBad.{IsFirstBadLine}
 use Rattle.ilk_lines.specs.Lines.{Bytes}
@@ -12,33 +11,34 @@ use Rattle.ilk_drive.specs.Commands.{AreCommands}
 use Rattle.ilk_drive.specs.Scene.{scene_from_text}
 use Rattle.ilk_drive.specs.declared.scene.Scene.TheVariants.{Bad}
 
--- The lines of a scenario. A command's line is that of its event in a run text.
+-- Returns the lines of a scenario: `drive 1`, the line of each command's event as in a run text,
+-- and `end`.
 abbrev pub scene_lines : PlantLists → List Event → List Bytes
 scene_lines p commands = codes "drive 1" ∷ (map (event_line p) commands ++ codes "end" ∷ [])
 
--- The text of a scenario, with one line feed after each line.
+-- Returns the text of a scenario, with one line feed after each line.
 abbrev pub scene_text : PlantLists → List Event → Bytes
 scene_text p commands = text_of (scene_lines p commands)
 
--- Holds if each of these is a command whose subject is a route or section of the plant.
+-- Holds if each of these events is a command, and its route or section is one of the plant.
 pub record AreCommandsOfPlant (p : PlantLists) (commands : List Event) : Type 0 where
   pub commanded : AreCommands commands
   pub about : All (IsEventSubjectOfPlant p) commands
 
--- Holds if the text is the one written for these commands over the plant.
+-- Holds if these are commands of the plant, and the text is the one written for them.
 abbrev pub IsTextOfScene : PlantLists → List Event → Bytes → Type 0
 IsTextOfScene p commands text = AreCommandsOfPlant p commands × (text ≡ scene_text p commands)
 
--- Holds if no line of the text is bad.
+-- Holds if the reader reports no line of the text as bad.
 abbrev pub HasNoBadLine : PlantLists → Bytes → Type 0
 HasNoBadLine p text = (n : ℕ) → scene_from_text p text ≢ Bad n
 
--- Holds if the text is that of some scenario over the plant.
+-- Holds if the bytes are the text of a scenario: the text of some list of commands for the plant.
 abbrev pub IsSceneText : PlantLists → Bytes → Type 0
 IsSceneText p text = (commands : List Event) × IsTextOfScene p commands text
 
--- Holds if line n, from 1, is the first bad line of a text. The text is not the text of a scenario.
--- The lines before line n begin the text of some scenario. Together with line n, unless it is
+-- Holds if line `n`, from 1, is the first bad line of a text, which is not the text of a scenario.
+-- The lines before line `n` begin the text of some scenario. Together with line `n`, unless it is
 -- missing, they begin none.
 abbrev pub IsFirstBadLineOfScene : PlantLists → Bytes → ℕ → Type 0
 IsFirstBadLineOfScene p text n = IsFirstBadLine (AreCommandsOfPlant p) (scene_lines p) text n

@@ -11,16 +11,17 @@ use Rattle.ilk_replay.specs.declared.seen.Seen.TheVariants.{NoHazard, Hazard as 
 use Rattle.ilk_drive.specs.declared.outcome.Rest.{Rest}
 use Rattle.ilk_drive.specs.declared.outcome.Rest.TheVariants.{Driven, Stuck, Hazard}
 
--- Holds if these events are a run from the start.
+-- Holds if these events are a run from the initial state.
 abbrev pub IsRunFromStart : PlantLists → List Event → Type 0
 IsRunFromStart p events = (t : State) × (run p (start p) events ≡ Some t)
 
--- The result of replaying a drive with this result: its hazard, or no hazard.
+-- Returns the result of replaying the events of a drive that ended with `rest`: its hazard, or no
+-- hazard.
 abbrev pub replay_result_of_outcome : Rest → Seen
 replay_result_of_outcome (Hazard at) = SeenHazard at
 replay_result_of_outcome Driven = NoHazard
 replay_result_of_outcome (Stuck n) = NoHazard
 
--- Holds if the drive doesn't end in a hazard.
+-- Holds if a drive with this result doesn't end in a hazard.
 abbrev pub EndsWithoutHazard : Rest → Type 0
 EndsWithoutHazard rest = (at : HazardAt) → rest ≢ Hazard at

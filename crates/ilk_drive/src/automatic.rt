@@ -2,7 +2,7 @@ ghost use Rattle.std.specs.Prelude.{ℕ, ◌≡◌, ◌++◌, ◌<◌, ◌^◌, 
 ghost use Rattle.std.specs.List.{range_with_len};
 ghost use Rattle.ilk_model.specs.declared.event.Event.{Event};
 ghost use Rattle.ilk_drive.specs.Drive.{automatic_events};
-ghost use Rattle.ilk_drive.specs.Places.{IsEnablingGraphOf, HasEnabledByEach};
+ghost use Rattle.ilk_drive.specs.Places.{IsAutomaticEnablingGraphOf, HasIndicesEnabledByEach};
 ghost use Rattle.ilk_base.specs.Numbers.{has_number};
 
 use crate::candidates::Candidates;
@@ -11,7 +11,6 @@ use ilk_model::Event;
 use ilk_plant::{Plant, Row};
 use std::alloc::{AllocError, Global};
 
-// Appends the events of one kind, with each number below `count`.
 fn push_numbers<F: Fn(u32) -> Event>(
     events: &mut Row<Event>,
     count: u32,
@@ -28,7 +27,6 @@ fn push_numbers<F: Fn(u32) -> Event>(
     Ok(())
 }
 
-// Returns the automatic events of the plant, in the order in which a drive tries them.
 fn automatic_events(alloc: Global, plant: &Plant) -> Result<Row<Event>, AllocError>
     ensures { IfOk result (λ events. events ≡ automatic_events plant.now) }
 {
@@ -56,7 +54,6 @@ pub(crate) struct Automatic {
     pub(crate) woken: Row<Row<u64>>,
 }
 
-// Returns, for each of these events, the indices of those that it may enable.
 fn woken_by_each(
     alloc: Global,
     plant: &Plant,
@@ -64,7 +61,7 @@ fn woken_by_each(
 ) -> Result<Row<Row<u64>>, AllocError>
     requires { events.now ≡ automatic_events plant.now }
     ensures long { IfOk result (λ woken. length woken ≡ length events.now) }
-    ensures woken { IfOk result (λ woken. HasEnabledByEach plant.now events.now woken) }
+    ensures woken { IfOk result (λ woken. HasIndicesEnabledByEach plant.now events.now woken) }
 {
     let mut woken = Row::new(alloc);
     for event in events.as_slice() {
@@ -76,14 +73,13 @@ fn woken_by_each(
 impl Automatic {
     /// Creates the automatic events of a plant.
     pub(crate) fn of(alloc: Global, plant: &Plant) -> Result<Automatic, AllocError>
-        ensures { IfOk result (IsEnablingGraphOf plant.now) }
+        ensures { IfOk result (IsAutomaticEnablingGraphOf plant.now) }
     {
         let events = automatic_events(alloc, plant)?;
         let woken = woken_by_each(alloc, plant, &events)?;
         Ok(Automatic { events, woken })
     }
 
-    /// Returns the indices of all automatic events.
     pub(crate) fn all_places(&self, alloc: Global) -> Result<Candidates, AllocError>
         ensures { IfOk result
             (λ candidates. (j : ℕ) → j < length self.now.events → has_number j candidates ≡ true) }

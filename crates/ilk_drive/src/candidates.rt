@@ -17,17 +17,16 @@ impl Model for Candidates {
     ghost use Rattle.std.specs.Prelude.{List, ℕ, map};
     ghost use Rattle.std.specs.BinaryHeap.{IsHeap, heap_items};
     ghost use Rattle.std.specs.Ordering.{nat_cmp};
-    ghost use Rattle.ilk_drive.specs.Places.{index_of_descending_rank};
+    ghost use Rattle.ilk_drive.specs.Places.{u64_max_minus_rank};
 
     ghost Value = { List ℕ };
 
-    ghost view = { λ c. map index_of_descending_rank (heap_items c.ranks) };
+    ghost view = { λ c. map u64_max_minus_rank (heap_items c.ranks) };
 
     ghost invariant = { λ c. IsHeap nat_cmp (heap_items c.ranks) };
 }
 
 impl Candidates {
-    /// Creates an empty queue.
     pub(crate) fn new(alloc: Global) -> Candidates
         ensures { result ≡ [] }
     {
@@ -36,7 +35,6 @@ impl Candidates {
         }
     }
 
-    /// Adds an index.
     pub(crate) fn push(&mut self, place: u64) -> Result<(), AllocError>
         ensures { OnOk result
             ((j : ℕ) → has_number j self.new ≡ (place == j || has_number j self.old)) }

@@ -6,7 +6,6 @@ use ilk_model::Event;
 use ilk_plant::Plant;
 use ilk_replay::event_from_line;
 
-// Returns whether the event is a command: an entry, or the request or cancellation of a route.
 fn is_command(event: Event) -> bool
     ensures { result ≡ is_command event }
 {

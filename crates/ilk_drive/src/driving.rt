@@ -8,9 +8,9 @@ ghost use Rattle.ilk_model.specs.Hazard.{hazard};
 ghost use Rattle.ilk_replay.specs.Writable.{IsRunOfPlant};
 ghost use Rattle.ilk_replay.specs.Told.{run_from_start};
 ghost use Rattle.ilk_strict.specs.IsStrict.{IsStrict};
-ghost use Rattle.ilk_drive.specs.Drive.{IsDriveOf, command_step, first_automatic, is_done_and_plant_idle, final_state_outcome, next_step};
-ghost use Rattle.ilk_drive.specs.Progress.{IsStepTaken, after_automatic, drive_state_after_commands};
-ghost use Rattle.ilk_drive.specs.Places.{ContainsAllEnabled, ContainsAllEnabledExcept, IsEnablingGraphOf, IsEventApplied, IsFirstAutomatic, IsLeast};
+ghost use Rattle.ilk_drive.specs.Drive.{IsDriveOf, command_step, first_automatic, is_done_empty_and_free, final_state_outcome, next_step_unless_hazard};
+ghost use Rattle.ilk_drive.specs.Progress.{IsStepOrUnchanged, state_after_first_automatic, drive_state_with_commands_given};
+ghost use Rattle.ilk_drive.specs.Places.{ContainsEnabledAutomaticIndices, ContainsEnabledAutomaticIndicesExcept, IsAutomaticEnablingGraphOf, IsStateAfterOptionalEvent, IsFirstAutomaticIfAny, IsLowerBoundOf};
 ghost use Rattle.ilk_drive.specs.Told.{IsRunFromStart, EndsWithoutHazard};
 ghost use Rattle.ilk_drive.specs.declared.limits.TheConstants.{MAX_EVENTS_PER_COMMAND};
 ghost use Rattle.ilk_base.specs.Numbers.{has_number};
@@ -34,7 +34,6 @@ pub(crate) struct Standing {
     pub(crate) candidates: Candidates,
 }
 
-// Adds indices to the candidates.
 fn push_all(candidates: &mut Candidates, places: &Row<u64>) -> Result<(), AllocError>
     ensures kept { OnOk result
         ((j : ℕ) → has_number j candidates.old ≡ true → has_number j candidates.new ≡ true) }
@@ -59,12 +58,12 @@ fn try_place(
     place: u64,
 ) -> Result<Option<Event>, AllocError>
     requires shape { HasShape plant.now s.old }
-    requires all { IsEnablingGraphOf plant.now automatic.now }
-    requires covers { ContainsAllEnabledExcept plant.now s.old place candidates.old }
-    requires least { IsLeast place candidates.old }
-    ensures first { IfOk result (IsFirstAutomatic plant.now s.old) }
-    ensures next { IfOk result (IsEventApplied plant.now s.old s.new) }
-    ensures covers { OnOk result (ContainsAllEnabled plant.now s.new candidates.new) }
+    requires all { IsAutomaticEnablingGraphOf plant.now automatic.now }
+    requires covers { ContainsEnabledAutomaticIndicesExcept plant.now s.old place candidates.old }
+    requires least { IsLowerBoundOf place candidates.old }
+    ensures first { IfOk result (IsFirstAutomaticIfAny plant.now s.old) }
+    ensures next { IfOk result (IsStateAfterOptionalEvent plant.now s.old s.new) }
+    ensures covers { OnOk result (ContainsEnabledAutomaticIndices plant.now s.new candidates.new) }
     ensures same { IfOk result (λ event. event ≡ None → candidates.new ≡ candidates.old) }
     ensures shape { HasShape plant.now s.new }
 {
@@ -90,11 +89,11 @@ fn do_automatic(
     s: &mut State,
 ) -> Result<Option<Event>, AllocError>
     requires shape { HasShape plant.now s.old }
-    requires all { IsEnablingGraphOf plant.now automatic.now }
-    requires covers { ContainsAllEnabled plant.now s.old candidates.old }
+    requires all { IsAutomaticEnablingGraphOf plant.now automatic.now }
+    requires covers { ContainsEnabledAutomaticIndices plant.now s.old candidates.old }
     ensures first { IfOk result (λ event. event ≡ first_automatic plant.now s.old) }
-    ensures next { OnOk result (s.new ≡ after_automatic plant.now s.old) }
-    ensures covers { OnOk result (ContainsAllEnabled plant.now s.new candidates.new) }
+    ensures next { OnOk result (s.new ≡ state_after_first_automatic plant.now s.old) }
+    ensures covers { OnOk result (ContainsEnabledAutomaticIndices plant.now s.new candidates.new) }
     ensures shape { HasShape plant.now s.new }
 {
     while let Some(place) = candidates.pop() {
@@ -115,15 +114,16 @@ fn give_command(
     now: &mut Standing,
 ) -> Result<Option<Event>, AllocError>
     requires shape { HasShape plant.now now.old.state }
-    requires all { IsEnablingGraphOf plant.now automatic.now }
-    requires covers { ContainsAllEnabled plant.now now.old.state now.old.candidates }
-    ensures covers { OnOk result (ContainsAllEnabled plant.now now.new.state now.new.candidates) }
+    requires all { IsAutomaticEnablingGraphOf plant.now automatic.now }
+    requires covers { ContainsEnabledAutomaticIndices plant.now now.old.state now.old.candidates }
+    ensures covers { OnOk result (ContainsEnabledAutomaticIndices plant.now now.new.state
+        now.new.candidates) }
     ensures hazard { now.new.hazard ≡ now.old.hazard }
     ensures given { IfOk result
-        (IsStepTaken (command_step plant.now
-        (drive_state_after_commands scene.now now.old.state now.old.given))
-        (drive_state_after_commands scene.now now.old.state now.old.given)
-        (drive_state_after_commands scene.now now.new.state now.new.given)) }
+        (IsStepOrUnchanged (command_step plant.now
+        (drive_state_with_commands_given scene.now now.old.state now.old.given))
+        (drive_state_with_commands_given scene.now now.old.state now.old.given)
+        (drive_state_with_commands_given scene.now now.new.state now.new.given)) }
     ensures shape { HasShape plant.now now.new.state }
     ensures within { now.old.given ≤ length scene.now → now.new.given ≤ length scene.now }
 {
@@ -140,8 +140,8 @@ fn give_command(
     Ok(Some(*command))
 }
 
-// Executes the next event, if there is no hazard, and returns it. Returns `None`, and leaves the
-// state unchanged, if there is no next event.
+// Executes the next event, if there is no hazard, and returns it. Returns `None`, and changes
+// nothing, if there is no next event.
 fn go_on(
     alloc: Global,
     plant: &Plant,
@@ -150,16 +150,17 @@ fn go_on(
     now: &mut Standing,
 ) -> Result<Option<Event>, AllocError>
     requires shape { HasShape plant.now now.old.state }
-    requires all { IsEnablingGraphOf plant.now automatic.now }
-    requires covers { ContainsAllEnabled plant.now now.old.state now.old.candidates }
+    requires all { IsAutomaticEnablingGraphOf plant.now automatic.now }
+    requires covers { ContainsEnabledAutomaticIndices plant.now now.old.state now.old.candidates }
     requires calm { hazard plant.now now.old.state ≡ None }
-    ensures covers { OnOk result (ContainsAllEnabled plant.now now.new.state now.new.candidates) }
+    ensures covers { OnOk result (ContainsEnabledAutomaticIndices plant.now now.new.state
+        now.new.candidates) }
     ensures hazard { now.new.hazard ≡ now.old.hazard }
     ensures turn { IfOk result
-        (IsStepTaken (next_step plant.now
-        (drive_state_after_commands scene.now now.old.state now.old.given))
-        (drive_state_after_commands scene.now now.old.state now.old.given)
-        (drive_state_after_commands scene.now now.new.state now.new.given)) }
+        (IsStepOrUnchanged (next_step_unless_hazard plant.now
+        (drive_state_with_commands_given scene.now now.old.state now.old.given))
+        (drive_state_with_commands_given scene.now now.old.state now.old.given)
+        (drive_state_with_commands_given scene.now now.new.state now.new.given)) }
     ensures shape { HasShape plant.now now.new.state }
     ensures within { now.old.given ≤ length scene.now → now.new.given ≤ length scene.now }
 {
@@ -175,8 +176,6 @@ fn go_on(
     give_command(alloc, plant, automatic, scene, now)
 }
 
-// Executes the next event and returns it. Returns `None`, and leaves the state unchanged, if there
-// is no next event.
 fn take_turn(
     alloc: Global,
     plant: &Plant,
@@ -185,16 +184,17 @@ fn take_turn(
     now: &mut Standing,
 ) -> Result<Option<Event>, AllocError>
     requires shape { HasShape plant.now now.old.state }
-    requires all { IsEnablingGraphOf plant.now automatic.now }
-    requires covers { ContainsAllEnabled plant.now now.old.state now.old.candidates }
+    requires all { IsAutomaticEnablingGraphOf plant.now automatic.now }
+    requires covers { ContainsEnabledAutomaticIndices plant.now now.old.state now.old.candidates }
     requires hazard { now.old.hazard ≡ hazard plant.now now.old.state }
-    ensures covers { OnOk result (ContainsAllEnabled plant.now now.new.state now.new.candidates) }
+    ensures covers { OnOk result (ContainsEnabledAutomaticIndices plant.now now.new.state
+        now.new.candidates) }
     ensures hazard { OnOk result (now.new.hazard ≡ hazard plant.now now.new.state) }
     ensures turn { IfOk result
-        (IsStepTaken (next_step plant.now
-        (drive_state_after_commands scene.now now.old.state now.old.given))
-        (drive_state_after_commands scene.now now.old.state now.old.given)
-        (drive_state_after_commands scene.now now.new.state now.new.given)) }
+        (IsStepOrUnchanged (next_step_unless_hazard plant.now
+        (drive_state_with_commands_given scene.now now.old.state now.old.given))
+        (drive_state_with_commands_given scene.now now.old.state now.old.given)
+        (drive_state_with_commands_given scene.now now.new.state now.new.given)) }
     ensures shape { HasShape plant.now now.new.state }
     ensures within { now.old.given ≤ length scene.now → now.new.given ≤ length scene.now }
 {
@@ -208,7 +208,6 @@ fn take_turn(
     Ok(Some(event))
 }
 
-// Returns whether every route is Free.
 fn all_free(s: &State) -> bool
     ensures { result ≡ list_all (λ route. same_mode route.mode Free) s.now.routes }
 {
@@ -218,38 +217,36 @@ fn all_free(s: &State) -> bool
         .all(|route| matches!(route.mode, Mode::Free))
 }
 
-// Returns whether all commands were given, no train is left and every route is Free.
-fn is_done_and_plant_idle(scene: &Row<Event>, now: &Standing) -> bool
-    ensures { result ≡ is_done_and_plant_idle
-        (drive_state_after_commands scene.now now.now.state now.now.given) }
+fn is_done_empty_and_free(scene: &Row<Event>, now: &Standing) -> bool
+    ensures { result ≡ is_done_empty_and_free
+        (drive_state_with_commands_given scene.now now.now.state now.now.given) }
 {
     now.given >= scene.len() && now.state.trains.len() == 0 && all_free(&now.state)
 }
 
-// Returns the result of a drive that has no next event.
 fn rest_at(scene: &Row<Event>, now: &Standing) -> Rest
     requires within { now.now.given ≤ length scene.now }
     ensures { (p : PlantLists) → now.now.hazard ≡ hazard p now.now.state →
         result ≡ final_state_outcome p
-        (drive_state_after_commands scene.now now.now.state now.now.given) }
+        (drive_state_with_commands_given scene.now now.now.state now.now.given) }
 {
     if let Some(at) = now.hazard {
         return Rest::Hazard(at);
     }
-    if is_done_and_plant_idle(scene, now) {
+    if is_done_empty_and_free(scene, now) {
         return Rest::Driven;
     }
     let _commands = scene.as_slice().len();
     Rest::Stuck { at: now.given + 1 }
 }
 
-/// Runs a scenario from the start until it terminates. While an automatic event is enabled, the
-/// first one is executed; otherwise the next command is given.
+/// Runs the scenario `scene` from the initial state until it terminates. While an automatic event
+/// is enabled, the first one is executed; otherwise the next command is. Returns the executed
+/// events and the result.
 ///
 /// The result is `Hazard` as soon as an event leads to a hazard, which never happens for a strict
-/// table. It is `Stuck` if neither an automatic event nor the next command is enabled. It is also
-/// `Stuck` if all commands were given, no automatic event is enabled, and a train or a route that
-/// isn't Free is left. Otherwise the end is `Driven`. Fails only if memory runs out.
+/// table. It is `Driven` if all commands were given, no train is left and every route is Free.
+/// Otherwise it is `Stuck`. Fails only if memory runs out.
 pub fn drive(alloc: Global, plant: &Plant, scene: &Row<Event>) -> Result<Driven, AllocError>
     ensures drive { IfOk result (IsDriveOf plant.now scene.now) }
     ensures run { IfOk result (λ driven. IsRunFromStart plant.now driven.events) }
@@ -260,7 +257,7 @@ pub fn drive(alloc: Global, plant: &Plant, scene: &Row<Event>) -> Result<Driven,
     ensures strict { IsStrict plant.now → IfOk result (λ driven. EndsWithoutHazard driven.rest) }
 {
     plant.prove_is_plant();
-    plant.prove_from_drafts();
+    plant.prove_sound_acyclic_drafts();
     let automatic = Automatic::of(alloc, plant)?;
     let mut now = Standing {
         state: start(alloc, plant)?,

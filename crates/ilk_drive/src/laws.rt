@@ -1,4 +1,3 @@
-//! Theorems, each the contract of a function with an empty body.
 ghost use Rattle.std.specs.Prelude.{ℕ, ◌≡◌, ◌≤◌, ◌↔◌, ◌*◌, List, length};
 ghost use Rattle.ilk_plant.specs.Start.{start};
 ghost use Rattle.ilk_model.specs.declared.event.Event.{Event};
@@ -18,10 +17,10 @@ ghost use Rattle.ilk_drive.specs.declared.scene.Scene.TheVariants.{Bad, Scene as
 
 use ilk_plant::Plant;
 
-/// A scenario has one drive. Its events are a run from the start, at most
-/// `MAX_EVENTS_PER_COMMAND` per command. For a strict table it doesn't end in a hazard. Proof
-/// only; no run-time effect.
-pub fn drives_are_runs(plant: &Plant)
+/// A scenario has exactly one drive. Its events are a run from the initial state, at most
+/// `MAX_EVENTS_PER_COMMAND` per command. For a strict table it doesn't end in a hazard. Proof only;
+/// no run-time effect.
+pub fn drives_are_unique_bounded_runs(plant: &Plant)
     ensures one { (scene : List Event) (a b : Driven) → IsDriveOf plant.now scene a →
         IsDriveOf plant.now scene b → a ≡ b }
     ensures run { (scene : List Event) (driven : Driven) → IsDriveOf plant.now scene driven →
@@ -32,12 +31,12 @@ pub fn drives_are_runs(plant: &Plant)
         IsDriveOf plant.now scene driven → EndsWithoutHazard driven.rest }
 {
     plant.prove_is_plant();
-    plant.prove_from_drafts();
+    plant.prove_sound_acyclic_drafts();
 }
 
-/// The run of a drive has a text, which says `start` and is read back as that run. Its replay shows
-/// the hazard in which the drive ends, or none. Proof only; no run-time effect.
-pub fn drive_runs_round_trip(plant: &Plant)
+/// The text written for a drive's run is read back as that run, and its replay has the drive's
+/// result: the hazard in which the drive ends, or no hazard. Proof only; no run-time effect.
+pub fn drive_texts_replay_same_outcome(plant: &Plant)
     ensures writable { (scene : List Event) (driven : Driven) → IsDriveOf plant.now scene driven →
         IsRunOfPlant plant.now (run_from_start plant.now driven.events) }
     ensures read { (scene : List Event) (driven : Driven) → IsDriveOf plant.now scene driven →
@@ -50,11 +49,10 @@ pub fn drive_runs_round_trip(plant: &Plant)
     plant.prove_is_plant();
 }
 
-/// A text is read as commands if and only if it is the text written for them over the plant. So a
-/// written text is read back, and no two texts contain the same commands. A text has no bad line if
-/// and only if it is the text of some scenario. The reported bad line is the first: the lines
-/// before it begin the text of some scenario, and together with it they begin none. Proof only; no
-/// run-time effect.
+/// A text is read as commands if and only if it is the text written for them over the plant.
+/// Otherwise its first bad line is reported: the lines before it begin the text of some scenario,
+/// and together with it they begin none. So a written text is read back, and no two texts contain
+/// the same commands. Proof only; no run-time effect.
 pub fn scene_reading_is_exact(plant: &Plant, text: &[u8])
     ensures scene { (commands : List Event)
         → (scene_from_text plant.now text.now ≡ IsScene commands)

@@ -7,11 +7,10 @@
 //! next event, nor that only touched sections are checked for hazards (`specs/Touched.antt`).
 //!
 //! A drive terminates: each automatic event lowers a potential, which bounds the events that
-//! trains, routes and points still have. A command raises it by less than
-//! `MAX_EVENTS_PER_COMMAND` (`proofs/Potential.antt`). The theorems say that a scenario has one
-//! drive and that its events are a run from the start (`drives_are_runs`). Their text is read back
-//! and replayed to the same end (`drive_runs_round_trip`). A text is read as a scenario if and only
-//! if it is the one written for it (`scene_reading_is_exact`).
+//! trains, routes and points still have. A command raises it by less than `MAX_EVENTS_PER_COMMAND`
+//! (`proofs/Potential.antt`). `laws` states the theorems: a scenario has one drive, its text is
+//! replayed to the same result, and a text is read as a scenario if and only if it is the one
+//! written for it.
 #![tactic(auto)]
 
 mod automatic;
@@ -27,7 +26,9 @@ mod touched;
 mod waking;
 
 pub use driving::drive;
-pub use laws::{drive_runs_round_trip, drives_are_runs, scene_reading_is_exact};
+pub use laws::{
+    drive_texts_replay_same_outcome, drives_are_unique_bounded_runs, scene_reading_is_exact,
+};
 pub use limits::MAX_EVENTS_PER_COMMAND;
 pub use outcome::{Driven, Rest};
 pub use scene::{Scene, read_scene};

@@ -1,5 +1,5 @@
 ghost use Rattle.std.specs.Prelude.{◌≡◌, IfOk};
-ghost use Rattle.ilk_lines.specs.Answers.{MatchesResult};
+ghost use Rattle.ilk_lines.specs.Answers.{ResultMatchesUnlessOutOfMemory};
 ghost use Rattle.ilk_lines.specs.Lines.{unterminated_tail, lines_of};
 ghost use Rattle.ilk_drive.specs.CommandLine.{command_from_line};
 ghost use Rattle.ilk_drive.specs.Scene.{HasOnlyCommands, commands_from_lines, scene_from_text};
@@ -10,18 +10,17 @@ use ilk_model::Event;
 use ilk_plant::{Plant, Row};
 use std::alloc::{AllocError, Global};
 
-/// The result of reading a scenario: its commands, or its first bad line.
+/// The result of reading a scenario's text: its commands, or its first bad line.
 #[derive(Drop)]
 pub enum Scene {
-    /// Its commands, in order: each an entry, or the request or cancellation of a route.
+    /// The commands, in order: each an entry, or the request or cancellation of a route.
     Scene(Row<Event>),
     /// The number of the first bad line, from 1.
     Bad { line: u64 },
 }
 
-// Reads the commands of a text.
 fn read_commands(alloc: Global, plant: &Plant, text: &[u8]) -> Result<Row<Event>, LineFault>
-    ensures { MatchesResult (commands_from_lines plant.now (lines_of text.now)
+    ensures { ResultMatchesUnlessOutOfMemory (commands_from_lines plant.now (lines_of text.now)
         (unterminated_tail text.now))
         result }
 {
@@ -29,12 +28,12 @@ fn read_commands(alloc: Global, plant: &Plant, text: &[u8]) -> Result<Row<Event>
     lines.expect_line(b"drive 1")?;
     let commands = read_while_some(alloc, &mut lines, |line| Ok(command_from_line(plant, line)))?;
     lines.expect_line(b"end")?;
-    lines.check_at_end()?;
+    lines.expect_end_of_text()?;
     Ok(commands)
 }
 
-/// Reads the text of a scenario. Returns its commands, in order, or the number of its first bad
-/// line, from 1. Fails only if memory runs out.
+/// Reads the text of a scenario for `plant`. Returns its commands in order, or the number of its
+/// first bad line, from 1. Fails only if memory runs out.
 pub fn read_scene(alloc: Global, plant: &Plant, text: &[u8]) -> Result<Scene, AllocError>
     ensures scene { IfOk result (λ scene. scene ≡ scene_from_text plant.now text.now) }
     ensures commands { IfOk result HasOnlyCommands }

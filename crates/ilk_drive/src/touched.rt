@@ -3,24 +3,22 @@
 ghost use Rattle.std.specs.Prelude.{◌≡◌, [], ◌∷◌, option_to_list};
 ghost use Rattle.ilk_model.specs.Hazard.{is_section_hazardous, has_two_trains};
 ghost use Rattle.ilk_drive.specs.Awakening.{neighbours_of};
-ghost use Rattle.ilk_drive.specs.Touched.{IsHazardCausedBy, IsFirstHazardous, ExtendsFirstHazardous, sections_at_risk};
+ghost use Rattle.ilk_drive.specs.Touched.{IsOptionalHazardAfterEvent, IsLeastHazardousSection, IsLeastHazardousAfterAppending, sections_at_risk};
 
 use ilk_model::{Event, HazardAt, is_wrong_under_train};
-use ilk_plant::{Plant, Section, State, has_section};
+use ilk_plant::{Plant, Section, State, contains_section};
 
-// Returns whether two or more trains have `x` in their bodies.
 fn is_two(s: &State, x: u32) -> bool
     ensures { result ≡ has_two_trains s.now x }
 {
     s.trains
         .as_slice()
         .iter()
-        .filter(|train| has_section(&train.body, x))
+        .filter(|train| contains_section(&train.body, x))
         .count()
         > 1
 }
 
-// Returns whether two trains share `x`, or some train's body is wrong on it.
 fn is_section_hazardous(plant: &Plant, s: &State, x: u32) -> bool
     ensures { result ≡ is_section_hazardous plant.now s.now x }
 {
@@ -29,7 +27,7 @@ fn is_section_hazardous(plant: &Plant, s: &State, x: u32) -> bool
 
 // Returns `x` if it has a hazard and is less than `found`, and otherwise `found`.
 fn lesser(plant: &Plant, s: &State, x: u32, found: Option<u32>) -> Option<u32>
-    ensures { ExtendsFirstHazardous plant.now s.now (x ∷ []) found result }
+    ensures { IsLeastHazardousAfterAppending plant.now s.now (x ∷ []) found result }
 {
     if x >= plant.sections() {
         return found;
@@ -43,9 +41,8 @@ fn lesser(plant: &Plant, s: &State, x: u32, found: Option<u32>) -> Option<u32>
     }
 }
 
-// The same, if there is a section.
 fn lesser_if(plant: &Plant, s: &State, x: Option<u32>, found: Option<u32>) -> Option<u32>
-    ensures { ExtendsFirstHazardous plant.now s.now (option_to_list x) found result }
+    ensures { IsLeastHazardousAfterAppending plant.now s.now (option_to_list x) found result }
 {
     match x {
         Some(x) => lesser(plant, s, x, found),
@@ -53,9 +50,8 @@ fn lesser_if(plant: &Plant, s: &State, x: Option<u32>, found: Option<u32>) -> Op
     }
 }
 
-// Returns the least section with a hazard among those next to `x`.
 fn least_around(plant: &Plant, s: &State, x: u32) -> Option<u32>
-    ensures { IsFirstHazardous plant.now s.now (neighbours_of plant.now x) result }
+    ensures { IsLeastHazardousSection plant.now s.now (neighbours_of plant.now x) result }
 {
     if x >= plant.sections() {
         return None;
@@ -78,9 +74,8 @@ fn least_around(plant: &Plant, s: &State, x: u32) -> Option<u32>
     }
 }
 
-// Returns the least section with a hazard among those that the event touched.
 fn least_touched(plant: &Plant, s: &State, event: Event) -> Option<u32>
-    ensures { IsFirstHazardous plant.now s.now (sections_at_risk plant.now event) result }
+    ensures { IsLeastHazardousSection plant.now s.now (sections_at_risk plant.now event) result }
 {
     match event {
         Event::Throw(x) => lesser(plant, s, x, None),
@@ -95,7 +90,7 @@ fn least_touched(plant: &Plant, s: &State, event: Event) -> Option<u32>
 
 /// Returns the hazard of the state after `event`, if the state before it had none.
 pub(crate) fn hazard_after(plant: &Plant, s: &State, event: Event) -> Option<HazardAt>
-    ensures { IsHazardCausedBy plant.now s.now event result }
+    ensures { IsOptionalHazardAfterEvent plant.now s.now event result }
 {
     let x = least_touched(plant, s, event)?;
     Some(if is_two(s, x) {

@@ -2,20 +2,19 @@
 ghost use Rattle.std.specs.Prelude.{◌≡◌, IfOk};
 ghost use Rattle.ilk_model.specs.declared.event.Event.TheVariants.{Mark, Allocate, Lock, Sense, Release, Finish, Throw, Settle, Enter, Head, Tail, Leave, Cancel};
 ghost use Rattle.ilk_drive.specs.Drive.{automatic_events};
-ghost use Rattle.ilk_drive.specs.Places.{ContainsAllEnabledBy};
-ghost use Rattle.ilk_drive.specs.Awakening.{has_source_on_section, route_depends_by_number, route_may_affect_by_number, may_enable, requires_point};
+ghost use Rattle.ilk_drive.specs.Places.{ContainsAutomaticIndicesEnabledBy};
+ghost use Rattle.ilk_drive.specs.Awakening.{has_source_on_section, route_has_element_by_number, route_may_affect_by_number, may_enable_automatic, requires_point};
 
 use crate::concerns::{
     depends_on_neighbour, has_source_on_section, is_neighbour, requires_point,
-    route_depends_by_number, route_may_affect_by_number,
+    route_has_element_by_number, route_may_affect_by_number,
 };
 use ilk_model::Event;
 use ilk_plant::{Plant, Row};
 use std::alloc::{AllocError, Global};
 
-// Returns whether allocate of route `r` may enable the event.
 fn allocate_may_enable(plant: &Plant, r: u32, other: Event) -> bool
-    ensures { result ≡ may_enable plant.now (Allocate r) other }
+    ensures { result ≡ may_enable_automatic plant.now (Allocate r) other }
 {
     match other {
         Event::Lock(q) => q == r,
@@ -24,9 +23,8 @@ fn allocate_may_enable(plant: &Plant, r: u32, other: Event) -> bool
     }
 }
 
-// Returns whether lock of route `r` may enable the event.
 fn lock_may_enable(plant: &Plant, r: u32, other: Event) -> bool
-    ensures { result ≡ may_enable plant.now (Lock r) other }
+    ensures { result ≡ may_enable_automatic plant.now (Lock r) other }
 {
     match other {
         Event::Sense(q) => q == r,
@@ -35,9 +33,8 @@ fn lock_may_enable(plant: &Plant, r: u32, other: Event) -> bool
     }
 }
 
-// Returns whether sense of route `r` may enable the event.
 fn sense_may_enable(plant: &Plant, r: u32, other: Event) -> bool
-    ensures { result ≡ may_enable plant.now (Sense r) other }
+    ensures { result ≡ may_enable_automatic plant.now (Sense r) other }
 {
     match other {
         Event::Allocate(q) => route_may_affect_by_number(plant, r, q),
@@ -49,9 +46,8 @@ fn sense_may_enable(plant: &Plant, r: u32, other: Event) -> bool
     }
 }
 
-// Returns whether release of route `r` may enable the event.
 fn release_may_enable(plant: &Plant, r: u32, other: Event) -> bool
-    ensures { result ≡ may_enable plant.now (Release r) other }
+    ensures { result ≡ may_enable_automatic plant.now (Release r) other }
 {
     match other {
         Event::Allocate(q) => route_may_affect_by_number(plant, r, q),
@@ -62,9 +58,8 @@ fn release_may_enable(plant: &Plant, r: u32, other: Event) -> bool
     }
 }
 
-// Returns whether throw of section `x` may enable the event.
 fn throw_may_enable(plant: &Plant, x: u32, other: Event) -> bool
-    ensures { result ≡ may_enable plant.now (Throw x) other }
+    ensures { result ≡ may_enable_automatic plant.now (Throw x) other }
 {
     match other {
         Event::Throw(y) => y == x,
@@ -74,12 +69,11 @@ fn throw_may_enable(plant: &Plant, x: u32, other: Event) -> bool
     }
 }
 
-// Returns whether settle of section `x` may enable the event.
 fn settle_may_enable(plant: &Plant, x: u32, other: Event) -> bool
-    ensures { result ≡ may_enable plant.now (Settle x) other }
+    ensures { result ≡ may_enable_automatic plant.now (Settle x) other }
 {
     match other {
-        Event::Lock(q) => route_depends_by_number(plant, x, q),
+        Event::Lock(q) => route_has_element_by_number(plant, x, q),
         Event::Throw(y) => y == x,
         Event::Settle(y) => y == x,
         Event::Head(y) => y == x,
@@ -87,24 +81,22 @@ fn settle_may_enable(plant: &Plant, x: u32, other: Event) -> bool
     }
 }
 
-// Returns whether enter of section `x` may enable the event.
 fn enter_may_enable(plant: &Plant, x: u32, other: Event) -> bool
-    ensures { result ≡ may_enable plant.now (Enter x) other }
+    ensures { result ≡ may_enable_automatic plant.now (Enter x) other }
 {
     match other {
-        Event::Sense(q) => route_depends_by_number(plant, x, q),
+        Event::Sense(q) => route_has_element_by_number(plant, x, q),
         Event::Head(y) => y == x,
         Event::Leave(y) => y == x,
         _ => false,
     }
 }
 
-// Returns whether head of section `x` may enable the event.
 fn head_may_enable(plant: &Plant, x: u32, other: Event) -> bool
-    ensures { result ≡ may_enable plant.now (Head x) other }
+    ensures { result ≡ may_enable_automatic plant.now (Head x) other }
 {
     match other {
-        Event::Lock(q) => route_depends_by_number(plant, x, q),
+        Event::Lock(q) => route_has_element_by_number(plant, x, q),
         Event::Sense(q) => depends_on_neighbour(plant, x, q),
         Event::Head(y) => y == x || is_neighbour(plant, x, y),
         Event::Tail(y) => y == x,
@@ -113,35 +105,32 @@ fn head_may_enable(plant: &Plant, x: u32, other: Event) -> bool
     }
 }
 
-// Returns whether tail of section `x` may enable the event.
 fn tail_may_enable(plant: &Plant, x: u32, other: Event) -> bool
-    ensures { result ≡ may_enable plant.now (Tail x) other }
+    ensures { result ≡ may_enable_automatic plant.now (Tail x) other }
 {
     match other {
-        Event::Allocate(q) => route_depends_by_number(plant, x, q),
-        Event::Release(q) => route_depends_by_number(plant, x, q),
+        Event::Allocate(q) => route_has_element_by_number(plant, x, q),
+        Event::Release(q) => route_has_element_by_number(plant, x, q),
         Event::Tail(y) => y == x || is_neighbour(plant, x, y),
         Event::Leave(y) => is_neighbour(plant, x, y),
         _ => false,
     }
 }
 
-// Returns whether leave of section `x` may enable the event.
 fn leave_may_enable(plant: &Plant, x: u32, other: Event) -> bool
-    ensures { result ≡ may_enable plant.now (Leave x) other }
+    ensures { result ≡ may_enable_automatic plant.now (Leave x) other }
 {
     match other {
-        Event::Allocate(q) => route_depends_by_number(plant, x, q),
-        Event::Release(q) => route_depends_by_number(plant, x, q),
+        Event::Allocate(q) => route_has_element_by_number(plant, x, q),
+        Event::Release(q) => route_has_element_by_number(plant, x, q),
         Event::Head(y) => y == x,
         Event::Leave(y) => y == x,
         _ => false,
     }
 }
 
-// Returns whether finish of route `r` may enable the event.
 fn finish_may_enable(plant: &Plant, r: u32, other: Event) -> bool
-    ensures { result ≡ may_enable plant.now (Finish r) other }
+    ensures { result ≡ may_enable_automatic plant.now (Finish r) other }
 {
     match other {
         Event::Allocate(q) => route_may_affect_by_number(plant, r, q),
@@ -149,9 +138,8 @@ fn finish_may_enable(plant: &Plant, r: u32, other: Event) -> bool
     }
 }
 
-// Returns whether cancel of route `r` may enable the event.
 fn cancel_may_enable(plant: &Plant, r: u32, other: Event) -> bool
-    ensures { result ≡ may_enable plant.now (Cancel r) other }
+    ensures { result ≡ may_enable_automatic plant.now (Cancel r) other }
 {
     match other {
         Event::Allocate(q) => route_may_affect_by_number(plant, r, q),
@@ -159,9 +147,8 @@ fn cancel_may_enable(plant: &Plant, r: u32, other: Event) -> bool
     }
 }
 
-// Returns whether mark of route `r` may enable the event.
 fn mark_may_enable(plant: &Plant, r: u32, other: Event) -> bool
-    ensures { result ≡ may_enable plant.now (Mark r) other }
+    ensures { result ≡ may_enable_automatic plant.now (Mark r) other }
 {
     let _ = plant;
     match other {
@@ -170,9 +157,8 @@ fn mark_may_enable(plant: &Plant, r: u32, other: Event) -> bool
     }
 }
 
-// Returns whether `event` may enable the automatic event `other`.
-fn may_enable(plant: &Plant, event: Event, other: Event) -> bool
-    ensures { result ≡ may_enable plant.now event other }
+fn may_enable_automatic(plant: &Plant, event: Event, other: Event) -> bool
+    ensures { result ≡ may_enable_automatic plant.now event other }
 {
     match event {
         Event::Mark(r) => mark_may_enable(plant, r, other),
@@ -199,11 +185,11 @@ pub(crate) fn indices_enabled_by(
     event: Event,
 ) -> Result<Row<u64>, AllocError>
     requires { automatic.now ≡ automatic_events plant.now }
-    ensures { IfOk result (ContainsAllEnabledBy plant.now event) }
+    ensures { IfOk result (ContainsAutomaticIndicesEnabledBy plant.now event) }
 {
     let mut places = Row::new(alloc);
     for (place, other) in automatic.as_slice().iter().enumerate() {
-        places.push_if(may_enable(plant, event, *other), place as u64)?;
+        places.push_if(may_enable_automatic(plant, event, *other), place as u64)?;
     }
     Ok(places)
 }

@@ -6,7 +6,7 @@ use Rattle.ilk_unroll.specs.declared.queries.Wanted.{Wanted}
 use Rattle.ilk_unroll.specs.declared.queries.Wanted.TheVariants.{Hazard, Breach, Step}
 use Rattle.ilk_unroll.specs.Evidence.{HoldsForNoneUpTo, ReachesHazard, ReachesBreach, IsInductiveAt}
 use Rattle.ilk_forever.proofs.CarriedForever.{step-valid}
-use Rattle.ilk_induct.specs.Right.{IsUnsafe, HasBreachWithoutHazard, IsSafeByInduction, IsNotInductive}
+use Rattle.ilk_induct.specs.Right.{IsShortestHazardLength, IsShortestBreachWithoutHazard, IsLeastSafeInductionLength, NeitherBreachNorInductive}
 
 module _ (Values Events : Wanted → Type 0) (to : (q : Wanted) → Events q → Values q) (from : (q : Wanted) → step_count_is_allowed q ≡ true → Values q → Events q) where
   never-endangers : (depth : ℕ) → HoldsForNoneUpTo depth (ReachesHazard Values) → HoldsForNoneUpTo depth (ReachesHazard Events)
@@ -18,7 +18,7 @@ module _ (Values Events : Wanted → Type 0) (to : (q : Wanted) → Events q →
   inducts : (n : ℕ) → n ≤ 16 → IsInductiveAt Events n → IsInductiveAt Values n
   inducts n few carries = (carries.0, λ has. carries.1 (from (Step n) (step-valid n carries.0 few) has))
 
-  pub carried-unsafe : (depth h : ℕ) → depth ≤ 16 → IsUnsafe Values depth h → IsUnsafe Events depth h
+  pub carried-unsafe : (depth h : ℕ) → depth ≤ 16 → IsShortestHazardLength Values depth h → IsShortestHazardLength Events depth h
   carried-unsafe depth h few is =
       let within = is.hazard.within in
       record {
@@ -29,7 +29,7 @@ module _ (Values Events : Wanted → Type 0) (to : (q : Wanted) → Events q →
         };
       }
 
-  pub carried-breach : (depth b : ℕ) → depth ≤ 16 → HasBreachWithoutHazard Values depth b → HasBreachWithoutHazard Events depth b
+  pub carried-breach : (depth b : ℕ) → depth ≤ 16 → IsShortestBreachWithoutHazard Values depth b → IsShortestBreachWithoutHazard Events depth b
   carried-breach depth b few is =
       let within = is.breach.within in
       record {
@@ -41,7 +41,7 @@ module _ (Values Events : Wanted → Type 0) (to : (q : Wanted) → Events q →
         };
       }
 
-  pub carried-safe : (depth i : ℕ) → depth ≤ 16 → IsSafeByInduction Values depth i → IsSafeByInduction Events depth i
+  pub carried-safe : (depth i : ℕ) → depth ≤ 16 → IsLeastSafeInductionLength Values depth i → IsLeastSafeInductionLength Events depth i
   carried-safe depth i few is =
       let within = is.induction.within in
       record {
@@ -54,7 +54,7 @@ module _ (Values Events : Wanted → Type 0) (to : (q : Wanted) → Events q →
         };
       }
 
-  pub carried-not : (depth : ℕ) → depth ≤ 16 → IsNotInductive Values depth → IsNotInductive Events depth
+  pub carried-not : (depth : ℕ) → depth ≤ 16 → NeitherBreachNorInductive Values depth → NeitherBreachNorInductive Events depth
   carried-not depth few is =
       record {
         no_hazard = never-endangers depth is.no_hazard;

@@ -9,14 +9,14 @@ use Rattle.ilk_induct.specs.declared.verdict.Verdict.TheVariants as system
 use Rattle.ilk_certificate.specs.CertificateText.{have_no_hint_zero}
 use Rattle.ilk_induct.proofs.Certificates.{hints_count, safe_certifies, spent_certifies}
 use Rattle.ilk_engine.specs.AskedOf.{AreVerdictQueries}
-use Rattle.ilk_engine.specs.CertificateOf.{IsCertificateOf, certificate_text_of}
+use Rattle.ilk_engine.specs.CertificateOf.{IsCertificateTextOfVerdict, certificate_text_of}
 use Rattle.ilk_engine.specs.Right.{IsRightVerdict}
 use Rattle.ilk_engine.specs.declared.verdict.Verdict.{Verdict}
 use Rattle.ilk_engine.specs.declared.verdict.Verdict.TheVariants.{Safe, Unsafe, Breach, NotInductive, Spent}
 
 pub text_certifies : (p : PlantLists) (depth conflicts : ℕ) (verdict : Verdict) (asked : List Asked) →
     depth ≤ 16 → IsRightVerdict p depth verdict ⊎ (verdict ≡ Spent) → AreVerdictQueries p depth conflicts verdict asked →
-    IsCertificateOf p depth conflicts verdict (certificate_text_of verdict asked)
+    IsCertificateTextOfVerdict p depth conflicts verdict (certificate_text_of verdict asked)
 text_certifies p depth conflicts (Safe k) asked deep (inl right) h = safe_certifies (system_of_plant p) (goal_of_plant p) depth conflicts k asked deep right.induction.so.0 h
 text_certifies p depth conflicts (Safe k) asked deep (inr spent) h = absurd cc
 text_certifies p depth conflicts (Unsafe events at) asked deep right h = refl

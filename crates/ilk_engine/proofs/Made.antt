@@ -17,18 +17,18 @@ use Rattle.ilk_unroll.specs.Goal.{PlainGoal}
 use Rattle.ilk_unroll.specs.declared.reading.Trace.{Trace}
 use Rattle.ilk_queries.specs.Asked.{ends_in_breach, ends_in_hazard}
 use Rattle.ilk_queries.specs.Goal.{goal_of_plant}
-use Rattle.ilk_queries.specs.Lifting.{IsGoalOfPlant, events_by_rules}
+use Rattle.ilk_queries.specs.Lifting.{GoalFormsMatchPlant, events_by_rules}
 use Rattle.ilk_queries.proofs.Steps.{rules-step}
 use Rattle.ilk_induct.specs.Right.{IsRightSystemVerdict, SystemVerdictHoldsAtAnyLength}
 use Rattle.ilk_induct.specs.declared.verdict.Verdict.{Verdict as SystemVerdict}
 use Rattle.ilk_induct.specs.declared.verdict.Verdict.TheVariants as system
-use Rattle.ilk_engine.specs.Lifted.{IsVerdictLiftedFrom}
+use Rattle.ilk_engine.specs.Lifted.{IsRightVerdictLiftedFrom}
 use Rattle.ilk_engine.specs.Right.{broken_family_after, hazard_after}
 use Rattle.ilk_engine.specs.declared.verdict.Verdict.TheVariants.{Safe, Unsafe, Breach, NotInductive, Spent}
 use Rattle.ilk_forever.proofs.OnPlant.{safe-forever}
 use Rattle.ilk_engine.proofs.Verdicts as on
 
-module _ (p : PlantLists) (plant : IsPlant p) (steps : SystemMatchesEvents p) (goal : IsGoalOfPlant p (goal_of_plant p)) where
+module _ (p : PlantLists) (plant : IsPlant p) (steps : SystemMatchesEvents p) (goal : GoalFormsMatchPlant p (goal_of_plant p)) where
   pub unsafe-fires : (depth : ℕ) (trace : Trace) → depth ≤ 16 → IsRightSystemVerdict (system_of_plant p) (goal_of_plant p) depth (system.Unsafe trace) → is_some (events_by_rules p trace.rules) ≡ true
   unsafe-fires = on.unsafe-fires p (rules-step p plant steps) (goal_of_plant p) goal
 
@@ -38,7 +38,7 @@ module _ (p : PlantLists) (plant : IsPlant p) (steps : SystemMatchesEvents p) (g
 
   pub unsafe-made : (depth : ℕ) (trace : Trace) (events : List Event) (at : HazardAt) → depth ≤ 16 →
       IsRightSystemVerdict (system_of_plant p) (goal_of_plant p) depth (system.Unsafe trace) → events_by_rules p trace.rules ≡ Some events →
-      hazard_after p events ≡ Some at → IsVerdictLiftedFrom p depth (system.Unsafe trace) (Unsafe events at)
+      hazard_after p events ≡ Some at → IsRightVerdictLiftedFrom p depth (system.Unsafe trace) (Unsafe events at)
   unsafe-made depth trace events at few right by is = record {
     right = inl (on.unsafe-right p (rules-step p plant steps) (goal_of_plant p) goal depth trace events at few right by is);
     lasts = tt;
@@ -54,7 +54,7 @@ module _ (p : PlantLists) (plant : IsPlant p) (steps : SystemMatchesEvents p) (g
 
   pub breach-made : (depth : ℕ) (trace : Trace) (events : List Event) (family : ℕ) → depth ≤ 16 →
       IsRightSystemVerdict (system_of_plant p) (goal_of_plant p) depth (system.Breach trace) → events_by_rules p trace.rules ≡ Some events →
-      broken_family_after p events ≡ Some family → IsVerdictLiftedFrom p depth (system.Breach trace) (Breach events family)
+      broken_family_after p events ≡ Some family → IsRightVerdictLiftedFrom p depth (system.Breach trace) (Breach events family)
   breach-made depth trace events family few right by is = record {
     right = inl (on.breach-right p (rules-step p plant steps) (goal_of_plant p) goal depth trace events family few right by is);
     lasts = tt;
@@ -75,7 +75,7 @@ module _ (p : PlantLists) (plant : IsPlant p) (steps : SystemMatchesEvents p) (g
       IsWellFormedAndSafe p first → image_of p first ≡ trace.first →
       IsRightSystemVerdict (system_of_plant p) (goal_of_plant p) depth (system.NotInductive trace) →
       events_by_rules p trace.rules ≡ Some events →
-      IsVerdictLiftedFrom p depth (system.NotInductive trace) (NotInductive first events)
+      IsRightVerdictLiftedFrom p depth (system.NotInductive trace) (NotInductive first events)
   out-made depth trace first events few calm image right by = record {
     right = inl (on.out-right p (rules-step p plant steps) (goal_of_plant p) goal depth trace first events few calm image right by);
     lasts = tt;
@@ -83,7 +83,7 @@ module _ (p : PlantLists) (plant : IsPlant p) (steps : SystemMatchesEvents p) (g
   }
 
   pub safe-made : (depth k : ℕ) → depth ≤ 16 → IsRightSystemVerdict (system_of_plant p) (goal_of_plant p) depth (system.Safe k) → SystemVerdictHoldsAtAnyLength (system_of_plant p) (goal_of_plant p) (system.Safe k) →
-      IsVerdictLiftedFrom p depth (system.Safe k) (Safe k)
+      IsRightVerdictLiftedFrom p depth (system.Safe k) (Safe k)
   safe-made depth k few right never = record {
     right = inl (on.safe-right p (rules-step p plant steps) (goal_of_plant p) goal depth k few right);
     lasts = safe-forever p (rules-step p plant steps) (goal_of_plant p) goal never;
@@ -98,10 +98,10 @@ pub over : (P : PlainSystem → PlainGoal → Type 0) (s t : PlainSystem) (g h :
 over P s t g h same also has = subst (λ (k : PlainGoal). P t k) also (subst (λ (u : PlainSystem). P u g) same has)
 
 pub safe-lifted :
-    (p : PlantLists) (plant : IsPlant p) (steps : SystemMatchesEvents p) (goal : IsGoalOfPlant p (goal_of_plant p)) (depth k : ℕ)
+    (p : PlantLists) (plant : IsPlant p) (steps : SystemMatchesEvents p) (goal : GoalFormsMatchPlant p (goal_of_plant p)) (depth k : ℕ)
     (found : SystemVerdict) → depth ≤ 16 →
     found ≡ system.Safe k → IsRightSystemVerdict (system_of_plant p) (goal_of_plant p) depth found ⊎ (found ≡ system.Spent) →
-    SystemVerdictHoldsAtAnyLength (system_of_plant p) (goal_of_plant p) found → IsVerdictLiftedFrom p depth found (Safe k)
+    SystemVerdictHoldsAtAnyLength (system_of_plant p) (goal_of_plant p) found → IsRightVerdictLiftedFrom p depth found (Safe k)
 safe-lifted p plant steps goal depth k found few same right never =
-    subst (λ (v : SystemVerdict). IsVerdictLiftedFrom p depth v (Safe k)) (sym same)
+    subst (λ (v : SystemVerdict). IsRightVerdictLiftedFrom p depth v (Safe k)) (sym same)
     (safe-made p plant steps goal depth k few (right-safe (system_of_plant p) (goal_of_plant p) depth found k same right) (subst (SystemVerdictHoldsAtAnyLength (system_of_plant p) (goal_of_plant p)) same never))

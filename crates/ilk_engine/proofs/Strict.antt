@@ -11,23 +11,23 @@ use Rattle.ilk_plant.specs.Start.{start}
 use Rattle.ilk_plant.specs.declared.state.State.{State}
 use Rattle.ilk_model.specs.Event.{next}
 use Rattle.ilk_model.specs.Hazard.{hazard}
-use Rattle.ilk_model.specs.Meets.{Meets, keeps_all}
+use Rattle.ilk_model.specs.Meets.{Meets, keeps_all_families}
 use Rattle.ilk_model.specs.Run.{run}
 use Rattle.ilk_model.specs.declared.event.Event.{Event}
 use Rattle.ilk_strict.specs.IsStrict.{IsStrict}
 use Rattle.ilk_strict.proofs.Invariant as invariant
 use Rattle.ilk_strict.proofs.Strict.{strict_from_list}
 use Rattle.ilk_unroll.specs.declared.queries.Wanted.TheVariants.{Hazard, Breach as BreachQuery, Step}
-use Rattle.ilk_queries.specs.Asked.{HasQueriedRun, ends_in_breach, ends_in_hazard, leaves_invariant_at, leaves_invariant, meets_invariant}
+use Rattle.ilk_queries.specs.Asked.{HasQueriedRun, ends_in_breach, ends_in_hazard, first_breaks_invariant_at, leaves_invariant, meets_invariant}
 use Rattle.ilk_queries.specs.Walk.{states_from}
 use Rattle.ilk_queries.proofs.Walks.{none-is}
-use Rattle.ilk_forever.specs.Forever.{IsAlwaysSafe}
+use Rattle.ilk_forever.specs.Forever.{AlwaysKeepsInvariant}
 use Rattle.ilk_forever.proofs.StrictForever.{strict-forever}
 use Rattle.ilk_engine.specs.Right.{IsRightVerdict}
 use Rattle.ilk_engine.specs.declared.verdict.Verdict.{Verdict}
 use Rattle.ilk_engine.specs.declared.verdict.Verdict.TheVariants.{Safe, Unsafe, Breach, NotInductive, Spent}
 
-no-hazard : (p : PlantLists) → IsAlwaysSafe p → (n : ℕ) → ¬ HasQueriedRun p (Hazard n)
+no-hazard : (p : PlantLists) → AlwaysKeepsInvariant p → (n : ℕ) → ¬ HasQueriedRun p (Hazard n)
 no-hazard p safe n has =
     let Ends : State → Type 0 = λ s. ends_in_hazard p s has.events ≡ true in
     let last = some-and (run p (start p) has.events) (λ t. is_some (hazard p t)) (subst Ends has.run.0 has.run.2) in
@@ -35,28 +35,27 @@ no-hazard p safe n has =
     let none : is_some (hazard p last.0) ≡ false = ap is_some meets.no_hazard in
     absurd (false≢true (sym none ∙ last.2))
 
-no-breach : (p : PlantLists) → IsAlwaysSafe p → (n : ℕ) → ¬ HasQueriedRun p (BreachQuery n)
+no-breach : (p : PlantLists) → AlwaysKeepsInvariant p → (n : ℕ) → ¬ HasQueriedRun p (BreachQuery n)
 no-breach p safe n has =
     let Ends : State → Type 0 = λ s. ends_in_breach p s has.events ≡ true in
-    let last = some-and (run p (start p) has.events) (λ t. is_none (hazard p t) && not (keeps_all p t)) (subst Ends has.run.0 has.run.2) in
+    let last = some-and (run p (start p) has.events) (λ t. is_none (hazard p t) && not (keeps_all_families p t)) (subst Ends has.run.0 has.run.2) in
     let meets = safe has.events last.0 last.1 in
-    let broken : not (keeps_all p last.0) ≡ true = (and_parts (is_none (hazard p last.0)) (not (keeps_all p last.0)) last.2).1 in
-    let kept : not (keeps_all p last.0) ≡ false = ap not meets.families_kept in
+    let broken : not (keeps_all_families p last.0) ≡ true = (and_parts (is_none (hazard p last.0)) (not (keeps_all_families p last.0)) last.2).1 in
+    let kept : not (keeps_all_families p last.0) ≡ false = ap not meets.families_kept in
     absurd (false≢true (sym kept ∙ broken))
 
--- Holds if an event leads from states that meet the invariant only to such states.
 abbrev KeepsInvariant : PlantLists → Type 0
 KeepsInvariant p = (s t : State) (event : Event) → Meets p s → next p s event ≡ Some t → Meets p t
 
 meets-true : (p : PlantLists) (s : State) → Meets p s → meets_invariant p s ≡ true
-meets-true p s m = and_from (is_none (hazard p s)) (keeps_all p s) (ap is_none m.no_hazard) m.families_kept
+meets-true p s m = and_from (is_none (hazard p s)) (keeps_all_families p s) (ap is_none m.no_hazard) m.families_kept
 
 meets-shaped : (p : PlantLists) (s : State) → HasShape p s → meets_invariant p s ≡ true → Meets p s
 meets-shaped p s shape e =
-    let parts = and_parts (is_none (hazard p s)) (keeps_all p s) e in
+    let parts = and_parts (is_none (hazard p s)) (keeps_all_families p s) e in
     record { shape = shape; no_hazard = none-is (hazard p s) parts.0; families_kept = parts.1 }
 
-leaves-two : (p : PlantLists) (s t : State) → leaves_invariant_at p 1 (s ∷ t ∷ []) ≡ true → (meets_invariant p s ≡ true) × (not (meets_invariant p t) ≡ true)
+leaves-two : (p : PlantLists) (s t : State) → first_breaks_invariant_at p 1 (s ∷ t ∷ []) ≡ true → (meets_invariant p s ≡ true) × (not (meets_invariant p t) ≡ true)
 leaves-two p s t e =
     let parts = and_parts (meets_invariant p s && true) (not (meets_invariant p t)) e in
     ((and_parts (meets_invariant p s) true parts.0).0, parts.1)
@@ -64,10 +63,10 @@ leaves-two p s t e =
 no-step : (p : PlantLists) → KeepsInvariant p → ¬ HasQueriedRun p (Step 1)
 no-step p law has = by_events has.events has.run.1 has.run.2
   where
-    by_next : (event : Event) (o : Option State) → next p has.first event ≡ o → (states : List State) → option_map (λ more. has.first ∷ more) (option_and_then (λ t. Some (t ∷ [])) o) ≡ Some states → leaves_invariant_at p 1 states ≡ true → ⊥
+    by_next : (event : Event) (o : Option State) → next p has.first event ≡ o → (states : List State) → option_map (λ more. has.first ∷ more) (option_and_then (λ t. Some (t ∷ [])) o) ≡ Some states → first_breaks_invariant_at p 1 states ≡ true → ⊥
     by_next event None goes states led e = absurd (cc)
     by_next event (Some t) goes states led e =
-        let Leaves : List State → Type 0 = λ l. leaves_invariant_at p 1 l ≡ true in
+        let Leaves : List State → Type 0 = λ l. first_breaks_invariant_at p 1 l ≡ true in
         let two = leaves-two p has.first t (subst Leaves (sym (same_Some (has.first ∷ t ∷ []) states led)) e) in
         let kept : not (meets_invariant p t) ≡ false = ap not (meets-true p t (law has.first t event (meets-shaped p has.first has.shape two.0) goes)) in
         false≢true (sym kept ∙ two.1)
@@ -75,11 +74,11 @@ no-step p law has = by_events has.events has.run.1 has.run.2
     by_events : (events : List Event) → length events ≡ 1 → leaves_invariant p has.first events ≡ true → ⊥
     by_events [] n e = absurd (omega (arith, n))
     by_events (event ∷ []) n e =
-        let led = some-and (states_from p has.first (event ∷ [])) (leaves_invariant_at p 1) e in
+        let led = some-and (states_from p has.first (event ∷ [])) (first_breaks_invariant_at p 1) e in
         by_next event (next p has.first event) refl led.0 led.1 led.2
     by_events (event ∷ other ∷ rest) n e = absurd (omega (arith, n))
 
-right-at_one : (p : PlantLists) (depth : ℕ) (verdict : Verdict) → 0 < depth → IsAlwaysSafe p → ¬ HasQueriedRun p (Step 1) → IsRightVerdict p depth verdict → verdict ≡ Safe 1
+right-at_one : (p : PlantLists) (depth : ℕ) (verdict : Verdict) → 0 < depth → AlwaysKeepsInvariant p → ¬ HasQueriedRun p (Step 1) → IsRightVerdict p depth verdict → verdict ≡ Safe 1
 right-at_one p depth (Unsafe events at) some safe none right = absurd (no-hazard p safe (length events) right.0.hazard.so)
 right-at_one p depth (Breach events family) some safe none right = absurd (no-breach p safe (length events) right.0.breach.so)
 right-at_one p depth (Safe zero) some safe none right = absurd (omega (arith, right.induction.so.0))

@@ -20,19 +20,19 @@ use Rattle.ilk_unroll.specs.declared.queries.Wanted.{Wanted}
 use Rattle.ilk_unroll.specs.declared.queries.Wanted.TheVariants.{Hazard, Breach as BreachQuery, Step}
 use Rattle.ilk_unroll.specs.declared.reading.Trace.{Trace}
 use Rattle.ilk_unroll.proofs.QueryLaw.{wants}
-use Rattle.ilk_queries.specs.Asked.{HasQueriedRun, IsRunFor, ends_in_breach, ends_in_hazard}
-use Rattle.ilk_queries.specs.Lifting.{IsGoalOfPlant, RulesStepLikeEvents, events_by_rules}
+use Rattle.ilk_queries.specs.Asked.{HasQueriedRun, IsRunForQuery, ends_in_breach, ends_in_hazard}
+use Rattle.ilk_queries.specs.Lifting.{GoalFormsMatchPlant, RulesStepLikeEvents, events_by_rules}
 use Rattle.ilk_queries.proofs.Answered.{first-values, to-asked}
 use Rattle.ilk_queries.proofs.Lifted.{lifted}
 use Rattle.ilk_unroll.specs.Evidence.{HasRun}
-use Rattle.ilk_induct.specs.Right.{HasBreachWithoutHazard, IsNotInductive, IsRightSystemVerdict, IsRunOfQuery, IsUnsafe}
+use Rattle.ilk_induct.specs.Right.{IsShortestBreachWithoutHazard, NeitherBreachNorInductive, IsRightSystemVerdict, IsRunOfQuery, IsShortestHazardLength}
 use Rattle.ilk_induct.specs.declared.verdict.Verdict.TheVariants as system
 use Rattle.ilk_engine.specs.Right.{IsRightVerdict, broken_family_after, hazard_after}
 use Rattle.ilk_engine.specs.declared.verdict.Verdict.TheVariants.{Safe, Unsafe, Breach, NotInductive}
 use Rattle.ilk_engine.proofs.Carried.{carried-breach, carried-not, carried-safe, carried-unsafe}
 use Rattle.ilk_forever.proofs.OnPlant.{has-lifted, has-run}
 
-module _ (p : PlantLists) (lead : RulesStepLikeEvents p) (g : PlainGoal) (goal : IsGoalOfPlant p g) where
+module _ (p : PlantLists) (lead : RulesStepLikeEvents p) (g : PlainGoal) (goal : GoalFormsMatchPlant p g) where
   up : (q : Wanted) → HasQueriedRun p q → HasRun (system_of_plant p) g q
   up = has-run p lead g goal
 
@@ -42,7 +42,7 @@ module _ (p : PlantLists) (lead : RulesStepLikeEvents p) (g : PlainGoal) (goal :
   record HasLedToHazard (depth : ℕ) (trace : Trace) : Type 0 where
     events : List Event
     by_rules : events_by_rules p trace.rules ≡ Some events
-    least : IsUnsafe (HasQueriedRun p) depth (length events)
+    least : IsShortestHazardLength (HasQueriedRun p) depth (length events)
     ends : ends_in_hazard p (start p) events ≡ true
 
   led-to-hazard : (depth : ℕ) (trace : Trace) → depth ≤ 16 → IsRightSystemVerdict (system_of_plant p) g depth (system.Unsafe trace) → HasLedToHazard depth trace
@@ -52,7 +52,7 @@ module _ (p : PlantLists) (lead : RulesStepLikeEvents p) (g : PlainGoal) (goal :
       record {
         events = l.events;
         by_rules = l.by_rules;
-        least = subst (IsUnsafe (HasQueriedRun p) depth) (sym l.run.1) (carried-unsafe (HasRun (system_of_plant p) g) (HasQueriedRun p) up down depth (length trace.rules) few right.0);
+        least = subst (IsShortestHazardLength (HasQueriedRun p) depth) (sym l.run.1) (carried-unsafe (HasRun (system_of_plant p) g) (HasQueriedRun p) up down depth (length trace.rules) few right.0);
         ends = subst (λ (s : State). ends_in_hazard p s l.events ≡ true) l.run.0 l.run.2;
       }
 
@@ -70,13 +70,13 @@ module _ (p : PlantLists) (lead : RulesStepLikeEvents p) (g : PlainGoal) (goal :
   unsafe-right depth trace events at few right by is =
       let led = led-to-hazard depth trace few right in
       let same : led.events ≡ events = same_Some led.events events (sym led.by_rules ∙ by) in
-      let least : IsUnsafe (HasQueriedRun p) depth (length events) = subst (λ (es : List Event). IsUnsafe (HasQueriedRun p) depth (length es)) same led.least in
+      let least : IsShortestHazardLength (HasQueriedRun p) depth (length events) = subst (λ (es : List Event). IsShortestHazardLength (HasQueriedRun p) depth (length es)) same led.least in
       (least, (refl, refl, unsafe-ends depth trace events few right by), is)
 
   record HasLedToBreach (depth : ℕ) (trace : Trace) : Type 0 where
     events : List Event
     by_rules : events_by_rules p trace.rules ≡ Some events
-    least : HasBreachWithoutHazard (HasQueriedRun p) depth (length events)
+    least : IsShortestBreachWithoutHazard (HasQueriedRun p) depth (length events)
     ends : ends_in_breach p (start p) events ≡ true
 
   led-to-breach : (depth : ℕ) (trace : Trace) → depth ≤ 16 → IsRightSystemVerdict (system_of_plant p) g depth (system.Breach trace) → HasLedToBreach depth trace
@@ -86,7 +86,7 @@ module _ (p : PlantLists) (lead : RulesStepLikeEvents p) (g : PlainGoal) (goal :
       record {
         events = l.events;
         by_rules = l.by_rules;
-        least = subst (HasBreachWithoutHazard (HasQueriedRun p) depth) (sym l.run.1) (carried-breach (HasRun (system_of_plant p) g) (HasQueriedRun p) up down depth (length trace.rules) few right.0);
+        least = subst (IsShortestBreachWithoutHazard (HasQueriedRun p) depth) (sym l.run.1) (carried-breach (HasRun (system_of_plant p) g) (HasQueriedRun p) up down depth (length trace.rules) few right.0);
         ends = subst (λ (s : State). ends_in_breach p s l.events ≡ true) l.run.0 l.run.2;
       }
 
@@ -104,7 +104,7 @@ module _ (p : PlantLists) (lead : RulesStepLikeEvents p) (g : PlainGoal) (goal :
   breach-right depth trace events family few right by is =
       let led = led-to-breach depth trace few right in
       let same : led.events ≡ events = same_Some led.events events (sym led.by_rules ∙ by) in
-      let least : HasBreachWithoutHazard (HasQueriedRun p) depth (length events) = subst (λ (es : List Event). HasBreachWithoutHazard (HasQueriedRun p) depth (length es)) same led.least in
+      let least : IsShortestBreachWithoutHazard (HasQueriedRun p) depth (length events) = subst (λ (es : List Event). IsShortestBreachWithoutHazard (HasQueriedRun p) depth (length es)) same led.least in
       (least, (refl, refl, breach-ends depth trace events few right by), is)
 
   begins-at-image : (depth : ℕ) (trace : Trace) → 0 < depth → IsRunOfQuery (system_of_plant p) g (Step depth) trace → AreImageOfSafeState p trace.first
@@ -120,7 +120,7 @@ module _ (p : PlantLists) (lead : RulesStepLikeEvents p) (g : PlainGoal) (goal :
   record HasLedOut (depth : ℕ) (trace : Trace) (first : State) : Type 0 where
     events : List Event
     by_rules : events_by_rules p trace.rules ≡ Some events
-    run : IsRunFor p (Step depth) first events
+    run : IsRunForQuery p (Step depth) first events
 
   led-out : (depth : ℕ) (trace : Trace) (first : State) → IsWellFormedAndSafe p first → image_of p first ≡ trace.first → IsRunOfQuery (system_of_plant p) g (Step depth) trace → HasLedOut depth trace first
   led-out depth trace first calm image run =
@@ -139,8 +139,8 @@ module _ (p : PlantLists) (lead : RulesStepLikeEvents p) (g : PlainGoal) (goal :
   out-right depth trace first events few calm image right by =
       let led = led-out depth trace first calm image right.1 in
       let same : led.events ≡ events = same_Some led.events events (sym led.by_rules ∙ by) in
-      let none : IsNotInductive (HasQueriedRun p) depth = carried-not (HasRun (system_of_plant p) g) (HasQueriedRun p) up down depth few right.0 in
-      (none, subst (λ (es : List Event). IsRunFor p (Step depth) first es) same led.run)
+      let none : NeitherBreachNorInductive (HasQueriedRun p) depth = carried-not (HasRun (system_of_plant p) g) (HasQueriedRun p) up down depth few right.0 in
+      (none, subst (λ (es : List Event). IsRunForQuery p (Step depth) first es) same led.run)
 
   pub safe-right : (depth k : ℕ) → depth ≤ 16 → IsRightSystemVerdict (system_of_plant p) g depth (system.Safe k) → IsRightVerdict p depth (Safe k)
   safe-right depth k few right = carried-safe (HasRun (system_of_plant p) g) (HasQueriedRun p) up down depth k few right

@@ -13,13 +13,13 @@ use Rattle.ilk_induct.specs.declared.verdict.Verdict.TheVariants as system
 use Rattle.ilk_engine.specs.declared.verdict.Verdict.{Verdict}
 use Rattle.ilk_engine.specs.declared.verdict.Verdict.TheVariants.{Safe, Unsafe, Breach, NotInductive, Spent}
 
--- Holds if `asked` are the queries for this verdict on the plant's system, in order, each with its
--- log.
+-- Holds if `asked` are the queries that lead to this verdict on the plant's system, in order, each
+-- with its log. The numbers are the depth and the conflict budget.
 abbrev pub AreSystemVerdictQueries : PlantLists → ℕ → ℕ → SystemVerdict → List Asked → Type 0
 AreSystemVerdictQueries p depth conflicts verdict asked = AreQueriesOfVerdict (system_of_plant p) (goal_of_plant p) depth conflicts verdict asked
 
--- Holds if `asked` are the queries for a verdict on the plant. Its run is that of the system's
--- verdict, in states and events.
+-- Holds if `asked` are the queries that lead to this verdict on the plant, in order, each with its
+-- log. The numbers are the depth and the conflict budget.
 abbrev pub AreVerdictQueries : PlantLists → ℕ → ℕ → Verdict → List Asked → Type 0
 AreVerdictQueries p depth conflicts (Safe k) asked = AreSystemVerdictQueries p depth conflicts (system.Safe k) asked
 -- The rules of the system's run have these events, one after another.

@@ -1,4 +1,4 @@
--- Used only by private contracts: the verdict made from that on the system.
+-- For private contracts: the verdict made from that on the system.
 use Rattle.std.specs.Prelude.{ℕ, ◌≡◌, ◌⊎◌, List, flat_map, option_to_list}
 use Rattle.ilk_plant.specs.Plant.{PlantLists}
 use Rattle.ilk_model.specs.declared.event.Event.{Event}
@@ -11,13 +11,13 @@ use Rattle.ilk_engine.specs.Right.{IsRightVerdict}
 use Rattle.ilk_engine.specs.declared.verdict.Verdict.{Verdict}
 use Rattle.ilk_engine.specs.declared.verdict.Verdict.TheVariants.{Spent}
 
--- The events of fired rules, which are given by number. Rules without an event are left out.
+-- The events of the rules with these numbers, in order. Rules without an event are left out.
 abbrev pub events_of_fired_rules : PlantLists → List ℕ → List Event
 events_of_fired_rules p rules = flat_map (λ i. option_to_list (event_of_rule p i)) rules
 
--- Holds if the verdict is right and holds at any length, and the queries asked for `found` on the
--- system are those asked for it.
-pub record IsVerdictLiftedFrom (p : PlantLists) (depth : ℕ) (found : SystemVerdict) (verdict : Verdict) : Type 0 where
+-- Holds if a verdict on the plant is right or `Spent`, and a safe one holds for runs of any length.
+-- The queries that lead to `found`, the verdict on the plant's system, also lead to it.
+pub record IsRightVerdictLiftedFrom (p : PlantLists) (depth : ℕ) (found : SystemVerdict) (verdict : Verdict) : Type 0 where
   pub right : IsRightVerdict p depth verdict ⊎ (verdict ≡ Spent)
   pub lasts : SafeVerdictMeansAlwaysSafe p verdict
   pub asked : (conflicts : ℕ) (asked : List Asked) → AreSystemVerdictQueries p depth conflicts found asked → AreVerdictQueries p depth conflicts verdict asked

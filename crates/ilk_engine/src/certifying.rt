@@ -7,9 +7,9 @@ use ilk_base::Row;
 use ilk_certificate::{Asked, CertificateText, safe_text, spent_text};
 use std::alloc::{AllocError, Global};
 
-/// Returns the text of the certificate for a verdict; each of its lines ends in a line feed. The
-/// text is empty unless the verdict is `Safe` or `Spent`. No hint may be 0, as in the results of
-/// `decide`. Fails only if memory runs out.
+/// Returns the text of the certificate of a verdict that `decide` found; each line ends in a line
+/// feed. The text is empty unless the verdict is `Safe` or `Spent`. No hint in the logs may be 0,
+/// which the results of `decide` ensure. Fails only if memory runs out.
 pub fn certificate(alloc: Global, found: &Found) -> Result<Vec<u8>, AllocError>
     requires hints { IsTrue (have_no_hint_zero found.now.asked) }
     ensures { IfOk result
@@ -23,8 +23,8 @@ pub fn certificate(alloc: Global, found: &Found) -> Result<Vec<u8>, AllocError>
     }
 }
 
-/// Returns the text of the certificate of `verdict`, to be taken in pieces. It owns the logs of
-/// `asked`, and is made from them as it is taken. Fails only if memory runs out.
+/// Returns the text of the certificate of `verdict`, made from the logs of `asked` only as it is
+/// taken, in pieces. Fails only if memory runs out.
 pub fn lazy_certificate_text(
     alloc: Global,
     verdict: &Verdict,

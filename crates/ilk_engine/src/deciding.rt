@@ -1,7 +1,7 @@
 ghost use Rattle.std.specs.Prelude.{◌≡◌, ◌<◌, ◌≤◌, ◌⊎◌, IfOk, IsTrue};
 ghost use Rattle.ilk_certificate.specs.CertificateText.{total_conflicts, have_no_hint_zero};
 ghost use Rattle.ilk_engine.specs.AskedOf.{AreVerdictQueries};
-ghost use Rattle.ilk_engine.specs.CertificateOf.{IsCertificateOf, certificate_text_of};
+ghost use Rattle.ilk_engine.specs.CertificateOf.{IsCertificateTextOfVerdict, certificate_text_of};
 ghost use Rattle.ilk_engine.specs.Forever.{SafeVerdictMeansAlwaysSafe};
 ghost use Rattle.ilk_engine.specs.Right.{IsRightVerdict};
 ghost use Rattle.ilk_strict.specs.IsStrict.{IsStrict};
@@ -15,7 +15,7 @@ use ilk_queries::goal;
 use std::alloc::{AllocError, Global};
 
 /// Decides whether a run of the plant's events reaches a hazard or breaks a family, by runs of at
-/// most `depth` events, from 1 to 16. The searches together take at most `conflicts` conflicts.
+/// most `depth` events, from 1 to 16. The searches together learn at most `conflicts` clauses.
 /// Fails only if memory runs out.
 ///
 /// It first asks the hazard query and the breach query for no event. Then it asks the hazard,
@@ -42,7 +42,7 @@ pub fn decide(alloc: Global, plant: &Plant, depth: u32, conflicts: u64) -> Resul
 
     // The text that `certificate` writes is the certificate of the verdict.
     ensures certified { IfOk result
-        (λ found. IsCertificateOf plant.now depth conflicts found.verdict
+        (λ found. IsCertificateTextOfVerdict plant.now depth conflicts found.verdict
         (certificate_text_of found.verdict found.asked)) }
     ensures hints { IfOk result (λ found. IsTrue (have_no_hint_zero found.asked)) }
 {

@@ -10,7 +10,6 @@ use ilk_plant::Plant;
 use ilk_unroll::Rows;
 use std::alloc::{AllocError, Global};
 
-// Adds the event of a rule, if it has one.
 fn push_event(plant: &Plant, events: &mut Row<Event>, rule: u32) -> Result<(), AllocError>
     ensures { OnOk result
         (events.new ≡ events.old ++ option_to_list (event_of_rule plant.now rule)) }
@@ -24,7 +23,6 @@ fn push_event(plant: &Plant, events: &mut Row<Event>, rule: u32) -> Result<(), A
     }
 }
 
-// Adds the events of the rules that have one.
 fn push_events(plant: &Plant, events: &mut Row<Event>, rules: &Rows) -> Result<(), AllocError>
     ensures { OnOk result (events.new ≡ events.old ++ events_of_fired_rules plant.now rules.now) }
 {

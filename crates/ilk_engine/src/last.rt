@@ -10,7 +10,6 @@ use ilk_model::{Event, HazardAt, apply, broken_family, hazard, start};
 use ilk_plant::{Plant, State};
 use std::alloc::{AllocError, Global};
 
-// Returns the state to which a run leads from the initial state.
 fn state_after(alloc: Global, plant: &Plant, events: &Row<Event>) -> Result<State, AllocError>
     requires { IsTrue (is_some (run plant.now (start plant.now) events.now)) }
     ensures state { IfOk result (λ s. run plant.now (start plant.now) events.now ≡ Some s) }
@@ -23,7 +22,7 @@ fn state_after(alloc: Global, plant: &Plant, events: &Row<Event>) -> Result<Stat
     Ok(s)
 }
 
-/// Returns the hazard in which a run from the initial state ends.
+/// Returns the hazard in which the run of `events` from the initial state ends.
 pub(crate) fn hazard_after(
     alloc: Global,
     plant: &Plant,
@@ -36,7 +35,7 @@ pub(crate) fn hazard_after(
     Ok(hazard(plant, &last).unwrap())
 }
 
-/// Returns the least family that the last state of a run from the initial state breaks.
+/// Returns the least family that the last state of the run of `events` breaks.
 pub(crate) fn broken_family_after(
     alloc: Global,
     plant: &Plant,

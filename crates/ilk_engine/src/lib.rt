@@ -1,15 +1,14 @@
 //! The verdict on a plant: whether a run of its events, of any length, reaches a hazard or breaks a
 //! family of the invariant.
 //!
-//! `specs/Right` defines the right verdicts, in states and events. If a plant is safe, each run
-//! from the initial state, of any length, ends in a state that meets the invariant (`ilk_forever`).
-//! `decide` searches over the plant's finite system (`ilk_induct`) and returns its runs as runs of
-//! events. A query has a run of the system if and only if the plant has one (`runs_correspond` of
-//! `ilk_forever`).
+//! `specs/Right` defines the right verdicts, in states and events. If a plant is safe, runs of any
+//! length from the initial state keep the invariant (`ilk_forever`). `decide` searches over the
+//! plant's finite system (`ilk_induct`) and returns its runs as runs of events. A query has a run
+//! of the system if and only if the plant has one (`query_runs_correspond` of `ilk_forever`).
 //!
 //! `certificate` writes the text that proves a verdict to others (`specs/CertificateOf`).
-//! `lazy_certificate_text` returns it in pieces, so that it is never held as a whole. `ilk_forever`
-//! says what a certificate shows, regardless of its origin.
+//! `lazy_certificate_text` returns it in pieces, so that it is never in memory as a whole.
+//! `ilk_forever` says what a certificate shows, regardless of its origin.
 //!
 //! Re-exports: `formula` makes the formula of one query, an `Asked` is a query with the log of its
 //! search, and `CertAudit` checks a certificate in pieces.

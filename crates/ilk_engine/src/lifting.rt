@@ -4,8 +4,8 @@ ghost use Rattle.ilk_behave.specs.Steps.{SystemMatchesEvents};
 ghost use Rattle.ilk_induct.specs.Right.{IsRightSystemVerdict, SystemVerdictHoldsAtAnyLength};
 ghost use Rattle.ilk_induct.specs.declared.verdict.Verdict.TheVariants as system;
 ghost use Rattle.ilk_queries.specs.Goal.{goal_of_plant};
-ghost use Rattle.ilk_queries.specs.Lifting.{IsGoalOfPlant};
-ghost use Rattle.ilk_engine.specs.Lifted.{IsVerdictLiftedFrom};
+ghost use Rattle.ilk_queries.specs.Lifting.{GoalFormsMatchPlant};
+ghost use Rattle.ilk_engine.specs.Lifted.{IsRightVerdictLiftedFrom};
 
 use crate::events::events_of_rules;
 use crate::last::{broken_family_after, hazard_after};
@@ -17,7 +17,6 @@ use ilk_plant::Plant;
 use ilk_unroll::Trace;
 use std::alloc::{AllocError, Global};
 
-// Returns `Unsafe` with the events of `trace`.
 fn lift_unsafe(
     alloc: Global,
     plant: &Plant,
@@ -25,12 +24,12 @@ fn lift_unsafe(
     trace: &Trace,
 ) -> Result<Verdict, AllocError>
     requires steps { SystemMatchesEvents plant.now }
-    requires goal { IsGoalOfPlant plant.now (goal_of_plant plant.now) }
+    requires goal { GoalFormsMatchPlant plant.now (goal_of_plant plant.now) }
     requires depth { depth ≤ 16 }
     requires right { IsRightSystemVerdict (system_of_plant plant.now)
         (goal_of_plant plant.now) depth
         (system.Unsafe trace.now) }
-    ensures { IfOk result (IsVerdictLiftedFrom plant.now depth (system.Unsafe trace.now)) }
+    ensures { IfOk result (IsRightVerdictLiftedFrom plant.now depth (system.Unsafe trace.now)) }
 {
     plant.prove_is_plant();
     let events = events_of_rules(alloc, plant, &trace.rules)?;
@@ -38,7 +37,6 @@ fn lift_unsafe(
     Ok(Verdict::Unsafe { events, hazard })
 }
 
-// Returns `Breach` with the events of `trace`.
 fn lift_breach(
     alloc: Global,
     plant: &Plant,
@@ -46,12 +44,12 @@ fn lift_breach(
     trace: &Trace,
 ) -> Result<Verdict, AllocError>
     requires steps { SystemMatchesEvents plant.now }
-    requires goal { IsGoalOfPlant plant.now (goal_of_plant plant.now) }
+    requires goal { GoalFormsMatchPlant plant.now (goal_of_plant plant.now) }
     requires depth { depth ≤ 16 }
     requires right { IsRightSystemVerdict (system_of_plant plant.now)
         (goal_of_plant plant.now) depth
         (system.Breach trace.now) }
-    ensures { IfOk result (IsVerdictLiftedFrom plant.now depth (system.Breach trace.now)) }
+    ensures { IfOk result (IsRightVerdictLiftedFrom plant.now depth (system.Breach trace.now)) }
 {
     plant.prove_is_plant();
     let events = events_of_rules(alloc, plant, &trace.rules)?;
@@ -59,7 +57,6 @@ fn lift_breach(
     Ok(Verdict::Breach { events, family })
 }
 
-// Returns `NotInductive` with the first state and the events of `trace`.
 fn lift_not_inductive(
     alloc: Global,
     plant: &Plant,
@@ -67,13 +64,14 @@ fn lift_not_inductive(
     trace: &Trace,
 ) -> Result<Verdict, AllocError>
     requires steps { SystemMatchesEvents plant.now }
-    requires goal { IsGoalOfPlant plant.now (goal_of_plant plant.now) }
+    requires goal { GoalFormsMatchPlant plant.now (goal_of_plant plant.now) }
     requires some_depth { 0 < depth }
     requires depth { depth ≤ 16 }
     requires right { IsRightSystemVerdict (system_of_plant plant.now)
         (goal_of_plant plant.now) depth
         (system.NotInductive trace.now) }
-    ensures { IfOk result (IsVerdictLiftedFrom plant.now depth (system.NotInductive trace.now)) }
+    ensures { IfOk result (IsRightVerdictLiftedFrom plant.now depth
+        (system.NotInductive trace.now)) }
 {
     plant.prove_is_plant();
     wellformed_iff_image(plant);
@@ -90,7 +88,7 @@ pub(crate) fn lift(
     verdict: &SystemVerdict,
 ) -> Result<Verdict, AllocError>
     requires steps { SystemMatchesEvents plant.now }
-    requires goal { IsGoalOfPlant plant.now (goal_of_plant plant.now) }
+    requires goal { GoalFormsMatchPlant plant.now (goal_of_plant plant.now) }
     requires some_depth { 0 < depth }
     requires depth { depth ≤ 16 }
     requires right { IsRightSystemVerdict (system_of_plant plant.now)
@@ -99,7 +97,7 @@ pub(crate) fn lift(
         ⊎ (verdict.now ≡ system.Spent) }
     requires lasts { SystemVerdictHoldsAtAnyLength (system_of_plant plant.now)
         (goal_of_plant plant.now) verdict.now }
-    ensures { IfOk result (IsVerdictLiftedFrom plant.now depth verdict.now) }
+    ensures { IfOk result (IsRightVerdictLiftedFrom plant.now depth verdict.now) }
 {
     plant.prove_is_plant();
     match verdict {

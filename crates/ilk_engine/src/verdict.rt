@@ -3,7 +3,7 @@ use ilk_certificate::Asked;
 use ilk_model::{Event, HazardAt};
 use ilk_plant::State;
 
-/// The verdict on a plant.
+/// The verdict on a plant, found by runs up to a depth.
 #[derive(Drop)]
 pub enum Verdict {
     /// No run of any length from the initial state reaches a hazard or breaks a family. The
@@ -11,7 +11,7 @@ pub enum Verdict {
     Safe {
         k: u32,
     },
-    /// These events are a shortest run from the initial state to a hazard, and end in this one.
+    /// These events are a shortest run from the initial state to a hazard, which is `at`.
     Unsafe {
         events: Row<Event>,
         hazard: HazardAt,
@@ -22,13 +22,14 @@ pub enum Verdict {
         events: Row<Event>,
         family: u8,
     },
-    /// None of these within the depth. From the first state, as many events as the depth lead
-    /// through states that meet the invariant to one that doesn't.
+    /// No run within the depth reaches a hazard or breaks a family, and induction fails. From the
+    /// first state, as many events as the depth lead through states that meet the invariant to one
+    /// that doesn't.
     NotInductive {
         first: State,
         events: Row<Event>,
     },
-    /// The searches took all the conflicts that they were allowed, and another one would be needed.
+    /// The conflict budget of the searches is used up. Says nothing of the plant.
     Spent,
 }
 
@@ -36,6 +37,6 @@ pub enum Verdict {
 #[derive(Drop)]
 pub struct Found {
     pub verdict: Verdict,
-    /// The queries in the order in which they were asked.
+    /// The queries in the order in which they were asked, each with its log.
     pub asked: Row<Asked>,
 }

@@ -10,20 +10,20 @@ use Rattle.ilk_plant.specs.Start.{start}
 use Rattle.ilk_plant.proofs.Shapes.{start-shape}
 use Rattle.ilk_plant.specs.declared.state.State.{State}
 use Rattle.ilk_model.specs.Hazard.{hazard}
-use Rattle.ilk_model.specs.Meets.{Meets, keeps_all}
+use Rattle.ilk_model.specs.Meets.{Meets, keeps_all_families}
 use Rattle.ilk_model.specs.Run.{run}
 use Rattle.ilk_model.specs.declared.event.Event.{Event}
 use Rattle.ilk_model.specs.declared.hazards.HazardAt.{HazardAt}
 use Rattle.ilk_unroll.specs.Goal.{PlainGoal}
 use Rattle.ilk_unroll.specs.declared.queries.Wanted.TheVariants.{Hazard, Breach}
-use Rattle.ilk_unroll.specs.Evidence.{IsSafeForAllRuns}
+use Rattle.ilk_unroll.specs.Evidence.{NoHazardOrBreachEver}
 use Rattle.ilk_queries.specs.Asked.{HasQueriedRun}
-use Rattle.ilk_queries.specs.Lifting.{IsGoalOfPlant, RulesStepLikeEvents}
+use Rattle.ilk_queries.specs.Lifting.{GoalFormsMatchPlant, RulesStepLikeEvents}
 use Rattle.ilk_queries.proofs.Queries.{shaped-at}
 use Rattle.ilk_queries.proofs.Walks.{run-states, states-shaped}
-use Rattle.ilk_forever.specs.Forever.{IsAlwaysSafe}
+use Rattle.ilk_forever.specs.Forever.{AlwaysKeepsInvariant}
 
-pub run-shape : (p : PlantLists) (steps : RulesStepLikeEvents p) (g : PlainGoal) (goal : IsGoalOfPlant p g) (s t : State) (events : List Event) → HasShape p s → run p s events ≡ Some t → HasShape p t
+pub run-shape : (p : PlantLists) (steps : RulesStepLikeEvents p) (g : PlainGoal) (goal : GoalFormsMatchPlant p g) (s t : State) (events : List Event) → HasShape p s → run p s events ≡ Some t → HasShape p t
 run-shape p steps g goal s t events shape ends =
     let led = run-states p s t events ends in
     shaped-at p led.0 (length events) t (states-shaped p steps g goal s events led.0 shape led.1) led.3
@@ -36,21 +36,21 @@ to-hazard p events t ends some = record {
   run = (refl, refl, ap (λ o. is_some_and o (λ u. is_some (hazard p u))) ends ∙ some);
 }
 
-to-breach : (p : PlantLists) (events : List Event) (t : State) → run p (start p) events ≡ Some t → hazard p t ≡ None → keeps_all p t ≡ false → HasQueriedRun p (Breach (length events))
+to-breach : (p : PlantLists) (events : List Event) (t : State) → run p (start p) events ≡ Some t → hazard p t ≡ None → keeps_all_families p t ≡ false → HasQueriedRun p (Breach (length events))
 to-breach p events t ends none broken = record {
   first = start p;
   shape = start-shape p;
   events = events;
-  run = (refl, refl, ap (λ o. is_some_and o (λ u. is_none (hazard p u) && not (keeps_all p u))) ends ∙ and_from _ _ (ap is_none none) (ap not broken));
+  run = (refl, refl, ap (λ o. is_some_and o (λ u. is_none (hazard p u) && not (keeps_all_families p u))) ends ∙ and_from _ _ (ap is_none none) (ap not broken));
 }
 
-pub forever-safe : (p : PlantLists) (steps : RulesStepLikeEvents p) (g : PlainGoal) (goal : IsGoalOfPlant p g) → IsSafeForAllRuns (HasQueriedRun p) → IsAlwaysSafe p
+pub forever-safe : (p : PlantLists) (steps : RulesStepLikeEvents p) (g : PlainGoal) (goal : GoalFormsMatchPlant p g) → NoHazardOrBreachEver (HasQueriedRun p) → AlwaysKeepsInvariant p
 forever-safe p steps g goal never events t ends = by_hazard (hazard p t) refl
   where
-    by_kept : hazard p t ≡ None → (b : Bool) → keeps_all p t ≡ b → Meets p t
+    by_kept : hazard p t ≡ None → (b : Bool) → keeps_all_families p t ≡ b → Meets p t
     by_kept none true kept = record { shape = run-shape p steps g goal (start p) t events (start-shape p) ends; no_hazard = none; families_kept = kept }
     by_kept none false broken = absurd ((never (length events)).1 (to-breach p events t ends none broken))
 
     by_hazard : (o : Option HazardAt) → hazard p t ≡ o → Meets p t
-    by_hazard None none = by_kept none (keeps_all p t) refl
+    by_hazard None none = by_kept none (keeps_all_families p t) refl
     by_hazard (Some h) some = absurd ((never (length events)).0 (to-hazard p events t ends (ap is_some some)))

@@ -10,7 +10,7 @@ use Rattle.ilk_cnf.specs.Truth.{is_true}
 use Rattle.ilk_cnf.proofs.Parts.{is_true-left}
 use Rattle.ilk_ir.specs.Tree.{Tree, yes, no, is, all_of, any_of, negation, Trees, none, more, tree_holds, some_holds, tree_valid, each_valid, value_valid}
 use Rattle.ilk_forms.specs.declared.bound.VarUpperBound.{VarUpperBound}
-use Rattle.ilk_forms.specs.Bound.{next_consecutive_value, last_consecutive_value, bound_of_or_form}
+use Rattle.ilk_forms.specs.Bound.{next_value_if_stated, last_consecutive_value, bound_from_or_of_values}
 
 abbrev pub at_most : List ℕ → ℕ → ℕ → Bool
 at_most ws v k = is_some_and (slice_get ws v) (λ w. leb w k)
@@ -28,7 +28,7 @@ pub stands-left : (a b : List Bool) (o : Option Literal) (p q : Bool) → ((l : 
 stands-left a b None p q low h = h
 stands-left a b (Some l) p q low h = (h.0, is_true-left a b l (low l refl) ∙ h.1)
 
-after-is : (v c d : ℕ) (t : Tree) → next_consecutive_value v c t ≡ Some d → (t ≡ is v d) × (d ≡ c + 1)
+after-is : (v c d : ℕ) (t : Tree) → next_value_if_stated v c t ≡ Some d → (t ≡ is v d) × (d ≡ c + 1)
 after-is v c d yes e = absurd cc
 after-is v c d no e = absurd cc
 after-is v c d (is u x) e =
@@ -46,7 +46,7 @@ after-is v c d (negation t) e = absurd cc
 last-low : (ts : Trees) (v c k : ℕ) → last_consecutive_value v c ts ≡ Some k → c ≤ k
 last-low none v c k e = (let same = same_Some c k e in omega arith)
 last-low (more t ts) v c k e =
-    let next = bind_some (next_consecutive_value v c t) (λ d. last_consecutive_value v d ts) k e in
+    let next = bind_some (next_value_if_stated v c t) (λ d. last_consecutive_value v d ts) k e in
     let one = (after-is v c next.0 t next.1).1 in
     let rest = last-low ts v next.0 k next.2 in
     omega (arith, one, rest)
@@ -105,7 +105,7 @@ first_value (Some w) k =
 last-holds : (ts : Trees) (ws : List ℕ) (v c k : ℕ) → last_consecutive_value v c ts ≡ Some k → some_holds ws ts ≡ is_some_and (slice_get ws v) (λ w. ltb c w && leb w k)
 last-holds none ws v c k e = subst (λ (x : ℕ). false ≡ is_some_and (slice_get ws v) (λ w. ltb c w && leb w x)) (same_Some c k e) (sym (no_value (slice_get ws v) c))
 last-holds (more t ts) ws v c k e =
-    let next = bind_some (next_consecutive_value v c t) (λ d. last_consecutive_value v d ts) k e in
+    let next = bind_some (next_value_if_stated v c t) (λ d. last_consecutive_value v d ts) k e in
     let d = next.0 in
     let form = after-is v c d t next.1 in
     let here : tree_holds ws t ≡ is_some_and (slice_get ws v) (λ w. eqb w d) = ap (tree_holds ws) form.0 in
@@ -115,7 +115,7 @@ last-holds (more t ts) ws v c k e =
 last-valid : (ts : Trees) (ranges : List ℕ) (v c k : ℕ) → last_consecutive_value v c ts ≡ Some k → each_valid ranges ts ≡ true → value_valid ranges v c ≡ true → value_valid ranges v k ≡ true
 last-valid none ranges v c k e h first = subst (λ (x : ℕ). value_valid ranges v x ≡ true) (same_Some c k e) first
 last-valid (more t ts) ranges v c k e h first =
-    let next = bind_some (next_consecutive_value v c t) (λ d. last_consecutive_value v d ts) k e in
+    let next = bind_some (next_value_if_stated v c t) (λ d. last_consecutive_value v d ts) k e in
     let form = after-is v c next.0 t next.1 in
     let parts = and_parts (tree_valid ranges t) (each_valid ranges ts) h in
     last-valid ts ranges v next.0 k next.2 parts.1 (sym (ap (tree_valid ranges) form.0) ∙ parts.0)
@@ -126,7 +126,7 @@ pub record SayBound (ts : Trees) (b : VarUpperBound) : Type 0 where
   pub holds : (ws : List ℕ) → some_holds ws ts ≡ at_most ws b.var b.most
   pub valid : (ranges : List ℕ) → each_valid ranges ts ≡ true → value_valid ranges b.var b.most ≡ true
 
-pub say-bound : (ts : Trees) (b : VarUpperBound) → bound_of_or_form ts ≡ Some b → SayBound ts b
+pub say-bound : (ts : Trees) (b : VarUpperBound) → bound_from_or_of_values ts ≡ Some b → SayBound ts b
 say-bound none b e = absurd cc
 say-bound (more yes ts) b e = absurd cc
 say-bound (more no ts) b e = absurd cc
@@ -141,7 +141,7 @@ say-bound (more (is v zero) (more t ts)) b e = subst (SayBound (more (is v zero)
 
     some : 0 < last.0
     some =
-        let next = bind_some (next_consecutive_value v 0 t) (λ d. last_consecutive_value v d ts) last.0 last.1 in
+        let next = bind_some (next_value_if_stated v 0 t) (λ d. last_consecutive_value v d ts) last.0 last.1 in
         let one = (after-is v 0 next.0 t next.1).1 in
         let rest = last-low ts v next.0 last.0 next.2 in
         omega (arith, one, rest)

@@ -15,11 +15,11 @@ use Rattle.ilk_ints.specs.Named.{one_hot_bits, bound_bits, bound_count}
 use Rattle.ilk_ints.proofs.ValuesLaw.{length-one_hot_bits}
 use Rattle.ilk_ir.specs.Tree.{Trees, some_holds, each_valid, value_valid}
 use Rattle.ilk_ir.specs.System.{in_ranges}
-use Rattle.ilk_forms.specs.declared.copy.VarLits.{VarLits}
+use Rattle.ilk_forms.specs.declared.copy.VarValueAndBoundLits.{VarValueAndBoundLits}
 use Rattle.ilk_forms.specs.Copy.{LiteralsEncode}
 use Rattle.ilk_forms.specs.declared.bound.VarUpperBound.{VarUpperBound}
 use Rattle.ilk_forms.specs.Leaf.{has_lits_within_vars, ranges_of}
-use Rattle.ilk_forms.specs.Bound.{bound_of_or_form, column_bound_lit, bound_lit, bound_lit_of_or_form, has_bound_lit, has_bound_lit_of_or_form}
+use Rattle.ilk_forms.specs.Bound.{bound_from_or_of_values, single_var_bound_lit, bound_lit, or_of_values_bound_lit, has_bound_lit, or_of_values_has_lit}
 use Rattle.ilk_forms.proofs.BoundForms.{Stands, at_most, below, say-bound, stands-as}
 
 shift : (i j : ℕ) → ltb i j ≡ ltb (suc i) (suc j)
@@ -61,10 +61,10 @@ pick_greatest_positive-stands a None range w k e less h =
     absurd (false≢true (sym h ∙ there))
 pick_greatest_positive-stands a (Some l) range w k e less h = (refl, is_true-negated_lit a l ∙ ap not h.1 ∙ below w k (omega arith))
 
-column-says : (a : List Bool) (column : VarLits) (range w k : ℕ) →
+column-says : (a : List Bool) (column : VarValueAndBoundLits) (range w k : ℕ) →
     map (is_true a) column.values ≡ one_hot_bits w 0 range →
     map (is_true a) column.bounds ≡ bound_bits w 1 (bound_count range) → w < range → 0 < k →
-    Stands a (column_bound_lit column k) (eqb (k + 2) range || ltb (k - 1) (bound_count range)) (leb w k)
+    Stands a (single_var_bound_lit column k) (eqb (k + 2) range || ltb (k - 1) (bound_count range)) (leb w k)
 column-says a column range w k values bounds less some =
     subst
     (λ (n : ℕ). Stands a
@@ -82,7 +82,7 @@ column-says a column range w k values bounds less some =
         let same : 1 + (k - 1) ≡ k = omega arith in
         stands-as a (slice_get column.bounds (k - 1)) (ltb (k - 1) (bound_count range)) (leb w (1 + (k - 1))) (ltb (k - 1) (bound_count range)) (leb w k) refl (ap (leb w) same) (bound-stands a column.bounds w 1 (bound_count range) (k - 1) bounds)
 
-pub bound-says : (a : List Bool) (columns : List VarLits) (ranges ws : List ℕ) (v k : ℕ) →
+pub bound-says : (a : List Bool) (columns : List VarValueAndBoundLits) (ranges ws : List ℕ) (v k : ℕ) →
     LiteralsEncode a columns ranges ws → in_ranges ws ranges ≡ true →
     value_valid (ranges_of columns) v k ≡ true → 0 < k →
     Stands a (bound_lit columns v k) (has_bound_lit ranges v k) (at_most ws v k)
@@ -96,7 +96,7 @@ bound-says a (column ∷ columns) (range ∷ ranges) (w ∷ ws) (suc v) k h insi
     let parts = and_parts (ltb w range) (in_ranges ws ranges) inside in
     bound-says a columns ranges ws v k h.2 parts.1 valid some
 
-column-in : (n : ℕ) (column : VarLits) (k : ℕ) (l : Literal) → is_clause_over n column.values ≡ true → is_clause_over n column.bounds ≡ true → column_bound_lit column k ≡ Some l → is_lit_over n l ≡ true
+column-in : (n : ℕ) (column : VarValueAndBoundLits) (k : ℕ) (l : Literal) → is_clause_over n column.values ≡ true → is_clause_over n column.bounds ≡ true → single_var_bound_lit column k ≡ Some l → is_lit_over n l ≡ true
 column-in n column k l values bounds = by_case (eqb (k + 2) (length column.values))
   where
     by_case : (b : Bool) → cond b (option_map negated_lit (slice_get column.values (k + 1))) (slice_get column.bounds (k - 1)) ≡ Some l → is_lit_over n l ≡ true
@@ -106,26 +106,26 @@ column-in n column k l values bounds = by_case (eqb (k + 2) (length column.value
         subst (λ (u : Literal). is_lit_over n u ≡ true) m.2 there
     by_case false e = list_all-slice_get (is_lit_over n) column.bounds (k - 1) l bounds e
 
-pub bound-in : (columns : List VarLits) (v k n : ℕ) (l : Literal) → has_lits_within_vars n columns ≡ true → bound_lit columns v k ≡ Some l → is_lit_over n l ≡ true
+pub bound-in : (columns : List VarValueAndBoundLits) (v k n : ℕ) (l : Literal) → has_lits_within_vars n columns ≡ true → bound_lit columns v k ≡ Some l → is_lit_over n l ≡ true
 bound-in columns v k n l inside e =
-    let c = bind_some (slice_get columns v) (λ column. column_bound_lit column k) l e in
+    let c = bind_some (slice_get columns v) (λ column. single_var_bound_lit column k) l e in
     let column = c.0 in
-    let here = and_parts (is_clause_over n column.values) (is_clause_over n column.bounds) (list_all-slice_get (λ (x : VarLits). is_clause_over n x.values && is_clause_over n x.bounds) columns v column inside c.1) in
+    let here = and_parts (is_clause_over n column.values) (is_clause_over n column.bounds) (list_all-slice_get (λ (x : VarValueAndBoundLits). is_clause_over n x.values && is_clause_over n x.bounds) columns v column inside c.1) in
     column-in n column k l here.0 here.1 c.2
 
-pub any-in : (ts : Trees) (columns : List VarLits) (n : ℕ) (l : Literal) → has_lits_within_vars n columns ≡ true → bound_lit_of_or_form columns ts ≡ Some l → is_lit_over n l ≡ true
+pub any-in : (ts : Trees) (columns : List VarValueAndBoundLits) (n : ℕ) (l : Literal) → has_lits_within_vars n columns ≡ true → or_of_values_bound_lit columns ts ≡ Some l → is_lit_over n l ≡ true
 any-in ts columns n l inside e =
-    let b = bind_some (bound_of_or_form ts) (λ b. bound_lit columns b.var b.most) l e in
+    let b = bind_some (bound_from_or_of_values ts) (λ b. bound_lit columns b.var b.most) l e in
     bound-in columns b.0.var b.0.most n l inside b.2
 
-pub any-says : (ts : Trees) (a : List Bool) (columns : List VarLits) (ranges ws : List ℕ) →
+pub any-says : (ts : Trees) (a : List Bool) (columns : List VarValueAndBoundLits) (ranges ws : List ℕ) →
     ((v k : ℕ) → value_valid (ranges_of columns) v k ≡ true → 0 < k →
     Stands a (bound_lit columns v k) (has_bound_lit ranges v k) (at_most ws v k)) →
     each_valid (ranges_of columns) ts ≡ true →
-    Stands a (bound_lit_of_or_form columns ts) (has_bound_lit_of_or_form ranges ts) (some_holds ws ts)
-any-says ts a columns ranges ws bounds valid = by_case (bound_of_or_form ts) refl
+    Stands a (or_of_values_bound_lit columns ts) (or_of_values_has_lit ranges ts) (some_holds ws ts)
+any-says ts a columns ranges ws bounds valid = by_case (bound_from_or_of_values ts) refl
   where
-    by_case : (o : Option VarUpperBound) → bound_of_or_form ts ≡ o → Stands a (option_and_then (λ b. bound_lit columns b.var b.most) o) (is_some_and o (λ b. has_bound_lit ranges b.var b.most)) (some_holds ws ts)
+    by_case : (o : Option VarUpperBound) → bound_from_or_of_values ts ≡ o → Stands a (option_and_then (λ b. bound_lit columns b.var b.most) o) (is_some_and o (λ b. has_bound_lit ranges b.var b.most)) (some_holds ws ts)
     by_case None e = refl
     by_case (Some b) e =
         let said = say-bound ts b e in

@@ -1,4 +1,3 @@
--- A copy adds at most two variables for each value of a range.
 use Rattle.std.proofs.Common.{◌≡◌, ℕ, ◌+◌, ◌-◌, ◌*◌, ◌^◌, ◌≤◌, zero, suc, Bool, true, false, List, [], ◌∷◌, Option, Some, None, unwrap_or, length, take, cond, refl, arith, leb, eqb}
 use Rattle.std.specs.List.{find, range_with_len}
 use Rattle.std.specs.Prelude.{sum, min}
@@ -11,7 +10,7 @@ use Rattle.ilk_cnf.specs.Part.{FormulaPart, empty_part, or_gate_part}
 use Rattle.ilk_ints.specs.Bits.{bit_count}
 use Rattle.ilk_ints.specs.AtMost.{at_most_part, at_most_lit, highest_bit_decides}
 use Rattle.ilk_ints.specs.Named.{value_lits_part, bound_count, bound_lits_from, bound_lits_part}
-use Rattle.ilk_forms.specs.Copy.{numbers_part, column_part, columns_part, copy_part, copy_bit_count}
+use Rattle.ilk_forms.specs.Copy.{numbers_part, var_lits_part, all_var_lits_part, copy_part, copy_bit_count}
 use Rattle.ilk_forms.proofs.ColumnLaw.{numbers-end}
 use Rattle.ilk_ints.proofs.ValuesLaw.{values-low}
 
@@ -63,7 +62,7 @@ values-all first range n e = rw e (values-low range first range 0 n)
 least : (a b : ℕ) → (min a b ≤ a) × (min a b ≤ b)
 least a b = (omega arith, omega arith)
 
-column-few : (first range n : ℕ) → (column_part first range n).part.vars + bit_count range ≤ n + 2 * range
+column-few : (first range n : ℕ) → (var_lits_part first range n).part.vars + bit_count range ≤ n + 2 * range
 column-few first range n = by_case (eqb range 2) refl
   where
     m : ℕ
@@ -72,10 +71,10 @@ column-few first range n = by_case (eqb range 2) refl
     bits : bit_count range ≤ range
     bits = bit_count-below range
 
-    few : (column_part first range n).part.vars ≤ m + bound_count range
+    few : (var_lits_part first range n).part.vars ≤ m + bound_count range
     few = bounds-few (value_lits_part first range n).lits first range m
 
-    by_case : (b : Bool) → eqb range 2 ≡ b → (column_part first range n).part.vars + bit_count range ≤ n + 2 * range
+    by_case : (b : Bool) → eqb range 2 ≡ b → (var_lits_part first range n).part.vars + bit_count range ≤ n + 2 * range
     by_case true h =
         let is : range ≡ 2 = eqb-true range 2 h in
         let none : m ≡ n = values-two first range n h in
@@ -86,10 +85,10 @@ column-few first range n = by_case (eqb range 2) refl
         let bounds : bound_count range ≤ range - bit_count range = (least (range - 3) (range - bit_count range)).1 in
         omega (arith, all, few, bounds, bits)
 
-columns-few : (ranges : List ℕ) (first n : ℕ) → (columns_part ranges first n).part.vars + copy_bit_count ranges ≤ n + 2 * sum ranges
+columns-few : (ranges : List ℕ) (first n : ℕ) → (all_var_lits_part ranges first n).part.vars + copy_bit_count ranges ≤ n + 2 * sum ranges
 columns-few [] first n = omega arith
 columns-few (range ∷ ranges) first n =
-    let p = column_part first range n in
+    let p = var_lits_part first range n in
     let one = column-few first range n in
     let rest = columns-few ranges (first + bit_count range) p.part.vars in
     let all : sum (range ∷ ranges) ≡ range + sum ranges = sum_by-cons (λ (x : ℕ). x) range ranges in

@@ -1,22 +1,21 @@
--- The literals of a copy say the values of its variables.
 use Rattle.std.proofs.Common.{◌≡◌, ℕ, ◌+◌, ◌^◌, ◌<◌, ◌≤◌, Bool, true, List, [], ◌∷◌, ◌++◌, length, map, refl, sym, ap, ◌∙◌, subst, arith, append_assoc}
 use Rattle.std.proofs.lemmas.List.{append-nil}
 use Rattle.std.proofs.lemmas.Bool.{and_parts, leb-true, ltb-true}
 use Rattle.ilk_cnf.specs.Truth.{is_true}
-use Rattle.ilk_cnf.specs.Extends.{ExtensionsAreExactly, AreExactValues}
-use Rattle.ilk_ints.specs.Bits.{bit_count, bits_of, bits_at}
+use Rattle.ilk_cnf.specs.Extends.{ExtensionsAreExactly, EqualsGivenValues}
+use Rattle.ilk_ints.specs.Bits.{bit_count, lowest_bits_of, bits_at}
 use Rattle.ilk_ints.specs.Named.{value_lits_part, bound_lits_part, one_hot_var_bits, bound_vars_bits, bound_count, one_hot_bits, bound_bits}
 use Rattle.ilk_ints.proofs.ValuesLaw.{value_lits_part-low, value_lits_part-law, value_lits_part-say, bits_at-left}
 use Rattle.ilk_ints.proofs.BoundsPart.{bound_lits_part-say}
 use Rattle.ilk_ints.proofs.TableParts.{value_lits_part-lits_in, length-value_lits_part}
 use Rattle.ilk_ir.specs.System.{in_ranges}
-use Rattle.ilk_forms.specs.Copy.{BitsEncode, LiteralsEncode, numbers_part, columns_part, column_part, copy_part, numbers_bits, columns_bits, copy_bits, copy_bit_count}
+use Rattle.ilk_forms.specs.Copy.{BitsEncode, LiteralsEncode, numbers_part, all_var_lits_part, var_lits_part, copy_part, numbers_bits, copy_value_bound_bits, copy_bits, copy_bit_count}
 use Rattle.ilk_forms.proofs.ColumnLaw.{BitsEncode-left, BitsEncode-new, ranges_fit, numbers-law, numbers-end, column-law, column-low}
 
 pub columns-say : (ranges ws : List ℕ) (a c : List Bool) (first n : ℕ) → length a ≡ n → 0 < first →
     first + copy_bit_count ranges ≤ n + 1 → ranges_fit ranges ≡ true → in_ranges ws ranges ≡ true →
     BitsEncode a first ranges ws →
-    LiteralsEncode (a ++ (columns_bits ranges ws ++ c)) (columns_part ranges first n).columns ranges ws
+    LiteralsEncode (a ++ (copy_value_bound_bits ranges ws ++ c)) (all_var_lits_part ranges first n).columns ranges ws
 columns-say [] ws a c first n size low high fit inside has = tt
 columns-say (range ∷ ranges) [] a c first n size low high fit inside has = absurd has
 columns-say (range ∷ ranges) (w ∷ ws) a c first n size low high fit inside has =
@@ -27,14 +26,14 @@ columns-say (range ∷ ranges) (w ∷ ws) a c first n size low high fit inside h
     let reach : first + bit_count range ≤ n + 1 = omega arith in
     let v = value_lits_part first range n in
     let m = v.part.vars in
-    let p = column_part first range n in
+    let p = var_lits_part first range n in
     let e = one_hot_var_bits range w in
     let f = bound_vars_bits range w 1 (bound_count range) in
-    let d = columns_bits ranges ws in
-    let one : ExtensionsAreExactly a m v.part.clauses (AreExactValues e) = value_lits_part-law a first range w n size low reach enough less has.0 in
+    let d = copy_value_bound_bits ranges ws in
+    let one : ExtensionsAreExactly a m v.part.clauses (EqualsGivenValues e) = value_lits_part-law a first range w n size low reach enough less has.0 in
     let long : length (a ++ e) ≡ m = one.sized e refl in
     let grows : n ≤ m = value_lits_part-low first range n in
-    let kept : bits_at (a ++ e) first (bit_count range) ≡ bits_of (bit_count range) w = bits_at-left (bit_count range) a e first (rw size reach) ∙ has.0 in
+    let kept : bits_at (a ++ e) first (bit_count range) ≡ lowest_bits_of (bit_count range) w = bits_at-left (bit_count range) a e first (rw size reach) ∙ has.0 in
     let end : a ++ (e ++ []) ≡ a ++ e = ap (λ (u : List Bool). a ++ u) (append-nil e) in
     let says : map (is_true (a ++ e)) v.lits ≡ one_hot_bits w 0 range = subst (λ (u : List Bool). map (is_true u) v.lits ≡ one_hot_bits w 0 range) end (value_lits_part-say a [] first range w n size reach enough less has.0) in
     let both = column-law a first range w n size low reach enough less has.0 in
@@ -53,7 +52,7 @@ columns-say (range ∷ ranges) (w ∷ ws) a c first n size low high fit inside h
           kept says),
       subst
           (λ (u : List Bool). LiteralsEncode u
-          (columns_part ranges (first + bit_count range) p.part.vars).columns ranges ws) whole_rest
+          (all_var_lits_part ranges (first + bit_count range) p.part.vars).columns ranges ws) whole_rest
           (columns-say ranges ws (a ++ (e ++ f)) c (first + bit_count range) p.part.vars size_next
           (omega (arith, low)) (omega (arith, high, more)) fits.1 within.1 has_next),
     )
@@ -65,7 +64,7 @@ pub copy-say : (ranges ws : List ℕ) (a c : List Bool) (n : ℕ) → length a �
 copy-say ranges ws a c n size fit inside =
     let p = numbers_part ranges n in
     let b = numbers_bits ranges ws in
-    let d = columns_bits ranges ws in
+    let d = copy_value_bound_bits ranges ws in
     let long : length (a ++ b) ≡ p.vars = (numbers-law ranges a n size fit).sized b (ws, inside, refl) in
     let reach : n + 1 + copy_bit_count ranges ≤ p.vars + 1 = omega (arith, numbers-end ranges n) in
     let bare : a ++ (b ++ []) ≡ a ++ b = ap (λ (u : List Bool). a ++ u) (append-nil b) in

@@ -1,4 +1,3 @@
--- The number of variables and clauses of a form's parts.
 use Rattle.std.proofs.Common.{◌≡◌, ℕ, ◌+◌, ◌*◌, ◌≤◌, Bool, true, false, not, List, [], ◌∷◌, ◌++◌, length, map, cond, Option, Some, None, refl, ap, ◌∙◌, arith, length-append}
 use Rattle.std.proofs.lemmas.List.{length-map}
 use Rattle.ilk_cnf.specs.Literal.{Literal, negated_lit, positive_lit, negative_lit}
@@ -7,11 +6,11 @@ use Rattle.ilk_cnf.specs.Part.{FormulaPart, with_part, clauses_from_lists, and_g
 use Rattle.ilk_ints.specs.Named.{PartWithLits}
 use Rattle.ilk_ints.proofs.OneOfLaw.{clauses_from_lists-few}
 use Rattle.ilk_ir.specs.Tree.{Tree, yes, no, is, all_of, any_of, negation, Trees, none, more}
-use Rattle.ilk_forms.specs.declared.copy.VarLits.{VarLits}
+use Rattle.ilk_forms.specs.declared.copy.VarValueAndBoundLits.{VarValueAndBoundLits}
 use Rattle.ilk_forms.specs.Size.{tree_size, trees_size}
-use Rattle.ilk_forms.specs.Bound.{bound_lit_of_or_form}
-use Rattle.ilk_forms.specs.Gathered.{bool_equals, no_literals, lit_or_else, append_part_lits, gate_part, combined_lit, combined, merged_into, flatten_form, flatten_each_form}
-use Rattle.ilk_forms.specs.Demand.{joined_clause_part, clause_or_else, demand_of, demand_each}
+use Rattle.ilk_forms.specs.Bound.{or_of_values_bound_lit}
+use Rattle.ilk_forms.specs.Gathered.{bool_equals, part_with_no_lits, optional_lit_or_part, append_part_lits, gate_part, combined_lit, combine_lits_into_one, merge_lits_if_same_gate, form_to_and_or_lits, forms_to_and_or_lits}
+use Rattle.ilk_forms.specs.Demand.{clause_of_two_lists_part, clause_if_lit_else_part, demand_of, demand_each}
 
 pub record Few (n k : ℕ) (g : PartWithLits) : Type 0 where
   pub vars : g.part.vars ≤ n + k
@@ -33,8 +32,8 @@ combined_lit-few all [] n = let h = gate-few all [] n in (omega (arith, h.0), om
 combined_lit-few all (l ∷ []) n = (omega arith, omega arith)
 combined_lit-few all (l ∷ m ∷ ls) n = let h = gate-few all (l ∷ m ∷ ls) n in (omega (arith, h.0), omega (arith, h.1))
 
-combined-few : (all : Bool) (n k : ℕ) (g : PartWithLits) → Few n k g → ((combined all g).part.vars ≤ n + k + 1) × (length (combined all g).part.clauses ≤ 2 * k + 1)
-combined-few all n k g h =
+combine_lits_into_one-few : (all : Bool) (n k : ℕ) (g : PartWithLits) → Few n k g → ((combine_lits_into_one all g).part.vars ≤ n + k + 1) × (length (combine_lits_into_one all g).part.clauses ≤ 2 * k + 1)
+combine_lits_into_one-few all n k g h =
     let m = g.part.vars in
     let s = combined_lit all g.lits m in
     let last = combined_lit-few all g.lits m in
@@ -43,19 +42,19 @@ combined-few all n k g h =
     let one = last.0 in
     let two = last.1 in (omega arith, omega (arith, length-append g.part.clauses s.part.clauses))
 
-merged_into-few : (outer inner : Bool) (n k : ℕ) (g : PartWithLits) → Few n k g → Few n (k + 1) (merged_into outer inner g)
-merged_into-few outer inner n k g h = by_case (bool_equals outer inner)
+merge_lits_if_same_gate-few : (outer inner : Bool) (n k : ℕ) (g : PartWithLits) → Few n k g → Few n (k + 1) (merge_lits_if_same_gate outer inner g)
+merge_lits_if_same_gate-few outer inner n k g h = by_case (bool_equals outer inner)
   where
-    by_case : (b : Bool) → Few n (k + 1) (cond {A = PartWithLits} b g (record { part = (combined inner g).part; lits = (combined inner g).lit ∷ [] }))
+    by_case : (b : Bool) → Few n (k + 1) (cond {A = PartWithLits} b g (record { part = (combine_lits_into_one inner g).part; lits = (combine_lits_into_one inner g).lit ∷ [] }))
     by_case true = let vars = h.vars in let clauses = h.clauses in record { vars = omega arith; clauses = omega arith }
     by_case false =
-        let last = combined-few inner n k g h in
+        let last = combine_lits_into_one-few inner n k g h in
         let one = last.0 in
         let two = last.1 in
         record { vars = omega arith; clauses = omega arith }
 
-no_literals-few : (n : ℕ) → Few n 0 (no_literals n)
-no_literals-few n = record { vars = omega arith; clauses = omega arith }
+part_with_no_lits-few : (n : ℕ) → Few n 0 (part_with_no_lits n)
+part_with_no_lits-few n = record { vars = omega arith; clauses = omega arith }
 
 then-few : (n j k : ℕ) (g : PartWithLits) (h : ℕ → PartWithLits) → Few n j g → Few g.part.vars k (h g.part.vars) → Few n (j + k) (append_part_lits g h)
 then-few n j k g h one two =
@@ -68,32 +67,33 @@ then-few n j k g h one two =
       clauses = omega (arith, length-append g.part.clauses (h g.part.vars).part.clauses, length-append g.lits (h g.part.vars).lits);
     }
 
-lit_or_else-few : (positive : Bool) (o : Option Literal) (n k : ℕ) (g : PartWithLits) → Few n (k + 1) g → Few n (k + 1) (lit_or_else positive o n g)
-lit_or_else-few positive None n k g h = h
-lit_or_else-few positive (Some l) n k g h = record { vars = omega arith; clauses = omega arith }
+optional_lit_or_part-few : (positive : Bool) (o : Option Literal) (n k : ℕ) (g : PartWithLits) → Few n (k + 1) g → Few n (k + 1) (optional_lit_or_part positive o n g)
+optional_lit_or_part-few positive None n k g h = h
+optional_lit_or_part-few positive (Some l) n k g h = record { vars = omega arith; clauses = omega arith }
 
 mutual
-  pub flatten_form-few : (t : Tree) (columns : List VarLits) (all positive : Bool) (n : ℕ) → Few n (tree_size t) (flatten_form columns all positive t n)
-  flatten_form-few yes columns all positive n = merged_into-few all positive n 0 (no_literals n) (no_literals-few n)
-  flatten_form-few no columns all positive n = merged_into-few all (not positive) n 0 (no_literals n) (no_literals-few n)
-  flatten_form-few (is v c) columns all positive n = record { vars = omega arith; clauses = omega arith }
-  flatten_form-few (all_of ts) columns all positive n = merged_into-few all positive n (trees_size ts) (flatten_each_form columns positive positive ts n) (flatten_each_form-few ts columns positive positive n)
-  flatten_form-few (any_of ts) columns all positive n =
-      let g = flatten_each_form columns (not positive) positive ts n in
-      lit_or_else-few positive (bound_lit_of_or_form columns ts) n (trees_size ts) (merged_into all (not positive) g) (merged_into-few all (not positive) n (trees_size ts) g (flatten_each_form-few ts columns (not positive) positive n))
-  flatten_form-few (negation t) columns all positive n =
-      let h = flatten_form-few t columns all (not positive) n in
+  pub form_to_and_or_lits-few : (t : Tree) (columns : List VarValueAndBoundLits) (all positive : Bool) (n : ℕ) → Few n (tree_size t) (form_to_and_or_lits columns all positive t n)
+  form_to_and_or_lits-few yes columns all positive n = merge_lits_if_same_gate-few all positive n 0 (part_with_no_lits n) (part_with_no_lits-few n)
+  form_to_and_or_lits-few no columns all positive n = merge_lits_if_same_gate-few all (not positive) n 0 (part_with_no_lits n) (part_with_no_lits-few n)
+  form_to_and_or_lits-few (is v c) columns all positive n = record { vars = omega arith; clauses = omega arith }
+  form_to_and_or_lits-few (all_of ts) columns all positive n = merge_lits_if_same_gate-few all positive n (trees_size ts) (forms_to_and_or_lits columns positive positive ts n) (forms_to_and_or_lits-few ts columns positive positive n)
+  form_to_and_or_lits-few (any_of ts) columns all positive n =
+      let g = forms_to_and_or_lits columns (not positive) positive ts n in
+      optional_lit_or_part-few positive (or_of_values_bound_lit columns ts) n (trees_size ts) (merge_lits_if_same_gate all (not positive) g) (merge_lits_if_same_gate-few all (not positive) n (trees_size ts) g (forms_to_and_or_lits-few ts
+      columns (not positive) positive n))
+  form_to_and_or_lits-few (negation t) columns all positive n =
+      let h = form_to_and_or_lits-few t columns all (not positive) n in
       let v = h.vars in
       let c = h.clauses in
       record { vars = omega arith; clauses = omega arith }
 
-  pub flatten_each_form-few : (ts : Trees) (columns : List VarLits) (all positive : Bool) (n : ℕ) → Few n (trees_size ts) (flatten_each_form columns all positive ts n)
-  flatten_each_form-few none columns all positive n = no_literals-few n
-  flatten_each_form-few (more t ts) columns all positive n =
-      let g = flatten_form columns all positive t n in
-      then-few n (tree_size t) (trees_size ts) g (flatten_each_form columns all positive ts) (flatten_form-few t columns all positive n) (flatten_each_form-few ts columns all positive g.part.vars)
+  pub forms_to_and_or_lits-few : (ts : Trees) (columns : List VarValueAndBoundLits) (all positive : Bool) (n : ℕ) → Few n (trees_size ts) (forms_to_and_or_lits columns all positive ts n)
+  forms_to_and_or_lits-few none columns all positive n = part_with_no_lits-few n
+  forms_to_and_or_lits-few (more t ts) columns all positive n =
+      let g = form_to_and_or_lits columns all positive t n in
+      then-few n (tree_size t) (trees_size ts) g (forms_to_and_or_lits columns all positive ts) (form_to_and_or_lits-few t columns all positive n) (forms_to_and_or_lits-few ts columns all positive g.part.vars)
 
-some-few : (first : List Literal) (n k : ℕ) (g : PartWithLits) → Few n k g → PartFew n (k + 1) (joined_clause_part first g)
+some-few : (first : List Literal) (n k : ℕ) (g : PartWithLits) → Few n k g → PartFew n (k + 1) (clause_of_two_lists_part first g)
 some-few first n k g h =
     let v = h.vars in
     let c = h.clauses in
@@ -105,28 +105,28 @@ wider n k p h =
     let c = h.clauses in
     record { vars = omega arith; clauses = omega arith }
 
-clause_or_else-few : (first : List Literal) (positive : Bool) (o : Option Literal) (n k : ℕ) (p : FormulaPart) → PartFew n (k + 1) p → PartFew n (k + 1) (clause_or_else first positive o n p)
-clause_or_else-few first positive None n k p h = h
-clause_or_else-few first positive (Some l) n k p h = record { vars = omega arith; clauses = omega arith }
+clause_if_lit_else_part-few : (first : List Literal) (positive : Bool) (o : Option Literal) (n k : ℕ) (p : FormulaPart) → PartFew n (k + 1) p → PartFew n (k + 1) (clause_if_lit_else_part first positive o n p)
+clause_if_lit_else_part-few first positive None n k p h = h
+clause_if_lit_else_part-few first positive (Some l) n k p h = record { vars = omega arith; clauses = omega arith }
 
 mutual
-  pub demand_of-few : (t : Tree) (columns : List VarLits) (first : List Literal) (positive : Bool) (n : ℕ) → PartFew n (tree_size t) (demand_of columns first positive t n)
+  pub demand_of-few : (t : Tree) (columns : List VarValueAndBoundLits) (first : List Literal) (positive : Bool) (n : ℕ) → PartFew n (tree_size t) (demand_of columns first positive t n)
   demand_of-few yes columns first true n = record { vars = omega arith; clauses = omega arith }
   demand_of-few yes columns first false n = record { vars = omega arith; clauses = omega arith }
   demand_of-few no columns first true n = record { vars = omega arith; clauses = omega arith }
   demand_of-few no columns first false n = record { vars = omega arith; clauses = omega arith }
   demand_of-few (is v c) columns first positive n = record { vars = omega arith; clauses = omega arith }
   demand_of-few (all_of ts) columns first true n = wider n (trees_size ts) (demand_each columns first true ts n) (demand_each-few ts columns first true n)
-  demand_of-few (all_of ts) columns first false n = some-few first n (trees_size ts) (flatten_each_form columns false false ts n) (flatten_each_form-few ts columns false false n)
+  demand_of-few (all_of ts) columns first false n = some-few first n (trees_size ts) (forms_to_and_or_lits columns false false ts n) (forms_to_and_or_lits-few ts columns false false n)
   demand_of-few (any_of ts) columns first true n =
-      let g = flatten_each_form columns false true ts n in
-      clause_or_else-few first true (bound_lit_of_or_form columns ts) n (trees_size ts) (joined_clause_part first g) (some-few first n (trees_size ts) g (flatten_each_form-few ts columns false true n))
+      let g = forms_to_and_or_lits columns false true ts n in
+      clause_if_lit_else_part-few first true (or_of_values_bound_lit columns ts) n (trees_size ts) (clause_of_two_lists_part first g) (some-few first n (trees_size ts) g (forms_to_and_or_lits-few ts columns false true n))
   demand_of-few (any_of ts) columns first false n =
       let p = demand_each columns first false ts n in
-      clause_or_else-few first false (bound_lit_of_or_form columns ts) n (trees_size ts) p (wider n (trees_size ts) p (demand_each-few ts columns first false n))
+      clause_if_lit_else_part-few first false (or_of_values_bound_lit columns ts) n (trees_size ts) p (wider n (trees_size ts) p (demand_each-few ts columns first false n))
   demand_of-few (negation t) columns first positive n = wider n (tree_size t) (demand_of columns first (not positive) t n) (demand_of-few t columns first (not positive) n)
 
-  pub demand_each-few : (ts : Trees) (columns : List VarLits) (first : List Literal) (positive : Bool) (n : ℕ) → PartFew n (trees_size ts) (demand_each columns first positive ts n)
+  pub demand_each-few : (ts : Trees) (columns : List VarValueAndBoundLits) (first : List Literal) (positive : Bool) (n : ℕ) → PartFew n (trees_size ts) (demand_each columns first positive ts n)
   demand_each-few none columns first positive n = record { vars = omega arith; clauses = omega arith }
   demand_each-few (more t ts) columns first positive n =
       let p = demand_of columns first positive t n in

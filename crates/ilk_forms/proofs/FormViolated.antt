@@ -1,4 +1,4 @@
--- A form's failure demand extends exactly the assignments in which it fails, in one way each.
+-- A demand that a form fails extends exactly the assignments in which it fails, in one way each.
 use Rattle.std.proofs.Common.{◌≡◌, ℕ, ◌+◌, ◌*◌, ◌<◌, ◌≤◌, Bool, true, false, not, ◌||◌, List, [], ◌∷◌, ◌++◌, length, map, cond, eqb, Option, Some, None, refl, inl, inr, sym, ap, ◌∙◌, subst, arith, length-append}
 use Rattle.std.specs.List.{list_all}
 use Rattle.std.proofs.lemmas.List.{append-nil}
@@ -7,7 +7,7 @@ use Rattle.std.proofs.lemmas.Bool.{and_from, or_cases, or_parts, ne_eqb, false�
 use Rattle.ilk_cnf.specs.Literal.{Literal}
 use Rattle.ilk_cnf.specs.Formula.{Formula, is_clause_over}
 use Rattle.ilk_cnf.specs.Truth.{is_true}
-use Rattle.ilk_cnf.specs.Extends.{ExtensionsAreExactly, PassesWithExactValues}
+use Rattle.ilk_cnf.specs.Extends.{ExtensionsAreExactly, PassesAndEqualsGivenValues}
 use Rattle.ilk_cnf.specs.Part.{empty_part, with_part, and_then}
 use Rattle.ilk_cnf.proofs.Literals.{are_clauses_over-more}
 use Rattle.ilk_cnf.proofs.Extending.{no_more_if, if_from_only, if_then_if}
@@ -16,25 +16,25 @@ use Rattle.ilk_ints.specs.Named.{PartWithLits}
 use Rattle.ilk_ir.specs.Tree.{Tree, yes, no, is, all_of, any_of, negation, Trees, none, more, tree_holds, each_holds, some_holds, tree_valid}
 use Rattle.ilk_ir.specs.Form.{trees_of}
 use Rattle.ilk_ir.specs.declared.form.Form.{Form}
-use Rattle.ilk_forms.specs.declared.copy.VarLits.{VarLits}
+use Rattle.ilk_forms.specs.declared.copy.VarValueAndBoundLits.{VarValueAndBoundLits}
 use Rattle.ilk_forms.specs.Leaf.{has_lits_within_vars, ranges_of}
-use Rattle.ilk_forms.specs.Bound.{bound_lit_of_or_form}
-use Rattle.ilk_forms.specs.Gathered.{bool_equals, combined, lit_or_else, merged_into, append_part_lits, flatten_form, flatten_each_form}
-use Rattle.ilk_forms.specs.Truths.{Truths, truths}
+use Rattle.ilk_forms.specs.Bound.{or_of_values_bound_lit}
+use Rattle.ilk_forms.specs.Gathered.{bool_equals, combine_lits_into_one, optional_lit_or_part, merge_lits_if_same_gate, append_part_lits, form_to_and_or_lits, forms_to_and_or_lits}
+use Rattle.ilk_forms.specs.Truths.{VarAndLitTruths, truths}
 use Rattle.ilk_forms.specs.Size.{tree_size, trees_size}
-use Rattle.ilk_forms.specs.Violated.{some_lit_false_part, some_lit_false_bits, has_no_trees, is_trivially_false, has_trivially_false, violated_part, violated_bits}
+use Rattle.ilk_forms.specs.Violated.{some_first_violated_part, some_first_violated_bits, has_no_trees, is_trivially_false, has_trivially_false, form_fails_part, form_fails_bits}
 use Rattle.ilk_forms.proofs.Reading.{Reads}
-use Rattle.ilk_forms.proofs.GatheredFits.{Fits, flatten_form-fits}
-use Rattle.ilk_forms.proofs.GatheredLaw.{Says, here, flatten_form-says}
+use Rattle.ilk_forms.proofs.GatheredFits.{Fits, form_to_and_or_lits-fits}
+use Rattle.ilk_forms.proofs.GatheredLaw.{Says, here, form_to_and_or_lits-says}
 use Rattle.ilk_forms.proofs.TruthsMean.{truths-mean}
 use Rattle.ilk_forms.proofs.DemandLaw.{PartFits}
 use Rattle.ilk_forms.proofs.ViolatedLaw.{first_violated-fits, first_violated-law, first_violated-few}
-use Rattle.ilk_forms.proofs.Few.{combined_lit-few, flatten_each_form-few}
+use Rattle.ilk_forms.proofs.Few.{combined_lit-few, forms_to_and_or_lits-few}
 
-named-fits : (n : ℕ) (g : PartWithLits) → Fits n g → PartFits n (record { vars = (some_lit_false_part g.lits g.part.vars).vars; clauses = g.part.clauses ++ (some_lit_false_part g.lits g.part.vars).clauses })
+named-fits : (n : ℕ) (g : PartWithLits) → Fits n g → PartFits n (record { vars = (some_first_violated_part g.lits g.part.vars).vars; clauses = g.part.clauses ++ (some_first_violated_part g.lits g.part.vars).clauses })
 named-fits n g h =
     let m = g.part.vars in
-    let q = some_lit_false_part g.lits m in
+    let q = some_first_violated_part g.lits m in
     let next = first_violated-fits g.lits m h.lits in
     let one = h.low in
     let two = next.low in
@@ -43,35 +43,35 @@ named-fits n g h =
       inside = list_all-append (is_clause_over q.vars) g.part.clauses q.clauses ∙ and_from _ _ (are_clauses_over-more m q.vars g.part.clauses next.low h.inside) next.inside;
     }
 
-named-law : (a : List Bool) (n : ℕ) (g : PartWithLits) (s : Truths) → length a ≡ n → Fits n g → Says a g s →
-    ExtensionsAreExactly a (some_lit_false_part g.lits g.part.vars).vars
-    (g.part.clauses ++ (some_lit_false_part g.lits g.part.vars).clauses)
-    (PassesWithExactValues (not (list_all (λ q. q) s.lits)) (s.bits ++ some_lit_false_bits s.lits))
+named-law : (a : List Bool) (n : ℕ) (g : PartWithLits) (s : VarAndLitTruths) → length a ≡ n → Fits n g → Says a g s →
+    ExtensionsAreExactly a (some_first_violated_part g.lits g.part.vars).vars
+    (g.part.clauses ++ (some_first_violated_part g.lits g.part.vars).clauses)
+    (PassesAndEqualsGivenValues (not (list_all (λ q. q) s.lits)) (s.bits ++ some_first_violated_bits s.lits))
 named-law a n g s size fits says =
     let m = g.part.vars in
-    let q = some_lit_false_part g.lits m in
+    let q = some_first_violated_part g.lits m in
     let b = a ++ s.bits in
     let ok = not (list_all (λ (p : Bool). p) s.lits) in
     let long : length b ≡ m = says.part.sized s.bits refl in
     let all : list_all (is_true b) g.lits ≡ list_all (λ (p : Bool). p) s.lits = sym (list_all-map (λ (p : Bool). p) (is_true b) g.lits) ∙ ap (λ (ps : List Bool). list_all (λ (p : Bool). p) ps) says.means in
-    let law : ExtensionsAreExactly b q.vars q.clauses (PassesWithExactValues (not (list_all (is_true b) g.lits)) (some_lit_false_bits (map (is_true b) g.lits))) = first_violated-law g.lits b m long fits.lits in
-    let next : ExtensionsAreExactly b q.vars q.clauses (PassesWithExactValues ok (some_lit_false_bits s.lits)) = subst
-    (λ (ps : List Bool). ExtensionsAreExactly b q.vars q.clauses (PassesWithExactValues ok (some_lit_false_bits ps))) says.means
+    let law : ExtensionsAreExactly b q.vars q.clauses (PassesAndEqualsGivenValues (not (list_all (is_true b) g.lits)) (some_first_violated_bits (map (is_true b) g.lits))) = first_violated-law g.lits b m long fits.lits in
+    let next : ExtensionsAreExactly b q.vars q.clauses (PassesAndEqualsGivenValues ok (some_first_violated_bits s.lits)) = subst
+    (λ (ps : List Bool). ExtensionsAreExactly b q.vars q.clauses (PassesAndEqualsGivenValues ok (some_first_violated_bits ps))) says.means
     (subst
     (λ (p : Bool). ExtensionsAreExactly b q.vars q.clauses
-    (PassesWithExactValues (not p) (some_lit_false_bits (map (is_true b) g.lits)))) all law) in
+    (PassesAndEqualsGivenValues (not p) (some_first_violated_bits (map (is_true b) g.lits)))) all law) in
     let low : length a ≤ m = rw size fits.low in
-    if_then_if a s.bits (some_lit_false_bits s.lits) true ok m q.vars g.part.clauses q.clauses low (first_violated-fits g.lits m fits.lits).low fits.inside (if_from_only a m g.part.clauses s.bits says.part) (λ _. next)
+    if_then_if a s.bits (some_first_violated_bits s.lits) true ok m q.vars g.part.clauses q.clauses low (first_violated-fits g.lits m fits.lits).low fits.inside (if_from_only a m g.part.clauses s.bits says.part) (λ _. next)
 
-pub violated-fits : (t : Tree) (columns : List VarLits) (n : ℕ) → has_lits_within_vars n columns ≡ true → tree_valid (ranges_of columns) t ≡ true → PartFits n (violated_part columns t n)
+pub violated-fits : (t : Tree) (columns : List VarValueAndBoundLits) (n : ℕ) → has_lits_within_vars n columns ≡ true → tree_valid (ranges_of columns) t ≡ true → PartFits n (form_fails_part columns t n)
 violated-fits t columns n h k = by_case (is_trivially_false true t)
   where
     g : PartWithLits
-    g = flatten_form columns true true t n
+    g = form_to_and_or_lits columns true true t n
 
-    by_case : (b : Bool) → PartFits n (cond b (empty_part n) (and_then g.part (some_lit_false_part g.lits)))
+    by_case : (b : Bool) → PartFits n (cond b (empty_part n) (and_then g.part (some_first_violated_part g.lits)))
     by_case true = record { low = omega arith; inside = refl }
-    by_case false = named-fits n g (flatten_form-fits t columns true true n h k)
+    by_case false = named-fits n g (form_to_and_or_lits-fits t columns true true n h k)
 
 none-holds : (ts : Trees) (ws : List ℕ) → has_no_trees ts ≡ true → (each_holds ws ts ≡ true) × (some_holds ws ts ≡ false)
 none-holds none ws h = (refl, refl)
@@ -116,26 +116,26 @@ mutual
         | inr later ↦ right_true (tree_holds ws t) (some_holds ws ts) (has_trivially_false-means ts ws false later)
       ]
 
-pub violated-law : (t : Tree) (columns : List VarLits) (ranges ws : List ℕ) (a : List Bool) (n : ℕ) →
+pub violated-law : (t : Tree) (columns : List VarValueAndBoundLits) (ranges ws : List ℕ) (a : List Bool) (n : ℕ) →
     length a ≡ n → Reads a columns ranges ws → tree_valid (ranges_of columns) t ≡ true →
-    ExtensionsAreExactly a (violated_part columns t n).vars (violated_part columns t n).clauses
-    (PassesWithExactValues (not (tree_holds ws t)) (violated_bits ranges ws t))
+    ExtensionsAreExactly a (form_fails_part columns t n).vars (form_fails_part columns t n).clauses
+    (PassesAndEqualsGivenValues (not (tree_holds ws t)) (form_fails_bits ranges ws t))
 violated-law t columns ranges ws a n size r k = by_case (is_trivially_false true t) refl
   where
     g : PartWithLits
-    g = flatten_form columns true true t n
+    g = form_to_and_or_lits columns true true t n
 
-    s : Truths
+    s : VarAndLitTruths
     s = truths ranges ws true true t
 
     by_case : (b : Bool) → is_trivially_false true t ≡ b →
-        ExtensionsAreExactly a (cond b (empty_part n) (and_then g.part (some_lit_false_part g.lits))).vars
-        (cond b (empty_part n) (and_then g.part (some_lit_false_part g.lits))).clauses
-        (PassesWithExactValues (not (tree_holds ws t)) (cond b [] (s.bits ++ some_lit_false_bits s.lits)))
+        ExtensionsAreExactly a (cond b (empty_part n) (and_then g.part (some_first_violated_part g.lits))).vars
+        (cond b (empty_part n) (and_then g.part (some_first_violated_part g.lits))).clauses
+        (PassesAndEqualsGivenValues (not (tree_holds ws t)) (cond b [] (s.bits ++ some_first_violated_bits s.lits)))
     by_case true h = no_more_if a n [] (not (tree_holds ws t)) size (sym (ap not (never-means t ws true h)))
     by_case false h =
-        let law = named-law a n g s size (flatten_form-fits t columns true true n (here columns ranges ws a n size r) k) (flatten_form-says t columns ranges ws true true a n size r k) in
-        subst (λ (b : Bool). ExtensionsAreExactly a (and_then g.part (some_lit_false_part g.lits)).vars (and_then g.part (some_lit_false_part g.lits)).clauses (PassesWithExactValues (not b) (s.bits ++ some_lit_false_bits s.lits)))
+        let law = named-law a n g s size (form_to_and_or_lits-fits t columns true true n (here columns ranges ws a n size r) k) (form_to_and_or_lits-says t columns ranges ws true true a n size r k) in
+        subst (λ (b : Bool). ExtensionsAreExactly a (and_then g.part (some_first_violated_part g.lits)).vars (and_then g.part (some_first_violated_part g.lits)).clauses (PassesAndEqualsGivenValues (not b) (s.bits ++ some_first_violated_bits s.lits)))
         (truths-mean t ranges ws true true) law
 
 size-some : (t : Tree) → 0 < tree_size t
@@ -154,54 +154,54 @@ sizes-some (more t ts) h = (let some = size-some t in omega arith)
 abbrev pub weight_of : PartWithLits → ℕ
 weight_of g = g.part.vars + 2 * length g.lits
 
-one-weight : (inner : Bool) (n k : ℕ) (g : PartWithLits) → g.part.vars ≤ n + k → 0 < k → weight_of (record { part = (combined inner g).part; lits = (combined inner g).lit ∷ [] }) ≤ n + 2 * (k + 1)
+one-weight : (inner : Bool) (n k : ℕ) (g : PartWithLits) → g.part.vars ≤ n + k → 0 < k → weight_of (record { part = (combine_lits_into_one inner g).part; lits = (combine_lits_into_one inner g).lit ∷ [] }) ≤ n + 2 * (k + 1)
 one-weight inner n k g h some =
     let one = (combined_lit-few inner g.lits g.part.vars).0 in
     omega arith
 
-lit_or_else-weight : (positive : Bool) (o : Option Literal) (n k : ℕ) (g : PartWithLits) → weight_of g ≤ n + 2 * (k + 1) → weight_of (lit_or_else positive o n g) ≤ n + 2 * (k + 1)
-lit_or_else-weight positive None n k g h = h
-lit_or_else-weight positive (Some l) n k g h = omega arith
+optional_lit_or_part-weight : (positive : Bool) (o : Option Literal) (n k : ℕ) (g : PartWithLits) → weight_of g ≤ n + 2 * (k + 1) → weight_of (optional_lit_or_part positive o n g) ≤ n + 2 * (k + 1)
+optional_lit_or_part-weight positive None n k g h = h
+optional_lit_or_part-weight positive (Some l) n k g h = omega arith
 
 mutual
-  flatten_form-weight : (t : Tree) (columns : List VarLits) (positive : Bool) (n : ℕ) → is_trivially_false positive t ≡ false → weight_of (flatten_form columns true positive t n) ≤ n + 2 * tree_size t
-  flatten_form-weight yes columns true n h = omega arith
-  flatten_form-weight yes columns false n h = absurd (false≢true (sym h))
-  flatten_form-weight no columns true n h = absurd (false≢true (sym h))
-  flatten_form-weight no columns false n h = omega arith
-  flatten_form-weight (is v c) columns positive n h = omega arith
-  flatten_form-weight (all_of ts) columns true n h = (let w = flatten_each_form-weight ts columns true n h in omega arith)
-  flatten_form-weight (all_of ts) columns false n h = one-weight false n (trees_size ts) (flatten_each_form columns false false ts n) (flatten_each_form-few ts columns false false n).vars (sizes-some ts h)
-  flatten_form-weight (any_of ts) columns true n h =
-      let g = flatten_each_form columns false true ts n in
-      lit_or_else-weight true (bound_lit_of_or_form columns ts) n (trees_size ts) (merged_into true false g) (one-weight false n (trees_size ts) g (flatten_each_form-few ts columns false true n).vars (sizes-some ts h))
-  flatten_form-weight (any_of ts) columns false n h =
-      let g = flatten_each_form columns true false ts n in
-      let w = flatten_each_form-weight ts columns false n h in
-      lit_or_else-weight false (bound_lit_of_or_form columns ts) n (trees_size ts) (merged_into true true g) (omega arith)
-  flatten_form-weight (negation t) columns positive n h = (let w = flatten_form-weight t columns (not positive) n h in omega arith)
+  form_to_and_or_lits-weight : (t : Tree) (columns : List VarValueAndBoundLits) (positive : Bool) (n : ℕ) → is_trivially_false positive t ≡ false → weight_of (form_to_and_or_lits columns true positive t n) ≤ n + 2 * tree_size t
+  form_to_and_or_lits-weight yes columns true n h = omega arith
+  form_to_and_or_lits-weight yes columns false n h = absurd (false≢true (sym h))
+  form_to_and_or_lits-weight no columns true n h = absurd (false≢true (sym h))
+  form_to_and_or_lits-weight no columns false n h = omega arith
+  form_to_and_or_lits-weight (is v c) columns positive n h = omega arith
+  form_to_and_or_lits-weight (all_of ts) columns true n h = (let w = forms_to_and_or_lits-weight ts columns true n h in omega arith)
+  form_to_and_or_lits-weight (all_of ts) columns false n h = one-weight false n (trees_size ts) (forms_to_and_or_lits columns false false ts n) (forms_to_and_or_lits-few ts columns false false n).vars (sizes-some ts h)
+  form_to_and_or_lits-weight (any_of ts) columns true n h =
+      let g = forms_to_and_or_lits columns false true ts n in
+      optional_lit_or_part-weight true (or_of_values_bound_lit columns ts) n (trees_size ts) (merge_lits_if_same_gate true false g) (one-weight false n (trees_size ts) g (forms_to_and_or_lits-few ts columns false true n).vars (sizes-some ts h))
+  form_to_and_or_lits-weight (any_of ts) columns false n h =
+      let g = forms_to_and_or_lits columns true false ts n in
+      let w = forms_to_and_or_lits-weight ts columns false n h in
+      optional_lit_or_part-weight false (or_of_values_bound_lit columns ts) n (trees_size ts) (merge_lits_if_same_gate true true g) (omega arith)
+  form_to_and_or_lits-weight (negation t) columns positive n h = (let w = form_to_and_or_lits-weight t columns (not positive) n h in omega arith)
 
-  flatten_each_form-weight : (ts : Trees) (columns : List VarLits) (positive : Bool) (n : ℕ) → has_trivially_false positive ts ≡ false → weight_of (flatten_each_form columns true positive ts n) ≤ n + 2 * trees_size ts
-  flatten_each_form-weight none columns positive n h = omega arith
-  flatten_each_form-weight (more t ts) columns positive n h =
+  forms_to_and_or_lits-weight : (ts : Trees) (columns : List VarValueAndBoundLits) (positive : Bool) (n : ℕ) → has_trivially_false positive ts ≡ false → weight_of (forms_to_and_or_lits columns true positive ts n) ≤ n + 2 * trees_size ts
+  forms_to_and_or_lits-weight none columns positive n h = omega arith
+  forms_to_and_or_lits-weight (more t ts) columns positive n h =
       let parts = or_parts (is_trivially_false positive t) (has_trivially_false positive ts) h in
-      let g = flatten_form columns true positive t n in
+      let g = form_to_and_or_lits columns true positive t n in
       let m = g.part.vars in
-      let rest = flatten_each_form columns true positive ts m in
-      let one = flatten_form-weight t columns positive n parts.0 in
-      let two = flatten_each_form-weight ts columns positive m parts.1 in
+      let rest = forms_to_and_or_lits columns true positive ts m in
+      let one = form_to_and_or_lits-weight t columns positive n parts.0 in
+      let two = forms_to_and_or_lits-weight ts columns positive m parts.1 in
       omega (arith, one, two, length-append g.lits rest.lits)
 
-pub violated-few : (t : Tree) (columns : List VarLits) (n : ℕ) → (violated_part columns t n).vars ≤ n + 2 * tree_size t
+pub violated-few : (t : Tree) (columns : List VarValueAndBoundLits) (n : ℕ) → (form_fails_part columns t n).vars ≤ n + 2 * tree_size t
 violated-few t columns n = by_case (is_trivially_false true t) refl
   where
     g : PartWithLits
-    g = flatten_form columns true true t n
+    g = form_to_and_or_lits columns true true t n
 
-    by_case : (b : Bool) → is_trivially_false true t ≡ b → (cond b (empty_part n) (and_then g.part (some_lit_false_part g.lits))).vars ≤ n + 2 * tree_size t
+    by_case : (b : Bool) → is_trivially_false true t ≡ b → (cond b (empty_part n) (and_then g.part (some_first_violated_part g.lits))).vars ≤ n + 2 * tree_size t
     by_case true h = omega arith
     by_case false h =
-        let w = flatten_form-weight t columns true n h in
+        let w = form_to_and_or_lits-weight t columns true n h in
         let few = (first_violated-few g.lits g.part.vars).0 in
         omega arith
 
@@ -211,23 +211,23 @@ more-lits f h g q ls ms made same other = ap (λ (ks : List Literal). ks ++ ms) 
 pub more-made : (f h e : Formula) (g : PartWithLits) (q : ℕ → PartWithLits) → h ≡ with_part f g.part → e ≡ with_part h (q h.vars).part → e ≡ with_part f (append_part_lits g q).part
 more-made f h e g q made last = last ∙ ap (λ (k : Formula). with_part k (q k.vars).part) made ∙ with_part-and_then f g.part (λ m. (q m).part)
 
-pub violated-made : (f h e : Formula) (t : Tree) (columns : List VarLits) (ls : List Literal) →
-    is_trivially_false true t ≡ false → h ≡ with_part f (flatten_form columns true true t f.vars).part →
-    ls ≡ (flatten_form columns true true t f.vars).lits → e ≡ with_part h (some_lit_false_part ls h.vars) →
-    e ≡ with_part f (violated_part columns t f.vars)
+pub violated-made : (f h e : Formula) (t : Tree) (columns : List VarValueAndBoundLits) (ls : List Literal) →
+    is_trivially_false true t ≡ false → h ≡ with_part f (form_to_and_or_lits columns true true t f.vars).part →
+    ls ≡ (form_to_and_or_lits columns true true t f.vars).lits → e ≡ with_part h (some_first_violated_part ls h.vars) →
+    e ≡ with_part f (form_fails_part columns t f.vars)
 violated-made f h e t columns ls kept made same last =
-    let g = flatten_form columns true true t f.vars in
+    let g = form_to_and_or_lits columns true true t f.vars in
     last
-    ∙ ap (λ (ks : List Literal). with_part h (some_lit_false_part ks h.vars)) same
-    ∙ ap (λ (k : Formula). with_part k (some_lit_false_part g.lits k.vars)) made
-    ∙ with_part-and_then f g.part (some_lit_false_part g.lits)
-    ∙ ap (λ (b : Bool). with_part f (cond b (empty_part f.vars) (and_then g.part (some_lit_false_part g.lits)))) (sym kept)
+    ∙ ap (λ (ks : List Literal). with_part h (some_first_violated_part ks h.vars)) same
+    ∙ ap (λ (k : Formula). with_part k (some_first_violated_part g.lits k.vars)) made
+    ∙ with_part-and_then f g.part (some_first_violated_part g.lits)
+    ∙ ap (λ (b : Bool). with_part f (cond b (empty_part f.vars) (and_then g.part (some_first_violated_part g.lits)))) (sym kept)
 
-pub never-made : (f : Formula) (t : Tree) (columns : List VarLits) → is_trivially_false true t ≡ true → f ≡ with_part f (violated_part columns t f.vars)
+pub never-made : (f : Formula) (t : Tree) (columns : List VarValueAndBoundLits) → is_trivially_false true t ≡ true → f ≡ with_part f (form_fails_part columns t f.vars)
 never-made f t columns never =
-    let g = flatten_form columns true true t f.vars in
+    let g = form_to_and_or_lits columns true true t f.vars in
     ap (λ (cs : List (List Literal)). record { vars = f.vars; clauses = cs }) (sym (append-nil f.clauses))
-    ∙ ap (λ (b : Bool). with_part f (cond b (empty_part f.vars) (and_then g.part (some_lit_false_part g.lits)))) (sym never)
+    ∙ ap (λ (b : Bool). with_part f (cond b (empty_part f.vars) (and_then g.part (some_first_violated_part g.lits)))) (sym never)
 
 pub has_no_trees-empty : (fs : List Form) → eqb (length fs) 0 ≡ has_no_trees (trees_of fs)
 has_no_trees-empty [] = refl

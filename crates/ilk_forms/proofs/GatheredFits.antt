@@ -8,10 +8,10 @@ use Rattle.ilk_cnf.proofs.Literals.{is_clause_over-more, are_clauses_over-more}
 use Rattle.ilk_cnf.proofs.Gates.{new-in, all_of-in, any_of-in}
 use Rattle.ilk_ints.specs.Named.{PartWithLits}
 use Rattle.ilk_ir.specs.Tree.{Tree, yes, no, is, all_of, any_of, negation, Trees, none, more, tree_valid, each_valid}
-use Rattle.ilk_forms.specs.declared.copy.VarLits.{VarLits}
+use Rattle.ilk_forms.specs.declared.copy.VarValueAndBoundLits.{VarValueAndBoundLits}
 use Rattle.ilk_forms.specs.Leaf.{value_lit, has_lits_within_vars, ranges_of}
-use Rattle.ilk_forms.specs.Bound.{bound_lit_of_or_form}
-use Rattle.ilk_forms.specs.Gathered.{PartWithLit, bool_equals, with_sign, no_literals, one_literal, lit_or_else, append_part_lits, gate_part, combined_lit, combined, merged_into, flatten_form, flatten_each_form}
+use Rattle.ilk_forms.specs.Bound.{or_of_values_bound_lit}
+use Rattle.ilk_forms.specs.Gathered.{PartWithLit, bool_equals, with_sign, part_with_no_lits, part_with_one_lit, optional_lit_or_part, append_part_lits, gate_part, combined_lit, combine_lits_into_one, merge_lits_if_same_gate, form_to_and_or_lits, forms_to_and_or_lits}
 use Rattle.ilk_forms.proofs.BoundLaw.{any-in}
 use Rattle.ilk_forms.proofs.Reading.{has_lits_within_vars-more, value_lit-in}
 
@@ -28,8 +28,8 @@ pub record SingleFits (n : ℕ) (s : PartWithLit) : Type 0 where
 same : (n : ℕ) → n ≤ n
 same n = omega arith
 
-pub no_literals-fits : (n : ℕ) → Fits n (no_literals n)
-no_literals-fits n = record { low = same n; inside = refl; lits = refl }
+pub part_with_no_lits-fits : (n : ℕ) → Fits n (part_with_no_lits n)
+part_with_no_lits-fits n = record { low = same n; inside = refl; lits = refl }
 
 pub then-fits : (n : ℕ) (g : PartWithLits) (h : ℕ → PartWithLits) → Fits n g → Fits g.part.vars (h g.part.vars) → Fits n (append_part_lits g h)
 then-fits n g h one two =
@@ -52,8 +52,8 @@ combined_lit-fits all [] n h = gate-fits all [] n h
 combined_lit-fits all (l ∷ []) n h = record { low = same n; inside = refl; lit = (and_parts _ _ h).0 }
 combined_lit-fits all (l ∷ m ∷ ls) n h = gate-fits all (l ∷ m ∷ ls) n h
 
-pub combined-fits : (all : Bool) (n : ℕ) (g : PartWithLits) → Fits n g → SingleFits n (combined all g)
-combined-fits all n g h =
+pub combine_lits_into_one-fits : (all : Bool) (n : ℕ) (g : PartWithLits) → Fits n g → SingleFits n (combine_lits_into_one all g)
+combine_lits_into_one-fits all n g h =
     let m = g.part.vars in
     let s = combined_lit all g.lits m in
     let k = s.part.vars in
@@ -66,41 +66,43 @@ combined-fits all n g h =
       lit = last.lit;
     }
 
-merged_into-fits : (outer inner : Bool) (n : ℕ) (g : PartWithLits) → Fits n g → Fits n (merged_into outer inner g)
-merged_into-fits outer inner n g h = by_case (bool_equals outer inner)
+merge_lits_if_same_gate-fits : (outer inner : Bool) (n : ℕ) (g : PartWithLits) → Fits n g → Fits n (merge_lits_if_same_gate outer inner g)
+merge_lits_if_same_gate-fits outer inner n g h = by_case (bool_equals outer inner)
   where
-    by_case : (b : Bool) → Fits n (cond b g (record { part = (combined inner g).part; lits = (combined inner g).lit ∷ [] }))
+    by_case : (b : Bool) → Fits n (cond b g (record { part = (combine_lits_into_one inner g).part; lits = (combine_lits_into_one inner g).lit ∷ [] }))
     by_case true = h
     by_case false =
-        let s = combined-fits inner n g h in
+        let s = combine_lits_into_one-fits inner n g h in
         record { low = s.low; inside = s.inside; lits = and_from _ _ s.lit refl }
 
 pub signed-in : (positive : Bool) (n : ℕ) (l : Literal) → is_lit_over n l ≡ true → is_lit_over n (with_sign positive l) ≡ true
 signed-in true n l h = h
 signed-in false n l h = h
 
-one_literal-fits : (positive : Bool) (l : Literal) (n : ℕ) → is_lit_over n l ≡ true → Fits n (one_literal positive l n)
-one_literal-fits positive l n h = record { low = same n; inside = refl; lits = and_from _ _ (signed-in positive n l h) refl }
+part_with_one_lit-fits : (positive : Bool) (l : Literal) (n : ℕ) → is_lit_over n l ≡ true → Fits n (part_with_one_lit positive l n)
+part_with_one_lit-fits positive l n h = record { low = same n; inside = refl; lits = and_from _ _ (signed-in positive n l h) refl }
 
-lit_or_else-fits : (positive : Bool) (o : Option Literal) (n : ℕ) (g : PartWithLits) → ((l : Literal) → o ≡ Some l → is_lit_over n l ≡ true) → Fits n g → Fits n (lit_or_else positive o n g)
-lit_or_else-fits positive None n g inside h = h
-lit_or_else-fits positive (Some l) n g inside h = one_literal-fits positive l n (inside l refl)
+optional_lit_or_part-fits : (positive : Bool) (o : Option Literal) (n : ℕ) (g : PartWithLits) → ((l : Literal) → o ≡ Some l → is_lit_over n l ≡ true) → Fits n g → Fits n (optional_lit_or_part positive o n g)
+optional_lit_or_part-fits positive None n g inside h = h
+optional_lit_or_part-fits positive (Some l) n g inside h = part_with_one_lit-fits positive l n (inside l refl)
 
 mutual
-  pub flatten_form-fits : (t : Tree) (columns : List VarLits) (all positive : Bool) (n : ℕ) → has_lits_within_vars n columns ≡ true → tree_valid (ranges_of columns) t ≡ true → Fits n (flatten_form columns all positive t n)
-  flatten_form-fits yes columns all positive n h k = merged_into-fits all positive n (no_literals n) (no_literals-fits n)
-  flatten_form-fits no columns all positive n h k = merged_into-fits all (not positive) n (no_literals n) (no_literals-fits n)
-  flatten_form-fits (is v c) columns all positive n h k = one_literal-fits positive (value_lit columns v c) n (value_lit-in columns v c n h k)
-  flatten_form-fits (all_of ts) columns all positive n h k = merged_into-fits all positive n (flatten_each_form columns positive positive ts n) (flatten_each_form-fits ts columns positive positive n h k)
-  flatten_form-fits (any_of ts) columns all positive n h k =
-      let g = flatten_each_form columns (not positive) positive ts n in
-      lit_or_else-fits positive (bound_lit_of_or_form columns ts) n (merged_into all (not positive) g) (λ l e. any-in ts columns n l h e) (merged_into-fits all (not positive) n g (flatten_each_form-fits ts columns (not positive) positive n h k))
-  flatten_form-fits (negation t) columns all positive n h k = flatten_form-fits t columns all (not positive) n h k
+  pub form_to_and_or_lits-fits : (t : Tree) (columns : List VarValueAndBoundLits) (all positive : Bool) (n : ℕ) → has_lits_within_vars n columns ≡ true → tree_valid (ranges_of columns) t ≡ true → Fits n (form_to_and_or_lits columns all positive t n)
+  form_to_and_or_lits-fits yes columns all positive n h k = merge_lits_if_same_gate-fits all positive n (part_with_no_lits n) (part_with_no_lits-fits n)
+  form_to_and_or_lits-fits no columns all positive n h k = merge_lits_if_same_gate-fits all (not positive) n (part_with_no_lits n) (part_with_no_lits-fits n)
+  form_to_and_or_lits-fits (is v c) columns all positive n h k = part_with_one_lit-fits positive (value_lit columns v c) n (value_lit-in columns v c n h k)
+  form_to_and_or_lits-fits (all_of ts) columns all positive n h k = merge_lits_if_same_gate-fits all positive n (forms_to_and_or_lits columns positive positive ts n) (forms_to_and_or_lits-fits ts columns positive positive n h k)
+  form_to_and_or_lits-fits (any_of ts) columns all positive n h k =
+      let g = forms_to_and_or_lits columns (not positive) positive ts n in
+      optional_lit_or_part-fits positive (or_of_values_bound_lit columns ts) n (merge_lits_if_same_gate all (not positive) g) (λ l e. any-in ts columns n l h e) (merge_lits_if_same_gate-fits all (not positive) n g (forms_to_and_or_lits-fits
+      ts columns (not positive) positive n h k))
+  form_to_and_or_lits-fits (negation t) columns all positive n h k = form_to_and_or_lits-fits t columns all (not positive) n h k
 
-  pub flatten_each_form-fits : (ts : Trees) (columns : List VarLits) (all positive : Bool) (n : ℕ) → has_lits_within_vars n columns ≡ true → each_valid (ranges_of columns) ts ≡ true → Fits n (flatten_each_form columns all positive ts n)
-  flatten_each_form-fits none columns all positive n h k = no_literals-fits n
-  flatten_each_form-fits (more t ts) columns all positive n h k =
+  pub forms_to_and_or_lits-fits : (ts : Trees) (columns : List VarValueAndBoundLits) (all positive : Bool) (n : ℕ) → has_lits_within_vars n columns ≡ true → each_valid (ranges_of columns) ts ≡ true →
+      Fits n (forms_to_and_or_lits columns all positive ts n)
+  forms_to_and_or_lits-fits none columns all positive n h k = part_with_no_lits-fits n
+  forms_to_and_or_lits-fits (more t ts) columns all positive n h k =
       let parts = and_parts _ _ k in
-      let first = flatten_form-fits t columns all positive n h parts.0 in
-      let m = (flatten_form columns all positive t n).part.vars in
-      then-fits n (flatten_form columns all positive t n) (flatten_each_form columns all positive ts) first (flatten_each_form-fits ts columns all positive m (has_lits_within_vars-more n m columns first.low h) parts.1)
+      let first = form_to_and_or_lits-fits t columns all positive n h parts.0 in
+      let m = (form_to_and_or_lits columns all positive t n).part.vars in
+      then-fits n (form_to_and_or_lits columns all positive t n) (forms_to_and_or_lits columns all positive ts) first (forms_to_and_or_lits-fits ts columns all positive m (has_lits_within_vars-more n m columns first.low h) parts.1)

@@ -10,39 +10,39 @@ use Rattle.ilk_base.proofs.Lengths.{longer}
 use Rattle.ilk_cnf.specs.Literal.{Literal, positive_lit}
 use Rattle.ilk_cnf.specs.Formula.{is_clause_over}
 use Rattle.ilk_cnf.specs.Truth.{is_true}
-use Rattle.ilk_cnf.specs.Extends.{ExtensionsAreExactly, AreExactValues}
+use Rattle.ilk_cnf.specs.Extends.{ExtensionsAreExactly, EqualsGivenValues}
 use Rattle.ilk_cnf.proofs.Parts.{value-new, one_by_one}
 use Rattle.ilk_cnf.proofs.Gates.{is_true-negated_lit}
 use Rattle.ilk_cnf.proofs.Extending.{no_more_if, only_from_if, all_of-law, any_of-law}
 use Rattle.ilk_ints.specs.Named.{PartWithLits}
 use Rattle.ilk_ints.proofs.OneOfLaw.{map-left}
 use Rattle.ilk_ir.specs.Tree.{Tree, yes, no, is, all_of, any_of, negation, Trees, none, more, some_holds, tree_valid, each_valid, var_has_value}
-use Rattle.ilk_forms.specs.declared.copy.VarLits.{VarLits}
+use Rattle.ilk_forms.specs.declared.copy.VarValueAndBoundLits.{VarValueAndBoundLits}
 use Rattle.ilk_forms.specs.Leaf.{value_lit, has_lits_within_vars, ranges_of}
-use Rattle.ilk_forms.specs.Bound.{bound_lit_of_or_form, has_bound_lit_of_or_form}
-use Rattle.ilk_forms.specs.Gathered.{PartWithLit, bool_equals, with_sign, no_literals, one_literal, lit_or_else, append_part_lits, gate_part, combined_lit, combined, merged_into, flatten_form, flatten_each_form}
-use Rattle.ilk_forms.specs.Truths.{Truths, no_truths, single_truth, append_truths, gate_truth, gate_bits, merged_truths, truths, truths_each}
+use Rattle.ilk_forms.specs.Bound.{or_of_values_bound_lit, or_of_values_has_lit}
+use Rattle.ilk_forms.specs.Gathered.{PartWithLit, bool_equals, with_sign, part_with_no_lits, part_with_one_lit, optional_lit_or_part, append_part_lits, gate_part, combined_lit, combine_lits_into_one, merge_lits_if_same_gate, form_to_and_or_lits, forms_to_and_or_lits}
+use Rattle.ilk_forms.specs.Truths.{VarAndLitTruths, no_truths, single_lit_truth, append_truths, gate_truth, gate_bits, merge_truths_if_same_gate, truths, truths_each}
 use Rattle.ilk_forms.proofs.BoundForms.{Stands}
 use Rattle.ilk_forms.proofs.BoundLaw.{any-says}
 use Rattle.ilk_forms.proofs.Reading.{Reads, reads-more}
 use Rattle.ilk_forms.proofs.TruthsMean.{alone}
-use Rattle.ilk_forms.proofs.GatheredFits.{Fits, flatten_form-fits, flatten_each_form-fits}
+use Rattle.ilk_forms.proofs.GatheredFits.{Fits, form_to_and_or_lits-fits, forms_to_and_or_lits-fits}
 
-pub record Says (a : List Bool) (g : PartWithLits) (t : Truths) : Type 0 where
-  pub part : ExtensionsAreExactly a g.part.vars g.part.clauses (AreExactValues t.bits)
+pub record Says (a : List Bool) (g : PartWithLits) (t : VarAndLitTruths) : Type 0 where
+  pub part : ExtensionsAreExactly a g.part.vars g.part.clauses (EqualsGivenValues t.bits)
   pub means : map (is_true (a ++ t.bits)) g.lits ≡ t.lits
 
 pub record SingleSays (a : List Bool) (s : PartWithLit) (bits : List Bool) (truth : Bool) : Type 0 where
-  pub part : ExtensionsAreExactly a s.part.vars s.part.clauses (AreExactValues bits)
+  pub part : ExtensionsAreExactly a s.part.vars s.part.clauses (EqualsGivenValues bits)
   pub means : is_true (a ++ bits) s.lit ≡ truth
 
-nothing : (a : List Bool) (n : ℕ) → length a ≡ n → ExtensionsAreExactly a n [] (AreExactValues [])
+nothing : (a : List Bool) (n : ℕ) → length a ≡ n → ExtensionsAreExactly a n [] (EqualsGivenValues [])
 nothing a n size = only_from_if a n [] [] (no_more_if a n [] true size refl)
 
-pub no_literals-says : (a : List Bool) (n : ℕ) → length a ≡ n → Says a (no_literals n) no_truths
-no_literals-says a n size = record { part = nothing a n size; means = refl }
+pub part_with_no_lits-says : (a : List Bool) (n : ℕ) → length a ≡ n → Says a (part_with_no_lits n) no_truths
+part_with_no_lits-says a n size = record { part = nothing a n size; means = refl }
 
-pub then-says : (a : List Bool) (n : ℕ) (g : PartWithLits) (h : ℕ → PartWithLits) (s t : Truths) → length a ≡ n → Fits n g → Fits g.part.vars (h g.part.vars) → Says a g s → Says (a ++ s.bits) (h g.part.vars) t
+pub then-says : (a : List Bool) (n : ℕ) (g : PartWithLits) (h : ℕ → PartWithLits) (s t : VarAndLitTruths) → length a ≡ n → Fits n g → Fits g.part.vars (h g.part.vars) → Says a g s → Says (a ++ s.bits) (h g.part.vars) t
     → Says a (append_part_lits g h) (append_truths s t)
 then-says a n g h s t size fits next_fits one two =
     let m = g.part.vars in
@@ -64,13 +64,13 @@ gate-says : (a : List Bool) (all : Bool) (ls : List Literal) (n : ℕ) → lengt
 gate-says a true ls n size h =
     let e : list_all (is_true a) ls ≡ gate_truth true (map (is_true a) ls) = sym (list_all-map (λ (q : Bool). q) (is_true a) ls) in
     record {
-      part = subst (λ (q : Bool). ExtensionsAreExactly a (n + 1) (gate_part true ls n).clauses (AreExactValues (q ∷ []))) e (all_of-law a n ls size h);
+      part = subst (λ (q : Bool). ExtensionsAreExactly a (n + 1) (gate_part true ls n).clauses (EqualsGivenValues (q ∷ []))) e (all_of-law a n ls size h);
       means = value-new a [] (gate_truth true (map (is_true a) ls)) (n + 1) (ap (λ (k : ℕ). k + 1) size);
     }
 gate-says a false ls n size h =
     let e : list_any (is_true a) ls ≡ gate_truth false (map (is_true a) ls) = sym (list_any-map (λ (q : Bool). q) (is_true a) ls) in
     record {
-      part = subst (λ (q : Bool). ExtensionsAreExactly a (n + 1) (gate_part false ls n).clauses (AreExactValues (q ∷ []))) e (any_of-law a n ls size h);
+      part = subst (λ (q : Bool). ExtensionsAreExactly a (n + 1) (gate_part false ls n).clauses (EqualsGivenValues (q ∷ []))) e (any_of-law a n ls size h);
       means = value-new a [] (gate_truth false (map (is_true a) ls)) (n + 1) (ap (λ (k : ℕ). k + 1) size);
     }
 
@@ -82,8 +82,9 @@ combined_lit-says a all (l ∷ []) n size h = record {
 }
 combined_lit-says a all (l ∷ m ∷ ls) n size h = gate-says a all (l ∷ m ∷ ls) n size h
 
-pub combined-says : (a : List Bool) (all : Bool) (n : ℕ) (g : PartWithLits) (t : Truths) → length a ≡ n → Fits n g → Says a g t → SingleSays a (combined all g) (t.bits ++ gate_bits all t.lits) (gate_truth all t.lits)
-combined-says a all n g t size fits one =
+pub combine_lits_into_one-says : (a : List Bool) (all : Bool) (n : ℕ) (g : PartWithLits) (t : VarAndLitTruths) → length a ≡ n → Fits n g → Says a g t → SingleSays a (combine_lits_into_one all g) (t.bits ++
+    gate_bits all t.lits) (gate_truth all t.lits)
+combine_lits_into_one-says a all n g t size fits one =
     let m = g.part.vars in
     let s = combined_lit all g.lits m in
     let long : length (a ++ t.bits) ≡ m = one.part.sized t.bits refl in
@@ -102,16 +103,20 @@ combined-says a all n g t size fits one =
     single_of-low true (l ∷ m ∷ ls) n = omega arith
     single_of-low false (l ∷ m ∷ ls) n = omega arith
 
-merged_into-says : (a : List Bool) (outer inner : Bool) (n : ℕ) (g : PartWithLits) (t : Truths) → length a ≡ n → Fits n g → Says a g t → Says a (merged_into outer inner g) (merged_truths outer inner t)
-merged_into-says a outer inner n g t size fits one = by_case (bool_equals outer inner)
+merge_lits_if_same_gate-says : (a : List Bool) (outer inner : Bool) (n : ℕ) (g : PartWithLits) (t : VarAndLitTruths) → length a ≡ n → Fits n g → Says a g t → Says a (merge_lits_if_same_gate outer inner g) (merge_truths_if_same_gate outer inner t)
+merge_lits_if_same_gate-says a outer inner n g t size fits one = by_case (bool_equals outer inner)
   where
-    by_case : (b : Bool) → Says a (cond b g (record { part = (combined inner g).part; lits = (combined inner g).lit ∷ [] })) (cond b t (record { bits = t.bits ++ gate_bits inner t.lits; lits = gate_truth inner t.lits ∷ [] }))
+    by_case : (b : Bool) → Says a (cond b g (record { part = (combine_lits_into_one inner g).part; lits = (combine_lits_into_one inner g).lit ∷ [] })) (cond b t (record {
+      bits = t.bits ++ gate_bits inner t.lits;
+      lits =
+          gate_truth inner t.lits ∷ [];
+    }))
     by_case true = one
     by_case false =
-        let s = combined-says a inner n g t size fits one in
+        let s = combine_lits_into_one-says a inner n g t size fits one in
         record { part = s.part; means = ap (λ (q : Bool). q ∷ []) s.means }
 
-pub here : (columns : List VarLits) (ranges ws : List ℕ) (a : List Bool) (n : ℕ) → length a ≡ n → Reads a columns ranges ws → has_lits_within_vars n columns ≡ true
+pub here : (columns : List VarValueAndBoundLits) (ranges ws : List ℕ) (a : List Bool) (n : ℕ) → length a ≡ n → Reads a columns ranges ws → has_lits_within_vars n columns ≡ true
 here columns ranges ws a n size r = rw (← size) r.within
 
 pub same : (n : ℕ) → n ≤ n
@@ -121,60 +126,65 @@ pub signed-says : (a : List Bool) (positive : Bool) (l : Literal) → is_true a 
 signed-says a true l = refl
 signed-says a false l = is_true-negated_lit a l
 
-one_literal-says : (a : List Bool) (positive : Bool) (l : Literal) (truth : Bool) (n : ℕ) → length a ≡ n → is_true a l ≡ truth → Says a (one_literal positive l n) (single_truth positive truth)
-one_literal-says a positive l truth n size h =
+part_with_one_lit-says : (a : List Bool) (positive : Bool) (l : Literal) (truth : Bool) (n : ℕ) → length a ≡ n → is_true a l ≡ truth → Says a (part_with_one_lit positive l n) (single_lit_truth positive truth)
+part_with_one_lit-says a positive l truth n size h =
     let says : is_true (a ++ []) (with_sign positive l) ≡ bool_equals positive truth = ap (λ (u : List Bool). is_true u (with_sign positive l)) (append-nil a) ∙ signed-says a positive l ∙ ap (bool_equals positive) h in
     record { part = nothing a n size; means = ap (λ (q : Bool). q ∷ []) says }
 
-lit_or_else-says :
-    (a : List Bool) (positive : Bool) (o : Option Literal) (has truth : Bool) (n : ℕ) (g : PartWithLits) (t : Truths)
+optional_lit_or_part-says :
+    (a : List Bool) (positive : Bool) (o : Option Literal) (has truth : Bool) (n : ℕ) (g : PartWithLits) (t : VarAndLitTruths)
     → length a ≡ n →
     Stands a o has truth → Says a g t →
-    Says a (lit_or_else positive o n g) (cond has (single_truth positive truth) t)
-lit_or_else-says a positive None has truth n g t size h one = subst (λ (b : Bool). Says a g (cond {A = Truths} b (single_truth positive truth) t)) (sym h) one
-lit_or_else-says a positive (Some l) has truth n g t size h one =
-    subst (λ (b : Bool). Says a (one_literal positive l n) (cond {A = Truths} b (single_truth positive truth) t)) (sym h.0) (one_literal-says a positive l truth n size h.1)
+    Says a (optional_lit_or_part positive o n g) (cond has (single_lit_truth positive truth) t)
+optional_lit_or_part-says a positive None has truth n g t size h one = subst (λ (b : Bool). Says a g (cond {A = VarAndLitTruths} b (single_lit_truth positive truth) t)) (sym h) one
+optional_lit_or_part-says a positive (Some l) has truth n g t size h one =
+    subst (λ (b : Bool). Says a (part_with_one_lit positive l n) (cond {A = VarAndLitTruths} b (single_lit_truth positive truth) t)) (sym h.0) (part_with_one_lit-says a positive l truth n size h.1)
 
 mutual
-  pub flatten_form-says :
-      (t : Tree) (columns : List VarLits) (ranges ws : List ℕ) (all positive : Bool) (a : List Bool) (n : ℕ) →
+  pub form_to_and_or_lits-says :
+      (t : Tree) (columns : List VarValueAndBoundLits) (ranges ws : List ℕ) (all positive : Bool) (a : List Bool) (n : ℕ) →
       length a ≡ n → Reads a columns ranges ws → tree_valid (ranges_of columns) t ≡ true →
-      Says a (flatten_form columns all positive t n) (truths ranges ws all positive t)
-  flatten_form-says yes columns ranges ws all positive a n size r k = merged_into-says a all positive n (no_literals n) no_truths size (record { low = same n; inside = refl; lits = refl }) (no_literals-says a n size)
-  flatten_form-says no columns ranges ws all positive a n size r k = merged_into-says a all (not positive) n (no_literals n) no_truths size (record { low = same n; inside = refl; lits = refl }) (no_literals-says a n size)
-  flatten_form-says (is v c) columns ranges ws all positive a n size r k = one_literal-says a positive (value_lit columns v c) (var_has_value ws v c) n size (r.says v c k)
-  flatten_form-says (all_of ts) columns ranges ws all positive a n size r k =
-      merged_into-says a all positive n (flatten_each_form columns positive positive ts n)
+      Says a (form_to_and_or_lits columns all positive t n) (truths ranges ws all positive t)
+  form_to_and_or_lits-says yes columns ranges ws all positive a n size r k = merge_lits_if_same_gate-says a all positive n (part_with_no_lits n) no_truths size (record { low = same n; inside = refl; lits = refl }) (part_with_no_lits-says a n size)
+  form_to_and_or_lits-says no columns ranges ws all positive a n size r k = merge_lits_if_same_gate-says a all (not positive) n (part_with_no_lits n) no_truths size (record {
+    low = same n;
+    inside = refl;
+    lits =
+        refl;
+  }) (part_with_no_lits-says a n size)
+  form_to_and_or_lits-says (is v c) columns ranges ws all positive a n size r k = part_with_one_lit-says a positive (value_lit columns v c) (var_has_value ws v c) n size (r.says v c k)
+  form_to_and_or_lits-says (all_of ts) columns ranges ws all positive a n size r k =
+      merge_lits_if_same_gate-says a all positive n (forms_to_and_or_lits columns positive positive ts n)
       (truths_each ranges ws positive positive ts) size
-      (flatten_each_form-fits ts columns positive positive n (here columns ranges ws a n size r) k)
-      (flatten_each_form-says ts columns ranges ws positive positive a n size r k)
-  flatten_form-says (any_of ts) columns ranges ws all positive a n size r k =
-      let g = flatten_each_form columns (not positive) positive ts n in
+      (forms_to_and_or_lits-fits ts columns positive positive n (here columns ranges ws a n size r) k)
+      (forms_to_and_or_lits-says ts columns ranges ws positive positive a n size r k)
+  form_to_and_or_lits-says (any_of ts) columns ranges ws all positive a n size r k =
+      let g = forms_to_and_or_lits columns (not positive) positive ts n in
       let s = truths_each ranges ws (not positive) positive ts in
-      lit_or_else-says a positive (bound_lit_of_or_form columns ts) (has_bound_lit_of_or_form ranges ts) (some_holds ws ts) n
-      (merged_into all (not positive) g) (merged_truths all (not positive) s) size
+      optional_lit_or_part-says a positive (or_of_values_bound_lit columns ts) (or_of_values_has_lit ranges ts) (some_holds ws ts) n
+      (merge_lits_if_same_gate all (not positive) g) (merge_truths_if_same_gate all (not positive) s) size
       (any-says ts a columns ranges ws r.bounded k)
-      (merged_into-says a all (not positive) n g s size
-      (flatten_each_form-fits ts columns (not positive) positive n (here columns ranges ws a n size r) k)
-      (flatten_each_form-says ts columns ranges ws (not positive) positive a n size r k))
-  flatten_form-says (negation t) columns ranges ws all positive a n size r k = flatten_form-says t columns ranges ws all (not positive) a n size r k
+      (merge_lits_if_same_gate-says a all (not positive) n g s size
+      (forms_to_and_or_lits-fits ts columns (not positive) positive n (here columns ranges ws a n size r) k)
+      (forms_to_and_or_lits-says ts columns ranges ws (not positive) positive a n size r k))
+  form_to_and_or_lits-says (negation t) columns ranges ws all positive a n size r k = form_to_and_or_lits-says t columns ranges ws all (not positive) a n size r k
 
-  pub flatten_each_form-says :
-      (ts : Trees) (columns : List VarLits) (ranges ws : List ℕ) (all positive : Bool) (a : List Bool) (n : ℕ)
+  pub forms_to_and_or_lits-says :
+      (ts : Trees) (columns : List VarValueAndBoundLits) (ranges ws : List ℕ) (all positive : Bool) (a : List Bool) (n : ℕ)
       → length a ≡ n →
       Reads a columns ranges ws → each_valid (ranges_of columns) ts ≡ true →
-      Says a (flatten_each_form columns all positive ts n) (truths_each ranges ws all positive ts)
-  flatten_each_form-says none columns ranges ws all positive a n size r k = no_literals-says a n size
-  flatten_each_form-says (more t ts) columns ranges ws all positive a n size r k =
+      Says a (forms_to_and_or_lits columns all positive ts n) (truths_each ranges ws all positive ts)
+  forms_to_and_or_lits-says none columns ranges ws all positive a n size r k = part_with_no_lits-says a n size
+  forms_to_and_or_lits-says (more t ts) columns ranges ws all positive a n size r k =
       let parts = and_parts _ _ k in
-      let g = flatten_form columns all positive t n in
+      let g = form_to_and_or_lits columns all positive t n in
       let s = truths ranges ws all positive t in
-      let fits = flatten_form-fits t columns all positive n (here columns ranges ws a n size r) parts.0 in
-      let one = flatten_form-says t columns ranges ws all positive a n size r parts.0 in
+      let fits = form_to_and_or_lits-fits t columns all positive n (here columns ranges ws a n size r) parts.0 in
+      let one = form_to_and_or_lits-says t columns ranges ws all positive a n size r parts.0 in
       let long : length (a ++ s.bits) ≡ g.part.vars = one.part.sized s.bits refl in
       let next = reads-more a s.bits columns ranges ws (longer a s.bits) r in
-      then-says a n g (flatten_each_form columns all positive ts) s (truths_each ranges ws all positive ts) size
+      then-says a n g (forms_to_and_or_lits columns all positive ts) s (truths_each ranges ws all positive ts) size
       fits
-      (flatten_each_form-fits ts columns all positive g.part.vars
+      (forms_to_and_or_lits-fits ts columns all positive g.part.vars
       (here columns ranges ws (a ++ s.bits) g.part.vars long next) parts.1) one
-      (flatten_each_form-says ts columns ranges ws all positive (a ++ s.bits) g.part.vars long next parts.1)
+      (forms_to_and_or_lits-says ts columns ranges ws all positive (a ++ s.bits) g.part.vars long next parts.1)

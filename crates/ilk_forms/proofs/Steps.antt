@@ -1,4 +1,3 @@
--- One step of the calls that add parts.
 use Rattle.std.proofs.Common.{◌≡◌, ℕ, Bool, true, false, List, [], ◌∷◌, ◌++◌, cond, sym, ap, ◌∙◌, append_assoc}
 use Rattle.std.proofs.lemmas.List.{append-nil}
 use Rattle.std.proofs.lemmas.Bool.{and_parts}
@@ -9,48 +8,48 @@ use Rattle.ilk_cnf.proofs.Gates.{with_part-and_then}
 use Rattle.ilk_cnf.proofs.Literals.{is_clause_over-more}
 use Rattle.ilk_ints.specs.Named.{PartWithLits}
 use Rattle.ilk_ir.specs.Tree.{Tree, Trees, more, each_valid}
-use Rattle.ilk_forms.specs.declared.copy.VarLits.{VarLits}
+use Rattle.ilk_forms.specs.declared.copy.VarValueAndBoundLits.{VarValueAndBoundLits}
 use Rattle.ilk_forms.specs.Leaf.{has_lits_within_vars, ranges_of}
-use Rattle.ilk_forms.specs.Gathered.{bool_equals, combined_lit, combined, merged_into, flatten_form, flatten_each_form}
-use Rattle.ilk_forms.specs.Demand.{one_clause, joined_clause_part, demand_of, demand_each}
+use Rattle.ilk_forms.specs.Gathered.{bool_equals, combined_lit, combine_lits_into_one, merge_lits_if_same_gate, form_to_and_or_lits, forms_to_and_or_lits}
+use Rattle.ilk_forms.specs.Demand.{one_clause_part, clause_of_two_lists_part, demand_of, demand_each}
 use Rattle.ilk_forms.proofs.Reading.{has_lits_within_vars-more}
-use Rattle.ilk_forms.proofs.GatheredFits.{Fits, flatten_form-fits}
+use Rattle.ilk_forms.proofs.GatheredFits.{Fits, form_to_and_or_lits-fits}
 use Rattle.ilk_forms.proofs.DemandLaw.{demand_of-fits}
 
-pub merged_into-lits : (outer inner : Bool) (f h : Formula) (g : PartWithLits) (ls : List Literal) → h ≡ with_part f g.part → ls ≡ g.lits
-    → (merged_into outer inner (record { part = empty_part h.vars; lits = ls })).lits ≡ (merged_into outer inner g).lits
-merged_into-lits outer inner f h g ls made is = by_case (bool_equals outer inner)
+pub merge_lits_if_same_gate-lits : (outer inner : Bool) (f h : Formula) (g : PartWithLits) (ls : List Literal) → h ≡ with_part f g.part → ls ≡ g.lits
+    → (merge_lits_if_same_gate outer inner (record { part = empty_part h.vars; lits = ls })).lits ≡ (merge_lits_if_same_gate outer inner g).lits
+merge_lits_if_same_gate-lits outer inner f h g ls made is = by_case (bool_equals outer inner)
   where
     by_case : (b : Bool) →
         (cond {A = PartWithLits} b (record { part = empty_part h.vars; lits = ls })
         (record {
-          part = (combined inner (record { part = empty_part h.vars; lits = ls })).part;
-          lits = (combined inner (record { part = empty_part h.vars; lits = ls })).lit ∷ [];
+          part = (combine_lits_into_one inner (record { part = empty_part h.vars; lits = ls })).part;
+          lits = (combine_lits_into_one inner (record { part = empty_part h.vars; lits = ls })).lit ∷ [];
         })).lits
         ≡
         (cond {A = PartWithLits} b g
-        (record { part = (combined inner g).part; lits = (combined inner g).lit ∷ [] })).lits
+        (record { part = (combine_lits_into_one inner g).part; lits = (combine_lits_into_one inner g).lit ∷ [] })).lits
     by_case true = is
     by_case false =
         ap (λ (ks : List Literal). (combined_lit inner ks h.vars).lit ∷ []) is ∙ ap (λ (k : Formula). (combined_lit inner g.lits k.vars).lit ∷ []) made
 
-pub merged_into-made : (outer inner : Bool) (f h k : Formula) (g : PartWithLits) (ls : List Literal) →
+pub merge_lits_if_same_gate-made : (outer inner : Bool) (f h k : Formula) (g : PartWithLits) (ls : List Literal) →
     h ≡ with_part f g.part → ls ≡ g.lits →
-    k ≡ with_part h (merged_into outer inner (record { part = empty_part h.vars; lits = ls })).part →
-    k ≡ with_part f (merged_into outer inner g).part
-merged_into-made outer inner f h k g ls made is last = last ∙ by_case (bool_equals outer inner)
+    k ≡ with_part h (merge_lits_if_same_gate outer inner (record { part = empty_part h.vars; lits = ls })).part →
+    k ≡ with_part f (merge_lits_if_same_gate outer inner g).part
+merge_lits_if_same_gate-made outer inner f h k g ls made is last = last ∙ by_case (bool_equals outer inner)
   where
     by_case : (b : Bool) →
         with_part h
         (cond {A = PartWithLits} b (record { part = empty_part h.vars; lits = ls })
         (record {
-          part = (combined inner (record { part = empty_part h.vars; lits = ls })).part;
-          lits = (combined inner (record { part = empty_part h.vars; lits = ls })).lit
+          part = (combine_lits_into_one inner (record { part = empty_part h.vars; lits = ls })).part;
+          lits = (combine_lits_into_one inner (record { part = empty_part h.vars; lits = ls })).lit
               ∷ [];
         })).part
         ≡ with_part f
         (cond {A = PartWithLits} b g
-        (record { part = (combined inner g).part; lits = (combined inner g).lit ∷ [] })).part
+        (record { part = (combine_lits_into_one inner g).part; lits = (combine_lits_into_one inner g).lit ∷ [] })).part
     by_case true = (let end = append-nil h.clauses in rw end made)
     by_case false =
         ap (λ (ks : List Literal). with_part h (combined_lit inner ks h.vars).part) is
@@ -60,54 +59,54 @@ merged_into-made outer inner f h k g ls made is last = last ∙ by_case (bool_eq
 pub lits-in : (n : ℕ) (f h : Formula) (g : PartWithLits) (ls : List Literal) → Fits n g → h ≡ with_part f g.part → ls ≡ g.lits → is_clause_over h.vars ls ≡ true
 lits-in n f h g ls fits made is = ap (λ (k : Formula). is_clause_over k.vars ls) made ∙ ap (is_clause_over g.part.vars) is ∙ fits.lits
 
-pub record Gathering (columns : List VarLits) (all positive : Bool) (g : Formula) (done : List Literal) (rest : Trees) (whole : List Literal) (end : Formula) : Type 0 where
+pub record Gathering (columns : List VarValueAndBoundLits) (all positive : Bool) (g : Formula) (done : List Literal) (rest : Trees) (whole : List Literal) (end : Formula) : Type 0 where
   pub within : has_lits_within_vars g.vars columns ≡ true
   pub valid : each_valid (ranges_of columns) rest ≡ true
-  pub lits : done ++ (flatten_each_form columns all positive rest g.vars).lits ≡ whole
-  pub made : with_part g (flatten_each_form columns all positive rest g.vars).part ≡ end
+  pub lits : done ++ (forms_to_and_or_lits columns all positive rest g.vars).lits ≡ whole
+  pub made : with_part g (forms_to_and_or_lits columns all positive rest g.vars).part ≡ end
 
-pub flatten_form-step :
-    (columns : List VarLits) (all positive : Bool) (f g : Formula)
+pub form_to_and_or_lits-step :
+    (columns : List VarValueAndBoundLits) (all positive : Bool) (f g : Formula)
     (lits slice next longer whole : List Literal) (end : Formula) (t : Tree) (ts ss : Trees) →
-    ss ≡ more t ts → slice ≡ next → next ≡ (flatten_form columns all positive t f.vars).lits →
-    g ≡ with_part f (flatten_form columns all positive t f.vars).part → longer ≡ lits ++ slice →
+    ss ≡ more t ts → slice ≡ next → next ≡ (form_to_and_or_lits columns all positive t f.vars).lits →
+    g ≡ with_part f (form_to_and_or_lits columns all positive t f.vars).part → longer ≡ lits ++ slice →
     Gathering columns all positive f lits ss whole end → Gathering columns all positive g longer ts whole end
-flatten_form-step columns all positive f g lits slice next longer whole end t ts ss split seen is made pushed h =
+form_to_and_or_lits-step columns all positive f g lits slice next longer whole end t ts ss split seen is made pushed h =
     let n = f.vars in
-    let p = flatten_form columns all positive t n in
+    let p = form_to_and_or_lits columns all positive t n in
     let valid : each_valid (ranges_of columns) (more t ts) ≡ true = ap (each_valid (ranges_of columns)) (sym split) ∙ h.valid in
     let parts = and_parts _ _ valid in
-    let fits = flatten_form-fits t columns all positive n h.within parts.0 in
+    let fits = form_to_and_or_lits-fits t columns all positive n h.within parts.0 in
     let vars : p.part.vars ≡ g.vars = sym (ap (λ (k : Formula). k.vars) made) in
     record {
       within = ap (λ (k : ℕ). has_lits_within_vars k columns) (sym vars) ∙ has_lits_within_vars-more n p.part.vars columns fits.low h.within;
       valid = parts.1;
       lits =
-          ap (λ (ks : List Literal). ks ++ (flatten_each_form columns all positive ts g.vars).lits) pushed
-          ∙ ap (λ (ks : List Literal). (lits ++ ks) ++ (flatten_each_form columns all positive ts g.vars).lits) (seen ∙ is)
-          ∙ append_assoc lits p.lits (flatten_each_form columns all positive ts g.vars).lits
-          ∙ ap (λ (k : ℕ). lits ++ (p.lits ++ (flatten_each_form columns all positive ts k).lits)) (sym vars)
-          ∙ ap (λ (rs : Trees). lits ++ (flatten_each_form columns all positive rs n).lits) (sym split)
+          ap (λ (ks : List Literal). ks ++ (forms_to_and_or_lits columns all positive ts g.vars).lits) pushed
+          ∙ ap (λ (ks : List Literal). (lits ++ ks) ++ (forms_to_and_or_lits columns all positive ts g.vars).lits) (seen ∙ is)
+          ∙ append_assoc lits p.lits (forms_to_and_or_lits columns all positive ts g.vars).lits
+          ∙ ap (λ (k : ℕ). lits ++ (p.lits ++ (forms_to_and_or_lits columns all positive ts k).lits)) (sym vars)
+          ∙ ap (λ (rs : Trees). lits ++ (forms_to_and_or_lits columns all positive rs n).lits) (sym split)
           ∙ h.lits;
       made =
-          ap (λ (k : Formula). with_part k (flatten_each_form columns all positive ts k.vars).part) made
-          ∙ with_part-and_then f p.part (λ m. (flatten_each_form columns all positive ts m).part)
-          ∙ ap (λ (rs : Trees). with_part f (flatten_each_form columns all positive rs n).part) (sym split)
+          ap (λ (k : Formula). with_part k (forms_to_and_or_lits columns all positive ts k.vars).part) made
+          ∙ with_part-and_then f p.part (λ m. (forms_to_and_or_lits columns all positive ts m).part)
+          ∙ ap (λ (rs : Trees). with_part f (forms_to_and_or_lits columns all positive rs n).part) (sym split)
           ∙ h.made;
     }
 
-pub record Demanding (columns : List VarLits) (heads : List Literal) (positive : Bool) (g : Formula) (rest : Trees) (end : Formula) : Type 0 where
+pub record Demanding (columns : List VarValueAndBoundLits) (heads : List Literal) (positive : Bool) (g : Formula) (rest : Trees) (end : Formula) : Type 0 where
   pub within : has_lits_within_vars g.vars columns ≡ true
   pub first : is_clause_over g.vars heads ≡ true
   pub valid : each_valid (ranges_of columns) rest ≡ true
   pub made : with_part g (demand_each columns heads positive rest g.vars) ≡ end
 
-pub demand_lit_or_form-step :
-    (columns : List VarLits) (first : List Literal) (positive : Bool) (f g end : Formula) (t : Tree)
+pub demand_some_lit_or_form-step :
+    (columns : List VarValueAndBoundLits) (first : List Literal) (positive : Bool) (f g end : Formula) (t : Tree)
     (ts ss : Trees) → ss ≡ more t ts →
     g ≡ with_part f (demand_of columns first positive t f.vars) → Demanding columns first positive f ss end →
     Demanding columns first positive g ts end
-demand_lit_or_form-step columns first positive f g end t ts ss split made h =
+demand_some_lit_or_form-step columns first positive f g end t ts ss split made h =
     let n = f.vars in
     let p = demand_of columns first positive t n in
     let valid : each_valid (ranges_of columns) (more t ts) ≡ true = ap (each_valid (ranges_of columns)) (sym split) ∙ h.valid in
@@ -128,9 +127,9 @@ demand_lit_or_form-step columns first positive f g end t ts ss split made h =
 pub first-in : (n : ℕ) (f h : Formula) (g : PartWithLits) (first : List Literal) → Fits n g → is_clause_over n first ≡ true → h ≡ with_part f g.part → is_clause_over h.vars first ≡ true
 first-in n f h g first fits inside made = ap (λ (k : Formula). is_clause_over k.vars first) made ∙ is_clause_over-more n g.part.vars first fits.low inside
 
-pub some-made : (f h k : Formula) (g : PartWithLits) (first ls : List Literal) → h ≡ with_part f g.part → ls ≡ g.lits → k ≡ with_part h (one_clause (first ++ ls) h.vars) → k ≡ with_part f (joined_clause_part first g)
+pub some-made : (f h k : Formula) (g : PartWithLits) (first ls : List Literal) → h ≡ with_part f g.part → ls ≡ g.lits → k ≡ with_part h (one_clause_part (first ++ ls) h.vars) → k ≡ with_part f (clause_of_two_lists_part first g)
 some-made f h k g first ls made is last =
     last
-    ∙ ap (λ (ks : List Literal). with_part h (one_clause (first ++ ks) h.vars)) is
-    ∙ ap (λ (e : Formula). with_part e (one_clause (first ++ g.lits) e.vars)) made
-    ∙ with_part-and_then f g.part (one_clause (first ++ g.lits))
+    ∙ ap (λ (ks : List Literal). with_part h (one_clause_part (first ++ ks) h.vars)) is
+    ∙ ap (λ (e : Formula). with_part e (one_clause_part (first ++ g.lits) e.vars)) made
+    ∙ with_part-and_then f g.part (one_clause_part (first ++ g.lits))

@@ -3,8 +3,8 @@ use Rattle.std.proofs.Common.{◌≡◌, ℕ, Bool, true, false, not, ◌&&◌, 
 use Rattle.std.proofs.lemmas.List.Folds.{list_all-append, list_any-append}
 use Rattle.ilk_ir.specs.Tree.{Tree, yes, no, is, all_of, any_of, negation, Trees, none, more, tree_holds, each_holds, some_holds}
 use Rattle.ilk_forms.specs.Gathered.{bool_equals}
-use Rattle.ilk_forms.specs.Bound.{has_bound_lit_of_or_form}
-use Rattle.ilk_forms.specs.Truths.{Truths, no_truths, single_truth, gate_truth, merged_truths, truths, truths_each}
+use Rattle.ilk_forms.specs.Bound.{or_of_values_has_lit}
+use Rattle.ilk_forms.specs.Truths.{VarAndLitTruths, no_truths, single_lit_truth, gate_truth, merge_truths_if_same_gate, truths, truths_each}
 
 abbrev pub both_or_one : Bool → Bool → Bool → Bool
 both_or_one all p q = cond all (p && q) (p || q)
@@ -23,7 +23,7 @@ gate_truth-append : (all : Bool) (ps qs : List Bool) → gate_truth all (ps ++ q
 gate_truth-append true ps qs = list_all-append (λ (q : Bool). q) ps qs
 gate_truth-append false ps qs = list_any-append (λ (q : Bool). q) ps qs
 
-taken_in-means : (outer inner : Bool) (t : Truths) → gate_truth outer (merged_truths outer inner t).lits ≡ gate_truth inner t.lits
+taken_in-means : (outer inner : Bool) (t : VarAndLitTruths) → gate_truth outer (merge_truths_if_same_gate outer inner t).lits ≡ gate_truth inner t.lits
 taken_in-means true true t = refl
 taken_in-means true false t = alone true (gate_truth false t.lits)
 taken_in-means false true t = alone false (gate_truth true t.lits)
@@ -66,7 +66,7 @@ turned true b = refl
 turned false true = refl
 turned false false = refl
 
-one_or-means : (all has positive q : Bool) (t : Truths) → gate_truth all t.lits ≡ bool_equals positive q → gate_truth all (cond has (single_truth positive q) t).lits ≡ bool_equals positive q
+one_or-means : (all has positive q : Bool) (t : VarAndLitTruths) → gate_truth all t.lits ≡ bool_equals positive q → gate_truth all (cond has (single_lit_truth positive q) t).lits ≡ bool_equals positive q
 one_or-means all true positive q t means = alone all (bool_equals positive q)
 one_or-means all false positive q t means = means
 
@@ -77,8 +77,8 @@ mutual
   truths-mean (is v c) ranges ws all positive = alone all (bool_equals positive (tree_holds ws (is v c)))
   truths-mean (all_of ts) ranges ws all positive = taken_in-means all positive (truths_each ranges ws positive positive ts) ∙ truths_each-mean ts ranges ws positive positive ∙ all-are ws positive ts
   truths-mean (any_of ts) ranges ws all positive =
-      let g = merged_truths all (not positive) (truths_each ranges ws (not positive) positive ts) in
-      one_or-means all (has_bound_lit_of_or_form ranges ts) positive (some_holds ws ts) g
+      let g = merge_truths_if_same_gate all (not positive) (truths_each ranges ws (not positive) positive ts) in
+      one_or-means all (or_of_values_has_lit ranges ts) positive (some_holds ws ts) g
       (taken_in-means all (not positive) (truths_each ranges ws (not positive) positive ts) ∙ truths_each-mean ts ranges ws (not positive) positive ∙ some-are ws positive ts)
   truths-mean (negation t) ranges ws all positive = truths-mean t ranges ws all (not positive) ∙ turned positive (tree_holds ws t)
 

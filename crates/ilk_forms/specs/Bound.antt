@@ -1,49 +1,55 @@
--- An Or of a variable's values up to one says that the variable is at most this value; a copy may
--- have a literal for that.
+-- An Or of the equations v = 0, v = 1, .., v = k says that variable v is at most k. A copy (time
+-- frame) may have one literal for that bound.
 use Rattle.std.specs.Prelude.{ℕ, zero, ◌+◌, ◌-◌, ◌==◌, nat_lt, Bool, ◌&&◌, ◌||◌, List, length, Option, Some, None, option_map, option_and_then, slice_get, if◌then◌else◌}
 use Rattle.ilk_base.specs.Option.{is_some_and}
 use Rattle.ilk_cnf.specs.Literal.{Literal, negated_lit}
 use Rattle.ilk_ints.specs.Named.{bound_count}
 use Rattle.ilk_ir.specs.Tree.{Tree, is, Trees, none, more}
-use Rattle.ilk_forms.specs.declared.copy.VarLits.{VarLits}
+use Rattle.ilk_forms.specs.declared.copy.VarValueAndBoundLits.{VarValueAndBoundLits}
 use Rattle.ilk_forms.specs.declared.bound.VarUpperBound.{VarUpperBound}
 
--- The value after `c`, if the form says that `v` has it.
-abbrev pub next_consecutive_value : ℕ → ℕ → Tree → Option ℕ
-next_consecutive_value v c (is u d) = if (u == v) && (d == c + 1) then Some d else None
-next_consecutive_value v c _ = None
+-- Returns `c` + 1 if the form is the equation `v` = `c` + 1; otherwise `None`.
+abbrev pub next_value_if_stated : ℕ → ℕ → Tree → Option ℕ
+next_value_if_stated v c (is u d) = if (u == v) && (d == c + 1) then Some d else None
+next_value_if_stated v c _ = None
 
--- The last value, if the forms say that `v` is `c` + 1, `c` + 2 and so on; `c` if there are none.
+-- Returns the last value if the forms are the equations `v` = `c` + 1, `v` = `c` + 2 and so on, or
+-- `c` if there are no forms; otherwise `None`.
 abbrev pub last_consecutive_value : ℕ → ℕ → Trees → Option ℕ
 last_consecutive_value v c none = Some c
-last_consecutive_value v c (more t ts) = option_and_then (λ d. last_consecutive_value v d ts) (next_consecutive_value v c t)
+last_consecutive_value v c (more t ts) = option_and_then (λ d. last_consecutive_value v d ts) (next_value_if_stated v c t)
 
--- The bound, if at least two forms say that a variable is 0, 1 and so on.
-abbrev pub bound_of_or_form : Trees → Option VarUpperBound
-bound_of_or_form (more (is v zero) (more t ts)) = option_map (λ k. record { var = v; most = k }) (last_consecutive_value v 0 (more t ts))
-bound_of_or_form _ = None
+-- Returns the bound "v is at most k" if the forms, at least two, are the equations v = 0, v = 1,
+-- .., v = k; otherwise `None`.
+abbrev pub bound_from_or_of_values : Trees → Option VarUpperBound
+bound_from_or_of_values (more (is v zero) (more t ts)) = option_map (λ k. record { var = v; most = k }) (last_consecutive_value v 0 (more t ts))
+bound_from_or_of_values _ = None
 
--- The literal for "at most `k`", from 1 on. If `k` is the second-greatest value, it is the negation
--- of the greatest value's literal, otherwise the bound's literal, if there is one.
-abbrev pub column_bound_lit : VarLits → ℕ → Option Literal
-column_bound_lit column k =
+-- Returns the literal for "at most `k`" among one variable's literals, for `k` from 1 on. For the
+-- second-greatest value it is the negated literal of the greatest value. Otherwise it is the
+-- bound's own literal, or `None` if there is none.
+abbrev pub single_var_bound_lit : VarValueAndBoundLits → ℕ → Option Literal
+single_var_bound_lit column k =
     if k + 2 == length column.values
     then option_map negated_lit (slice_get column.values (k + 1))
     else slice_get column.bounds (k - 1)
 
--- The literal of a copy that says that variable `v` is at most `k`.
-abbrev pub bound_lit : List VarLits → ℕ → ℕ → Option Literal
-bound_lit columns v k = option_and_then (λ column. column_bound_lit column k) (slice_get columns v)
+-- Returns the literal of a copy that says that variable `v` is at most `k`, or `None` if it has
+-- none.
+abbrev pub bound_lit : List VarValueAndBoundLits → ℕ → ℕ → Option Literal
+bound_lit columns v k = option_and_then (λ column. single_var_bound_lit column k) (slice_get columns v)
 
--- The one literal that represents an Or of these forms, if they say that a variable is at most a
--- value and the copy has a literal for that.
-abbrev pub bound_lit_of_or_form : List VarLits → Trees → Option Literal
-bound_lit_of_or_form columns ts = option_and_then (λ b. bound_lit columns b.var b.most) (bound_of_or_form ts)
+-- Returns the copy's literal for the bound (v is at most k) that an Or of these forms states.
+-- Returns `None` if they state none, or the copy has no literal for it.
+abbrev pub or_of_values_bound_lit : List VarValueAndBoundLits → Trees → Option Literal
+or_of_values_bound_lit columns ts = option_and_then (λ b. bound_lit columns b.var b.most) (bound_from_or_of_values ts)
 
--- Returns whether a copy of these ranges has a literal that says that variable `v` is at most `k`.
+-- Returns whether a copy of variables with these ranges has a literal for "variable `v` is at most
+-- `k`".
 abbrev pub has_bound_lit : List ℕ → ℕ → ℕ → Bool
 has_bound_lit ranges v k = is_some_and (slice_get ranges v) (λ range. (k + 2 == range) || nat_lt (k - 1) (bound_count range))
 
--- Returns whether one literal represents an Or of these forms, by the ranges alone.
-abbrev pub has_bound_lit_of_or_form : List ℕ → Trees → Bool
-has_bound_lit_of_or_form ranges ts = is_some_and (bound_of_or_form ts) (λ b. has_bound_lit ranges b.var b.most)
+-- Returns whether an Or of these forms states a bound (v is at most k) for which a copy with these
+-- ranges has a literal.
+abbrev pub or_of_values_has_lit : List ℕ → Trees → Bool
+or_of_values_has_lit ranges ts = is_some_and (bound_from_or_of_values ts) (λ b. has_bound_lit ranges b.var b.most)

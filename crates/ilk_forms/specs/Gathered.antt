@@ -1,14 +1,14 @@
--- Literals that represent a form of a copy.
+-- Literals that represent a form over a copy (time frame): it holds if all, or if some, are true.
 use Rattle.std.specs.Prelude.{ℕ, ◌+◌, Bool, not, List, [], ◌∷◌, ◌++◌, Option, Some, None, if◌then◌else◌}
 use Rattle.ilk_cnf.specs.Literal.{Literal, positive_lit, negated_lit}
 use Rattle.ilk_cnf.specs.Part.{FormulaPart, empty_part, and_then, and_gate_part, or_gate_part}
 use Rattle.ilk_ints.specs.Named.{PartWithLits}
 use Rattle.ilk_ir.specs.Tree.{Tree, yes, no, is, all_of, any_of, negation, Trees, none, more}
-use Rattle.ilk_forms.specs.declared.copy.VarLits.{VarLits}
+use Rattle.ilk_forms.specs.declared.copy.VarValueAndBoundLits.{VarValueAndBoundLits}
 use Rattle.ilk_forms.specs.Leaf.{value_lit}
-use Rattle.ilk_forms.specs.Bound.{bound_lit_of_or_form}
+use Rattle.ilk_forms.specs.Bound.{or_of_values_bound_lit}
 
--- A part, and its one literal.
+-- A formula part, and its one result literal.
 pub record PartWithLit : Type 0 where
   pub part : FormulaPart
   pub lit : Literal
@@ -17,65 +17,67 @@ pub record PartWithLit : Type 0 where
 abbrev pub bool_equals : Bool → Bool → Bool
 bool_equals p q = if p then q else not q
 
--- The literal, or its negation if not `positive`.
+-- Returns literal `l` if `positive`, otherwise its negation.
 abbrev pub with_sign : Bool → Literal → Literal
 with_sign positive l = if positive then l else negated_lit l
 
--- No part and no literal, after `n` variables.
-abbrev pub no_literals : ℕ → PartWithLits
-no_literals n = record { part = empty_part n; lits = [] }
+-- No literal, and nothing added after the first `n` variables.
+abbrev pub part_with_no_lits : ℕ → PartWithLits
+part_with_no_lits n = record { part = empty_part n; lits = [] }
 
--- No part, and the one literal or its negation.
-abbrev pub one_literal : Bool → Literal → ℕ → PartWithLits
-one_literal positive l n = record { part = empty_part n; lits = with_sign positive l ∷ [] }
+-- Literal `l`, negated unless `positive`, and nothing added to the formula.
+abbrev pub part_with_one_lit : Bool → Literal → ℕ → PartWithLits
+part_with_one_lit positive l n = record { part = empty_part n; lits = with_sign positive l ∷ [] }
 
--- The one literal if it is given, otherwise `g`.
-abbrev pub lit_or_else : Bool → Option Literal → ℕ → PartWithLits → PartWithLits
-lit_or_else positive (Some l) n g = one_literal positive l n
-lit_or_else positive None n g = g
+-- The given literal, negated unless `positive`. If none is given, the literals of `g`.
+abbrev pub optional_lit_or_part : Bool → Option Literal → ℕ → PartWithLits → PartWithLits
+optional_lit_or_part positive (Some l) n g = part_with_one_lit positive l n
+optional_lit_or_part positive None n g = g
 
--- The literals of a part, then those of the part that begins at its end.
+-- Part `g`, then part `h`, which follows its variables; the literals of both, in this order.
 abbrev pub append_part_lits : PartWithLits → (ℕ → PartWithLits) → PartWithLits
 append_part_lits g h = record { part = and_then g.part (λ m. (h m).part); lits = g.lits ++ (h g.part.vars).lits }
 
--- One more variable, after `n`, that is true exactly if all (`all`) or some of the literals are.
+-- The formula part that adds one variable after the first `n`, true exactly if all literals are
+-- (`all`), or at least one is (otherwise).
 abbrev pub gate_part : Bool → List Literal → ℕ → FormulaPart
 gate_part all ls n = if all then and_gate_part ls n else or_gate_part ls n
 
--- One literal in place of several, true exactly if all (`all`) or some of them are. A single
--- literal represents itself.
+-- One literal in place of several, true exactly if all are (`all`), or at least one is (otherwise).
+-- A single literal represents itself; otherwise the part adds a variable.
 abbrev pub combined_lit : Bool → List Literal → ℕ → PartWithLit
 combined_lit all [] n = record { part = gate_part all [] n; lit = positive_lit (n + 1) }
 combined_lit all (l ∷ []) n = record { part = empty_part n; lit = l }
 combined_lit all (l ∷ m ∷ ls) n = record { part = gate_part all (l ∷ m ∷ ls) n; lit = positive_lit (n + 1) }
 
--- The one literal in place of the gathered ones, with both parts.
-abbrev pub combined : Bool → PartWithLits → PartWithLit
-combined all g =
+-- Part `g`, with one literal in place of its several: true exactly if all are (`all`), or at least
+-- one is (otherwise).
+abbrev pub combine_lits_into_one : Bool → PartWithLits → PartWithLit
+combine_lits_into_one all g =
     record {
       part = and_then g.part (λ m. (combined_lit all g.lits m).part);
       lit = (combined_lit all g.lits g.part.vars).lit;
     }
 
--- Literals of which all (`inner`) or some have to be true, merged into such literals (`outer`) if
--- both agree, otherwise replaced by one.
-abbrev pub merged_into : Bool → Bool → PartWithLits → PartWithLits
-merged_into outer inner g =
-    if bool_equals outer inner then g else record { part = (combined inner g).part; lits = (combined inner g).lit ∷ [] }
+-- The literals of `g` for use in an And (`outer`) or an Or (otherwise). `inner` says in the same
+-- way what `g` is. If both agree, the literals stay. Otherwise one new literal replaces them.
+abbrev pub merge_lits_if_same_gate : Bool → Bool → PartWithLits → PartWithLits
+merge_lits_if_same_gate outer inner g =
+    if bool_equals outer inner then g else record { part = (combine_lits_into_one inner g).part; lits = (combine_lits_into_one inner g).lit ∷ [] }
 
--- Literals, after `n` variables, of which all (`all`) or some are true exactly if the form holds
--- (`positive`) or fails.
+-- Literals, after the first `n` variables, that represent the form, or its negation unless
+-- `positive`. That formula holds exactly if all of them (`all`), or some (otherwise), are true.
 abbrev mutual
-  pub flatten_form : List VarLits → Bool → Bool → Tree → ℕ → PartWithLits
-  flatten_form columns all positive yes n = merged_into all positive (no_literals n)
-  flatten_form columns all positive no n = merged_into all (not positive) (no_literals n)
-  flatten_form columns all positive (is v c) n = one_literal positive (value_lit columns v c) n
-  flatten_form columns all positive (all_of ts) n = merged_into all positive (flatten_each_form columns positive positive ts n)
-  flatten_form columns all positive (any_of ts) n =
-      lit_or_else positive (bound_lit_of_or_form columns ts) n (merged_into all (not positive) (flatten_each_form columns (not positive) positive ts n))
-  flatten_form columns all positive (negation t) n = flatten_form columns all (not positive) t n
+  pub form_to_and_or_lits : List VarValueAndBoundLits → Bool → Bool → Tree → ℕ → PartWithLits
+  form_to_and_or_lits columns all positive yes n = merge_lits_if_same_gate all positive (part_with_no_lits n)
+  form_to_and_or_lits columns all positive no n = merge_lits_if_same_gate all (not positive) (part_with_no_lits n)
+  form_to_and_or_lits columns all positive (is v c) n = part_with_one_lit positive (value_lit columns v c) n
+  form_to_and_or_lits columns all positive (all_of ts) n = merge_lits_if_same_gate all positive (forms_to_and_or_lits columns positive positive ts n)
+  form_to_and_or_lits columns all positive (any_of ts) n =
+      optional_lit_or_part positive (or_of_values_bound_lit columns ts) n (merge_lits_if_same_gate all (not positive) (forms_to_and_or_lits columns (not positive) positive ts n))
+  form_to_and_or_lits columns all positive (negation t) n = form_to_and_or_lits columns all (not positive) t n
 
-  pub flatten_each_form : List VarLits → Bool → Bool → Trees → ℕ → PartWithLits
-  flatten_each_form columns all positive none n = no_literals n
-  flatten_each_form columns all positive (more t ts) n =
-      append_part_lits (flatten_form columns all positive t n) (flatten_each_form columns all positive ts)
+  pub forms_to_and_or_lits : List VarValueAndBoundLits → Bool → Bool → Trees → ℕ → PartWithLits
+  forms_to_and_or_lits columns all positive none n = part_with_no_lits n
+  forms_to_and_or_lits columns all positive (more t ts) n =
+      append_part_lits (form_to_and_or_lits columns all positive t n) (forms_to_and_or_lits columns all positive ts)

@@ -1,5 +1,5 @@
 ghost use Rattle.std.specs.Prelude.{◌≡◌, ℕ, ◌+◌, ◌*◌, ◌≤◌, ◌++◌, List, Bool, false, length, ◌||◌, OnOk, IsTrue};
-ghost use Rattle.ilk_cnf.specs.Extends.{PartExtensionsAreExactly, PassesWithExactValues};
+ghost use Rattle.ilk_cnf.specs.Extends.{PartExtensionsAreExactly, PassesAndEqualsGivenValues};
 ghost use Rattle.ilk_cnf.specs.Formula.{is_clause_over};
 ghost use Rattle.ilk_cnf.specs.Part.{with_part};
 ghost use Rattle.ilk_cnf.specs.Truth.{is_clause_true};
@@ -8,20 +8,20 @@ ghost use Rattle.ilk_ir.specs.Tree.{tree_holds, tree_valid, each_valid};
 ghost use Rattle.ilk_ir.specs.System.{in_ranges};
 ghost use Rattle.ilk_forms.specs.Copy.{LiteralsEncode};
 ghost use Rattle.ilk_forms.specs.Leaf.{has_lits_within_vars, ranges_of};
-ghost use Rattle.ilk_forms.specs.Gathered.{flatten_each_form};
-ghost use Rattle.ilk_forms.specs.Demand.{one_clause, joined_clause_part, demand_of, demand_each, lit_or_form_part};
+ghost use Rattle.ilk_forms.specs.Gathered.{forms_to_and_or_lits};
+ghost use Rattle.ilk_forms.specs.Demand.{one_clause_part, clause_of_two_lists_part, demand_of, demand_each, some_lit_or_form_part};
 ghost use Rattle.ilk_forms.specs.Size.{tree_size};
-ghost use Rattle.ilk_forms.specs.Truths.{lit_or_form_bits};
+ghost use Rattle.ilk_forms.specs.Truths.{some_lit_or_form_bits};
 
-use crate::bound::bound_lit_of_or_form;
+use crate::bound::or_of_values_bound_lit;
 use crate::copy::CopyLits;
-use crate::literals::{flatten_each_form, push_all, value_lit, with_sign};
+use crate::literals::{forms_to_and_or_lits, push_all, value_lit, with_sign};
 use ilk_cnf::{Cnf, Lit, Lits};
 use ilk_ir::Form;
 use std::alloc::{AllocError, Global};
 
-/// Demands that one of the literals of `first` or `others` is true.
-pub fn add_joined_clause(
+/// Adds one clause to `cnf`: some literal of `first` or `others` is true.
+pub(crate) fn add_clause_of_two_lists(
     alloc: Global,
     cnf: &mut Cnf,
     first: &[Lit],
@@ -30,7 +30,7 @@ pub fn add_joined_clause(
     requires first { IsTrue (is_clause_over cnf.old.vars first.now) }
     requires others { IsTrue (is_clause_over cnf.old.vars others.now) }
     ensures { OnOk result
-        (cnf.new ≡ with_part cnf.old (one_clause (first.now ++ others.now) cnf.old.vars)) }
+        (cnf.new ≡ with_part cnf.old (one_clause_part (first.now ++ others.now) cnf.old.vars)) }
 {
     let mut lits = Lits::new(alloc);
     push_all(&mut lits, first)?;
@@ -53,16 +53,15 @@ fn demand_some(
     ensures { OnOk result
         (cnf.new
         ≡ with_part cnf.old
-        (joined_clause_part first.now
-        (flatten_each_form table.now false positive (trees_of forms.now) cnf.old.vars))) }
+        (clause_of_two_lists_part first.now
+        (forms_to_and_or_lits table.now false positive (trees_of forms.now) cnf.old.vars))) }
 {
-    let lits = flatten_each_form(alloc, cnf, table, false, positive, forms)?;
-    add_joined_clause(alloc, cnf, first, lits.as_slice())?;
+    let lits = forms_to_and_or_lits(alloc, cnf, table, false, positive, forms)?;
+    add_clause_of_two_lists(alloc, cnf, first, lits.as_slice())?;
     Ok(())
 }
 
-// Demands that a literal of `first` is true, or the form holds (`positive`) or fails.
-#[cycle(demand_lit_or_form)]
+#[cycle(demand_some_lit_or_form)]
 fn demand_of(
     alloc: Global,
     cnf: &mut Cnf,
@@ -86,12 +85,12 @@ fn demand_of(
         Form::No => Ok(()),
         Form::Is(v, c) => {
             let lit = with_sign(positive, value_lit(table, *v, *c));
-            add_joined_clause(alloc, cnf, first, &[lit])
+            add_clause_of_two_lists(alloc, cnf, first, &[lit])
         }
         Form::And(forms) if positive => demand_each(alloc, cnf, table, first, true, forms),
         Form::And(forms) => demand_some(alloc, cnf, table, first, false, forms),
-        Form::Or(forms) => match bound_lit_of_or_form(table, forms) {
-            Some(lit) => add_joined_clause(alloc, cnf, first, &[with_sign(positive, lit)]),
+        Form::Or(forms) => match or_of_values_bound_lit(table, forms) {
+            Some(lit) => add_clause_of_two_lists(alloc, cnf, first, &[with_sign(positive, lit)]),
             None if positive => demand_some(alloc, cnf, table, first, true, forms),
             None => demand_each(alloc, cnf, table, first, false, forms),
         },
@@ -99,7 +98,7 @@ fn demand_of(
     }
 }
 
-#[cycle(demand_lit_or_form)]
+#[cycle(demand_some_lit_or_form)]
 fn demand_each(
     alloc: Global,
     cnf: &mut Cnf,
@@ -122,12 +121,13 @@ fn demand_each(
     Ok(())
 }
 
-/// Adds clauses that say that a literal of `first` is true, or the form holds of the copy's values.
-/// And at the top becomes several demands, in order. Or becomes one clause that includes any Or
-/// within it. An Or of a variable's values up to one is the copy's literal for that bound, if there
-/// is one. A part that is not a literal gets a new variable, true exactly if the part holds. The
-/// form has to be valid over the copy's variables. If memory runs out, `cnf` may have grown.
-pub fn demand_lit_or_form(
+/// Adds clauses to `cnf` that say: some literal of `first` is true, or `form` holds for a copy's
+/// values. `table` has the copy's literals, and `form` has to be valid over its variables. An And
+/// at the top gives several clauses. An Or gives one clause that includes any Or within it. An Or
+/// of v = 0, v = 1, .., v = k is the copy's literal for that bound, if there is one. Any other part
+/// that is not a literal gets a new variable, true exactly if it holds. On error, `cnf` may have
+/// grown.
+pub fn demand_some_lit_or_form(
     alloc: Global,
     cnf: &mut Cnf,
     table: &CopyLits,
@@ -139,18 +139,18 @@ pub fn demand_lit_or_form(
     requires valid { IsTrue (tree_valid (ranges_of table.now) (tree_of form.now)) }
     ensures made { OnOk result
         (cnf.new
-        ≡ with_part cnf.old (lit_or_form_part table.now first.now
+        ≡ with_part cnf.old (some_lit_or_form_part table.now first.now
         (tree_of form.now) cnf.old.vars)) }
 
-    // If the copy's literals say the values `ws`, an assignment extends over the part exactly if a
-    // literal of `first` is true or the form holds of `ws`. Each new variable then has one value.
+    // For values `ws` of the copy, an assignment extends over the part exactly if a literal of
+    // `first` is true or the form holds. Each new variable then has one value.
     ensures law { OnOk result
         ((a : List Bool) (ranges ws : List ℕ) → length a ≡ cnf.old.vars →
         LiteralsEncode a table.now ranges ws → IsTrue (in_ranges ws ranges) →
         PartExtensionsAreExactly a
-        (lit_or_form_part table.now first.now (tree_of form.now) cnf.old.vars)
-        (PassesWithExactValues (is_clause_true a first.now || tree_holds ws (tree_of form.now))
-        (lit_or_form_bits ranges ws (tree_of form.now)))) }
+        (some_lit_or_form_part table.now first.now (tree_of form.now) cnf.old.vars)
+        (PassesAndEqualsGivenValues (is_clause_true a first.now || tree_holds ws (tree_of form.now))
+        (some_lit_or_form_bits ranges ws (tree_of form.now)))) }
     ensures more { OnOk result (cnf.old.vars ≤ cnf.new.vars) }
     ensures vars { OnOk result (cnf.new.vars ≤ cnf.old.vars + tree_size (tree_of form.now)) }
     ensures clauses { OnOk result

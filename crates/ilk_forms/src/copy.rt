@@ -1,12 +1,12 @@
 ghost use Rattle.std.specs.Prelude.{◌≡◌, ℕ, ◌+◌, ◌*◌, ◌<◌, ◌≤◌, ◌++◌, List, Bool, nat_lt, sum, length, OnOk, IfOk, IsTrue};
 ghost use Rattle.std.specs.List.{list_all};
 ghost use Rattle.ilk_cnf.specs.Extends.{PartExtensionsAreExactly};
-ghost use Rattle.ilk_cnf.specs.Formula.{with_clauses, with_var_count};
+ghost use Rattle.ilk_cnf.specs.Formula.{with_vars_and_clauses, with_var_count};
 ghost use Rattle.ilk_cnf.specs.Part.{with_part, clauses_from_lists};
 ghost use Rattle.ilk_ints.specs.Bits.{bit_count};
 ghost use Rattle.ilk_ints.specs.Named.{value_bound_var_count};
 ghost use Rattle.ilk_ir.specs.System.{in_ranges};
-ghost use Rattle.ilk_forms.specs.Copy.{numbers_part, columns_part, column_part, copy_part, copy_bit_count, copy_value_bound_vars, copy_var_count, copy_bits, AreCopyBits, LiteralsEncode};
+ghost use Rattle.ilk_forms.specs.Copy.{numbers_part, all_var_lits_part, var_lits_part, copy_part, copy_bit_count, copy_value_bound_var_count, copy_var_count, copy_bits, AreCopyBits, LiteralsEncode};
 
 use ilk_base::Row;
 use ilk_cnf::{Cnf, Lits};
@@ -17,16 +17,16 @@ use ilk_ints::{
 use ilk_ir::Ranges;
 use std::alloc::{AllocError, Global};
 
-/// The literals of one variable of a copy: one for each of its values, and one for each bound that
-/// has its own.
+/// The literals of one variable in a copy (time frame): one for each value, and one for each upper
+/// bound that has its own.
 #[derive(Drop)]
-pub struct VarLits {
+pub struct VarValueAndBoundLits {
     pub values: Lits,
     pub bounds: Lits,
 }
 
-/// The literals of all variables of a copy.
-pub type CopyLits = Row<VarLits>;
+/// The literals of all variables of a copy (time frame), in order.
+pub type CopyLits = Row<VarValueAndBoundLits>;
 
 fn take_numbers(cnf: &mut Cnf, ranges: &[u8]) -> Result<(), AllocError>
     ensures { OnOk result
@@ -40,7 +40,7 @@ fn take_numbers(cnf: &mut Cnf, ranges: &[u8]) -> Result<(), AllocError>
 
 fn take_columns(cnf: &mut Cnf, ranges: &[u8]) -> Result<(), AllocError>
     ensures { OnOk result (cnf.new ≡ with_var_count cnf.old
-        (cnf.old.vars + copy_value_bound_vars ranges.now)) }
+        (cnf.old.vars + copy_value_bound_var_count ranges.now)) }
 {
     for range in ranges {
         reserve_value_bound_lits(cnf, *range)?;
@@ -48,8 +48,8 @@ fn take_columns(cnf: &mut Cnf, ranges: &[u8]) -> Result<(), AllocError>
     Ok(())
 }
 
-/// Adds the variables of a copy with these `ranges`, and no clause. If memory runs out, `cnf` may
-/// have grown.
+/// Adds the variables of a copy (time frame) with these `ranges` to `cnf`, and no clause;
+/// `add_copy_clauses` adds the clauses. On error, `cnf` may have grown.
 pub fn reserve_copy(cnf: &mut Cnf, ranges: &Ranges) -> Result<(), AllocError>
     ensures taken { OnOk result
         (cnf.new ≡ with_var_count cnf.old (cnf.old.vars + copy_var_count ranges.now)) }
@@ -62,7 +62,6 @@ pub fn reserve_copy(cnf: &mut Cnf, ranges: &Ranges) -> Result<(), AllocError>
     Ok(())
 }
 
-// Adds the clauses of an integer for each range. Their bits follow the first `used` variables.
 fn add_numbers(
     alloc: Global,
     cnf: &mut Cnf,
@@ -87,29 +86,28 @@ fn add_numbers(
     Ok(())
 }
 
-// Adds the clauses of one variable's literals, which follow the first `used` variables.
 fn add_column(
     alloc: Global,
     cnf: &mut Cnf,
     used: &mut u64,
     n: Bounded,
-) -> Result<VarLits, AllocError>
+) -> Result<VarValueAndBoundLits, AllocError>
     requires from_1 { 0 < n.first }
     requires within { n.first + bit_count n.range ≤ used.old + 1 }
     requires there { used.old + value_bound_var_count n.range ≤ cnf.old.vars }
     ensures column { IfOk result
-        (λ column. column ≡ (column_part n.first n.range used.old).column) }
+        (λ column. column ≡ (var_lits_part n.first n.range used.old).column) }
     ensures vars { OnOk result (cnf.new.vars ≡ cnf.old.vars) }
     ensures made { OnOk result
         (with_var_count cnf.new used.new
-        ≡ with_part (with_var_count cnf.old used.old) (column_part n.first n.range used.old).part) }
+        ≡ with_part (with_var_count cnf.old used.old) (var_lits_part n.first n.range
+        used.old).part) }
 {
     let values = add_value_lits(alloc, cnf, used, n)?;
     let bounds = add_bound_lits(alloc, cnf, used, n, values.as_slice())?;
-    Ok(VarLits { values, bounds })
+    Ok(VarValueAndBoundLits { values, bounds })
 }
 
-// Adds the clauses of the literals of all variables, whose bits begin at `first`.
 fn add_columns(
     alloc: Global,
     cnf: &mut Cnf,
@@ -119,14 +117,14 @@ fn add_columns(
 ) -> Result<CopyLits, AllocError>
     requires from_1 { 0 < first }
     requires within { first + copy_bit_count ranges.now ≤ used.old + 1 }
-    requires there { used.old + copy_value_bound_vars ranges.now ≤ cnf.old.vars }
+    requires there { used.old + copy_value_bound_var_count ranges.now ≤ cnf.old.vars }
     ensures table { IfOk result
-        (λ table. table ≡ (columns_part ranges.now first used.old).columns) }
+        (λ table. table ≡ (all_var_lits_part ranges.now first used.old).columns) }
     ensures vars { OnOk result (cnf.new.vars ≡ cnf.old.vars) }
     ensures made { OnOk result
         (with_var_count cnf.new used.new
         ≡ with_part (with_var_count cnf.old used.old)
-        (columns_part ranges.now first used.old).part) }
+        (all_var_lits_part ranges.now first used.old).part) }
 {
     let mut table = CopyLits::new(alloc);
     let mut first = first;
@@ -142,11 +140,11 @@ fn add_columns(
     Ok(table)
 }
 
-/// Adds the clauses of a copy with these `ranges` and returns its literals. The copy's variables
-/// already exist, after the first `before` ones. The clauses of the bits come first, then those of
-/// each variable's literals. The earlier assignment extends over the copy in exactly one way for
-/// each list of values in range. If memory runs out, `cnf` may have grown.
-pub fn add_copy(
+/// Adds the clauses of a copy (time frame) with these `ranges` to `cnf`, and returns its literals.
+/// The copy's variables already exist (`reserve_copy`), after the first `before` ones. An
+/// assignment of those extends over the copy in exactly one way for each list of values in range.
+/// On error, `cnf` may have grown.
+pub fn add_copy_clauses(
     alloc: Global,
     cnf: &mut Cnf,
     ranges: &Ranges,
@@ -156,7 +154,7 @@ pub fn add_copy(
     ensures table { IfOk result (λ table. table ≡ (copy_part ranges.now before).columns) }
     ensures made { OnOk result
         (cnf.new
-        ≡ with_clauses cnf.old cnf.old.vars
+        ≡ with_vars_and_clauses cnf.old cnf.old.vars
         (clauses_from_lists (copy_part ranges.now before).part.clauses)) }
     ensures law { OnOk result
         ((a : List Bool) → length a ≡ before →

@@ -5,16 +5,17 @@ ghost use Rattle.ilk_cnf.specs.Part.{with_part, empty_part};
 ghost use Rattle.ilk_ir.specs.Form.{tree_of, trees_of};
 ghost use Rattle.ilk_ir.specs.Tree.{tree_valid, each_valid, value_valid};
 ghost use Rattle.ilk_forms.specs.Leaf.{value_lit, has_lits_within_vars, ranges_of};
-ghost use Rattle.ilk_forms.specs.Gathered.{with_sign, gate_part, combined_lit, merged_into, flatten_form, flatten_each_form};
+ghost use Rattle.ilk_forms.specs.Gathered.{with_sign, gate_part, combined_lit, merge_lits_if_same_gate, form_to_and_or_lits, forms_to_and_or_lits};
 
-use crate::bound::bound_lit_of_or_form;
+use crate::bound::or_of_values_bound_lit;
 use crate::copy::CopyLits;
 use ilk_cnf::{Cnf, Lit, Lits, add_and_gate, add_or_gate};
 use ilk_ir::Form;
 use std::alloc::{AllocError, Global};
 
-/// Returns the literal that says that variable `v` has the value `c`.
-pub fn value_lit(table: &CopyLits, v: u32, c: u8) -> Lit
+/// Returns the literal of a copy that says that variable `v` has the value `c`. `table` has the
+/// copy's literals.
+pub(crate) fn value_lit(table: &CopyLits, v: u32, c: u8) -> Lit
     requires { IsTrue (value_valid (ranges_of table.now) v c) }
     ensures leaf { result ≡ value_lit table.now v c }
     ensures within { (n : ℕ) → IsTrue (has_lits_within_vars n table.now) →
@@ -24,13 +25,12 @@ pub fn value_lit(table: &CopyLits, v: u32, c: u8) -> Lit
 }
 
 /// Returns `lit` if `positive`, otherwise its negation.
-pub fn with_sign(positive: bool, lit: Lit) -> Lit
+pub(crate) fn with_sign(positive: bool, lit: Lit) -> Lit
     ensures { result ≡ with_sign positive lit }
 {
     if positive { lit } else { lit.negated() }
 }
 
-// Adds a variable that is true exactly if all (`all`) or some of the literals are.
 fn gate(alloc: Global, cnf: &mut Cnf, all: bool, lits: &[Lit]) -> Result<Lit, AllocError>
     requires { IsTrue (is_clause_over cnf.old.vars lits.now) }
     ensures lit { IfOk result (λ l. l ≡ positive_lit (cnf.old.vars + 1)) }
@@ -43,7 +43,6 @@ fn gate(alloc: Global, cnf: &mut Cnf, all: bool, lits: &[Lit]) -> Result<Lit, Al
     }
 }
 
-// Returns one literal in place of several.
 fn single(alloc: Global, cnf: &mut Cnf, all: bool, lits: &[Lit]) -> Result<Lit, AllocError>
     requires { IsTrue (is_clause_over cnf.old.vars lits.now) }
     ensures lit { IfOk result (λ l. l ≡ (combined_lit all lits.now cnf.old.vars).lit) }
@@ -76,12 +75,12 @@ fn take_in(
     ensures lits { IfOk result
         (λ taken. taken
         ≡
-        (merged_into outer inner
+        (merge_lits_if_same_gate outer inner
         (record { part = empty_part cnf.old.vars; lits = lits })).lits) }
     ensures made { OnOk result
         (cnf.new
         ≡ with_part cnf.old
-        (merged_into outer inner
+        (merge_lits_if_same_gate outer inner
         (record { part = empty_part cnf.old.vars; lits = lits })).part) }
 {
     if outer == inner {
@@ -92,7 +91,7 @@ fn take_in(
 }
 
 /// Appends the literals of `more` to `lits`.
-pub fn push_all(lits: &mut Lits, more: &[Lit]) -> Result<(), AllocError>
+pub(crate) fn push_all(lits: &mut Lits, more: &[Lit]) -> Result<(), AllocError>
     ensures { OnOk result (lits.new ≡ lits.old ++ more.now) }
 {
     for lit in more {
@@ -101,10 +100,11 @@ pub fn push_all(lits: &mut Lits, more: &[Lit]) -> Result<(), AllocError>
     Ok(())
 }
 
-/// Returns literals for `form` if `positive`, otherwise for its negation. If `all`, that formula
-/// holds if and only if all literals are true, otherwise if and only if at least one is.
-#[cycle(flatten_form)]
-pub fn flatten_form(
+/// Returns literals that represent `form`, or its negation unless `positive`. That formula holds
+/// exactly if all of them (`all`), or some (otherwise), are true. `table` has the literals of the
+/// copy to which `form` refers. New variables are added to `cnf`.
+#[cycle(form_to_and_or_lits)]
+pub(crate) fn form_to_and_or_lits(
     alloc: Global,
     cnf: &mut Cnf,
     table: &CopyLits,
@@ -115,28 +115,28 @@ pub fn flatten_form(
     requires within { IsTrue (has_lits_within_vars cnf.old.vars table.now) }
     requires valid { IsTrue (tree_valid (ranges_of table.now) (tree_of form.now)) }
     ensures lits { IfOk result
-        (λ lits. lits ≡ (flatten_form table.now all positive
+        (λ lits. lits ≡ (form_to_and_or_lits table.now all positive
         (tree_of form.now) cnf.old.vars).lits) }
     ensures made { OnOk result
         (cnf.new
         ≡ with_part cnf.old
-        (flatten_form table.now all positive (tree_of form.now) cnf.old.vars).part) }
+        (form_to_and_or_lits table.now all positive (tree_of form.now) cnf.old.vars).part) }
 {
     match form {
         Form::Yes => take_in(alloc, cnf, all, positive, Lits::new(alloc)),
         Form::No => take_in(alloc, cnf, all, !positive, Lits::new(alloc)),
         Form::Is(v, c) => one(alloc, with_sign(positive, value_lit(table, *v, *c))),
         Form::And(forms) => join(alloc, cnf, table, all, positive, positive, forms),
-        Form::Or(forms) => match bound_lit_of_or_form(table, forms) {
+        Form::Or(forms) => match or_of_values_bound_lit(table, forms) {
             Some(lit) => one(alloc, with_sign(positive, lit)),
             None => join(alloc, cnf, table, all, !positive, positive, forms),
         },
-        Form::Not(f) => flatten_form(alloc, cnf, table, all, !positive, f),
+        Form::Not(f) => form_to_and_or_lits(alloc, cnf, table, all, !positive, f),
     }
 }
 
-// Does the same for each (`inner`) or some of the forms.
-#[cycle(flatten_form)]
+// Represents the And (`inner`) or Or (otherwise) of the forms.
+#[cycle(form_to_and_or_lits)]
 fn join(
     alloc: Global,
     cnf: &mut Cnf,
@@ -151,24 +151,25 @@ fn join(
     ensures lits { IfOk result
         (λ lits. lits
         ≡
-        (merged_into all inner
-        (flatten_each_form table.now inner positive (trees_of forms.now)
+        (merge_lits_if_same_gate all inner
+        (forms_to_and_or_lits table.now inner positive (trees_of forms.now)
         cnf.old.vars)).lits) }
     ensures made { OnOk result
         (cnf.new
         ≡ with_part cnf.old
-        (merged_into all inner
-        (flatten_each_form table.now inner positive (trees_of forms.now)
+        (merge_lits_if_same_gate all inner
+        (forms_to_and_or_lits table.now inner positive (trees_of forms.now)
         cnf.old.vars)).part) }
 {
-    let lits = flatten_each_form(alloc, cnf, table, inner, positive, forms)?;
+    let lits = forms_to_and_or_lits(alloc, cnf, table, inner, positive, forms)?;
     let taken = take_in(alloc, cnf, all, inner, lits)?;
     Ok(taken)
 }
 
-/// Returns the literals of each form, in order (see `flatten_form`).
-#[cycle(flatten_form)]
-pub fn flatten_each_form(
+/// Returns the literals that `form_to_and_or_lits` gives for each of `forms`, in order, in one
+/// list.
+#[cycle(form_to_and_or_lits)]
+pub(crate) fn forms_to_and_or_lits(
     alloc: Global,
     cnf: &mut Cnf,
     table: &CopyLits,
@@ -180,15 +181,15 @@ pub fn flatten_each_form(
     requires valid { IsTrue (each_valid (ranges_of table.now) (trees_of forms.now)) }
     ensures lits { IfOk result
         (λ lits. lits
-        ≡ (flatten_each_form table.now all positive (trees_of forms.now) cnf.old.vars).lits) }
+        ≡ (forms_to_and_or_lits table.now all positive (trees_of forms.now) cnf.old.vars).lits) }
     ensures made { OnOk result
         (cnf.new
         ≡ with_part cnf.old
-        (flatten_each_form table.now all positive (trees_of forms.now) cnf.old.vars).part) }
+        (forms_to_and_or_lits table.now all positive (trees_of forms.now) cnf.old.vars).part) }
 {
     let mut lits = Lits::new(alloc);
     for form in forms {
-        let more = flatten_form(alloc, cnf, table, all, positive, form)?;
+        let more = form_to_and_or_lits(alloc, cnf, table, all, positive, form)?;
         push_all(&mut lits, more.as_slice())?;
     }
     Ok(lits)

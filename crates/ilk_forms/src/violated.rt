@@ -1,6 +1,6 @@
 ghost use Rattle.std.specs.Prelude.{◌≡◌, ℕ, ◌+◌, ◌*◌, ◌≤◌, ◌∷◌, [], List, Bool, true, ◌&&◌, not, length, map, OnOk, IfOk, IsTrue};
 ghost use Rattle.std.specs.List.{list_all};
-ghost use Rattle.ilk_cnf.specs.Extends.{PartExtensionsAreExactly, PassesWithExactValues};
+ghost use Rattle.ilk_cnf.specs.Extends.{PartExtensionsAreExactly, PassesAndEqualsGivenValues};
 ghost use Rattle.ilk_cnf.specs.Formula.{is_clause_over};
 ghost use Rattle.ilk_cnf.specs.Literal.{positive_lit, negative_lit, negated_lit};
 ghost use Rattle.ilk_cnf.specs.Part.{with_part};
@@ -10,13 +10,13 @@ ghost use Rattle.ilk_ir.specs.Tree.{all_of, negation, more, tree_holds, each_hol
 ghost use Rattle.ilk_ir.specs.System.{in_ranges};
 ghost use Rattle.ilk_forms.specs.Copy.{LiteralsEncode};
 ghost use Rattle.ilk_forms.specs.Leaf.{has_lits_within_vars, ranges_of};
-ghost use Rattle.ilk_forms.specs.Demand.{joined_clause_part};
+ghost use Rattle.ilk_forms.specs.Demand.{clause_of_two_lists_part};
 ghost use Rattle.ilk_forms.specs.Size.{tree_size};
-ghost use Rattle.ilk_forms.specs.Violated.{next_first_violated_lits, first_violated_lits, some_lit_false_part, some_lit_false_bits, has_no_trees, is_trivially_false, has_trivially_false, violated_part, violated_bits};
+ghost use Rattle.ilk_forms.specs.Violated.{next_instance_first_violated_lits, first_violated_lits, some_first_violated_part, some_first_violated_bits, has_no_trees, is_trivially_false, has_trivially_false, form_fails_part, form_fails_bits};
 
-use crate::clauses::add_joined_clause;
+use crate::clauses::add_clause_of_two_lists;
 use crate::copy::CopyLits;
-use crate::literals::{flatten_each_form, flatten_form, push_all};
+use crate::literals::{form_to_and_or_lits, forms_to_and_or_lits, push_all};
 use ilk_cnf::{Cnf, Lit, Lits, add_and_gate, add_or_gate};
 use ilk_ir::Form;
 use std::alloc::{AllocError, Global};
@@ -30,13 +30,13 @@ struct Next {
     before: Lit,
 }
 
-// Adds the variables of the next instance; `before` says that each earlier one is satisfied.
 fn add_next(alloc: Global, cnf: &mut Cnf, before: Lit, kept: Lit) -> Result<Next, AllocError>
     requires { IsTrue (is_clause_over cnf.old.vars (before ∷ kept ∷ [])) }
     ensures first { IfOk result (λ next. next.first ≡ negative_lit (cnf.old.vars + 1)) }
     ensures before { IfOk result (λ next. next.before ≡ positive_lit (cnf.old.vars + 1 + 1)) }
     ensures made { OnOk result
-        (cnf.new ≡ with_part cnf.old (next_first_violated_lits before kept cnf.old.vars).part) }
+        (cnf.new ≡ with_part cnf.old (next_instance_first_violated_lits before kept
+        cnf.old.vars).part) }
 {
     let other = add_or_gate(alloc, cnf, &[before.negated(), kept])?;
     let before = add_and_gate(alloc, cnf, &[before, kept])?;
@@ -46,7 +46,6 @@ fn add_next(alloc: Global, cnf: &mut Cnf, before: Lit, kept: Lit) -> Result<Next
     })
 }
 
-// Returns, for each instance, the literal that says that it is the first violated one.
 fn first_violated_lits(
     alloc: Global,
     cnf: &mut Cnf,
@@ -74,18 +73,18 @@ fn some_violated(alloc: Global, cnf: &mut Cnf, kept: Lit, others: &[Lit]) -> Res
     ensures { OnOk result
         (cnf.new
         ≡ with_part cnf.old
-        (joined_clause_part (negated_lit kept ∷ [])
+        (clause_of_two_lists_part (negated_lit kept ∷ [])
         (first_violated_lits kept others.now cnf.old.vars))) }
 {
     let lits = first_violated_lits(alloc, cnf, kept, others)?;
-    add_joined_clause(alloc, cnf, &[kept.negated()], lits.as_slice())?;
+    add_clause_of_two_lists(alloc, cnf, &[kept.negated()], lits.as_slice())?;
     Ok(())
 }
 
 fn add_first_violated(alloc: Global, cnf: &mut Cnf, kept: &[Lit]) -> Result<(), AllocError>
     requires { IsTrue (is_clause_over cnf.old.vars kept.now) }
     ensures { OnOk result
-        (cnf.new ≡ with_part cnf.old (some_lit_false_part kept.now cnf.old.vars)) }
+        (cnf.new ≡ with_part cnf.old (some_first_violated_part kept.now cnf.old.vars)) }
 {
     match kept {
         [] => cnf.add_clause_from_lits(&[])?,
@@ -94,19 +93,24 @@ fn add_first_violated(alloc: Global, cnf: &mut Cnf, kept: &[Lit]) -> Result<(), 
     Ok(())
 }
 
-/// Demands that one of the instances is violated. Each literal of `kept` says that its instance is
-/// satisfied. Each but the first gets two new variables. One is false exactly if the instance is
-/// the first violated one, the other is true exactly if each so far is satisfied. One clause says
-/// that some instance is the first violated one. If memory runs out, `cnf` may have grown.
-pub fn demand_some_lit_false(alloc: Global, cnf: &mut Cnf, kept: &[Lit]) -> Result<(), AllocError>
+/// Adds clauses to `cnf` that say that some instance (condition) is violated. Each literal of
+/// `kept` says that its instance is satisfied. One clause says that some instance is the first
+/// violated one. For that, each instance but the first gets two new variables. One is false exactly
+/// if it is the first violated one, the other true exactly if each so far is satisfied. On error,
+/// `cnf` may have grown.
+pub fn demand_some_first_violated(
+    alloc: Global,
+    cnf: &mut Cnf,
+    kept: &[Lit],
+) -> Result<(), AllocError>
     requires { IsTrue (is_clause_over cnf.old.vars kept.now) }
     ensures made { OnOk result
-        (cnf.new ≡ with_part cnf.old (some_lit_false_part kept.now cnf.old.vars)) }
+        (cnf.new ≡ with_part cnf.old (some_first_violated_part kept.now cnf.old.vars)) }
     ensures law { OnOk result
         ((a : List Bool) → length a ≡ cnf.old.vars →
-        PartExtensionsAreExactly a (some_lit_false_part kept.now cnf.old.vars)
-        (PassesWithExactValues (not (list_all (is_true a) kept.now))
-        (some_lit_false_bits (map (is_true a) kept.now)))) }
+        PartExtensionsAreExactly a (some_first_violated_part kept.now cnf.old.vars)
+        (PassesAndEqualsGivenValues (not (list_all (is_true a) kept.now))
+        (some_first_violated_bits (map (is_true a) kept.now)))) }
     ensures more { OnOk result (cnf.old.vars ≤ cnf.new.vars) }
     ensures vars { OnOk result (cnf.new.vars ≤ cnf.old.vars + 2 * length kept.now) }
     ensures clauses { OnOk result
@@ -122,8 +126,6 @@ fn no_forms(forms: &[Form]) -> bool
     forms.is_empty()
 }
 
-// Returns whether some instance of the form (`positive`) or of its negation is trivially
-// unsatisfiable.
 #[cycle(never)]
 fn never_kept(positive: bool, form: &Form) -> bool
     ensures { result ≡ is_trivially_false positive (tree_of form.now) }
@@ -163,21 +165,22 @@ fn add_some_fails(
     ensures { OnOk result
         (cnf.new
         ≡ with_part cnf.old
-        (violated_part table.now (all_of (trees_of forms.now)) cnf.old.vars)) }
+        (form_fails_part table.now (all_of (trees_of forms.now)) cnf.old.vars)) }
 {
     if some_never(true, forms) {
         return Ok(());
     }
-    let kept = flatten_each_form(alloc, cnf, table, true, true, forms)?;
-    demand_some_lit_false(alloc, cnf, kept.as_slice())?;
+    let kept = forms_to_and_or_lits(alloc, cnf, table, true, true, forms)?;
+    demand_some_first_violated(alloc, cnf, kept.as_slice())?;
     Ok(())
 }
 
-/// Demands that some of the forms fails for the copy's values, by the first violated instance. The
-/// instances are the parts of And at the top of each form, or the form itself. If one of these is
-/// No, or Or of nothing, nothing is demanded. The forms have to be valid over the copy's variables.
-/// If memory runs out, `cnf` may have grown.
-pub fn demand_some_fails(
+/// Adds clauses to `cnf` that say that some of `forms` fails for a copy's values. `table` has the
+/// copy's literals, and the forms have to be valid over its variables. The parts of And at the top
+/// of a form, or else the form itself, are instances, and some instance has to be the first
+/// violated one. If an instance is No, or Or of nothing, some form fails in any case and nothing is
+/// added. On error, `cnf` may have grown.
+pub fn demand_some_form_fails(
     alloc: Global,
     cnf: &mut Cnf,
     table: &CopyLits,
@@ -188,17 +191,17 @@ pub fn demand_some_fails(
     ensures made { OnOk result
         (cnf.new
         ≡ with_part cnf.old
-        (violated_part table.now (all_of (trees_of forms.now)) cnf.old.vars)) }
+        (form_fails_part table.now (all_of (trees_of forms.now)) cnf.old.vars)) }
 
-    // If the copy's literals say the values `ws`, an assignment extends over the part exactly if
-    // some form fails for `ws`. Each new variable then has one value.
+    // For values `ws` of the copy, an assignment extends over the part exactly if some form fails.
+    // Each new variable then has one value.
     ensures law { OnOk result
         ((a : List Bool) (ranges ws : List ℕ) → length a ≡ cnf.old.vars →
         LiteralsEncode a table.now ranges ws → IsTrue (in_ranges ws ranges) →
         PartExtensionsAreExactly a
-        (violated_part table.now (all_of (trees_of forms.now)) cnf.old.vars)
-        (PassesWithExactValues (not (each_holds ws (trees_of forms.now)))
-        (violated_bits ranges ws (all_of (trees_of forms.now))))) }
+        (form_fails_part table.now (all_of (trees_of forms.now)) cnf.old.vars)
+        (PassesAndEqualsGivenValues (not (each_holds ws (trees_of forms.now)))
+        (form_fails_bits ranges ws (all_of (trees_of forms.now))))) }
     ensures more { OnOk result (cnf.old.vars ≤ cnf.new.vars) }
     ensures vars { OnOk result
         (cnf.new.vars ≤ cnf.old.vars + 2 * tree_size (all_of (trees_of forms.now))) }
@@ -227,24 +230,24 @@ fn add_holds_or_some_fails(
     ensures { OnOk result
         (cnf.new
         ≡ with_part cnf.old
-        (violated_part table.now
+        (form_fails_part table.now
         (all_of (more (negation (tree_of form.now)) (trees_of forms.now)))
         cnf.old.vars)) }
 {
     if either_never(form, forms) {
         return Ok(());
     }
-    let mut kept = flatten_form(alloc, cnf, table, true, false, form)?;
-    let others = flatten_each_form(alloc, cnf, table, true, true, forms)?;
+    let mut kept = form_to_and_or_lits(alloc, cnf, table, true, false, form)?;
+    let others = forms_to_and_or_lits(alloc, cnf, table, true, true, forms)?;
     push_all(&mut kept, others.as_slice())?;
-    demand_some_lit_false(alloc, cnf, kept.as_slice())?;
+    demand_some_first_violated(alloc, cnf, kept.as_slice())?;
     Ok(())
 }
 
-/// Demands that `form` holds of the copy's values, or some of `forms` fails, as `demand_some_fails`
-/// does. An instance of `form` is a part of Or at its top, satisfied if that part fails. An Or of a
-/// variable's values up to one is one instance if there is a literal for it. If memory runs out,
-/// `cnf` may have grown.
+/// Adds clauses to `cnf` that say that `form` holds for a copy's values, or some of `forms` fails,
+/// as in `demand_some_form_fails`. `table` has the copy's literals. The parts of Or at the top of
+/// `form` are instances too, satisfied if the part fails. An Or of v = 0, v = 1, .., v = k is one
+/// instance if the copy has a literal for that bound. On error, `cnf` may have grown.
 pub fn demand_form_or_some_fail(
     alloc: Global,
     cnf: &mut Cnf,
@@ -258,21 +261,21 @@ pub fn demand_form_or_some_fail(
     ensures made { OnOk result
         (cnf.new
         ≡ with_part cnf.old
-        (violated_part table.now
+        (form_fails_part table.now
         (all_of (more (negation (tree_of form.now)) (trees_of forms.now)))
         cnf.old.vars)) }
     ensures law { OnOk result
         ((a : List Bool) (ranges ws : List ℕ) → length a ≡ cnf.old.vars →
         LiteralsEncode a table.now ranges ws → IsTrue (in_ranges ws ranges) →
         PartExtensionsAreExactly a
-        (violated_part table.now
+        (form_fails_part table.now
         (all_of (more (negation (tree_of form.now)) (trees_of forms.now)))
         cnf.old.vars)
-        (PassesWithExactValues
+        (PassesAndEqualsGivenValues
         (not
         (not (tree_holds ws (tree_of form.now))
         && each_holds ws (trees_of forms.now)))
-        (violated_bits ranges ws
+        (form_fails_bits ranges ws
         (all_of (more (negation (tree_of form.now)) (trees_of forms.now)))))) }
     ensures more { OnOk result (cnf.old.vars ≤ cnf.new.vars) }
     ensures vars { OnOk result

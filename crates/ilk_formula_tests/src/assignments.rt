@@ -3,9 +3,12 @@ ghost use Rattle.std.specs.Prelude.{◌≡◌, length, IfOk};
 use ilk_cnf::Assignment;
 use std::alloc::{AllocError, Global};
 
-/// Returns the assignment of `vars` variables whose values are the bits of `pattern`, the lowest
-/// first.
-pub fn assignment_of(alloc: Global, vars: u64, pattern: u64) -> Result<Assignment, AllocError>
+/// Returns the assignment that gives `vars` variables the bits of `pattern`, the lowest bit first.
+pub(crate) fn assignment_of(
+    alloc: Global,
+    vars: u64,
+    pattern: u64,
+) -> Result<Assignment, AllocError>
     ensures { IfOk result (λ a. length a ≡ vars) }
 {
     let mut a = Assignment::new(alloc);

@@ -1,7 +1,7 @@
 ghost use Rattle.std.specs.Prelude.{◌<◌, ◌≤◌, [], ◌∷◌, IfOk, IsTrue};
 ghost use Rattle.ilk_unroll.specs.Goal.{plain_goal, goal_valid};
 
-use crate::query_tests::{switch, switch_goal};
+use crate::query_tests::{one_way_switch_goal, switch};
 use ilk_induct::{Verdict, decide};
 use ilk_ir::{Form, Forms};
 use ilk_unroll::{Goal, Wanted};
@@ -22,7 +22,7 @@ fn harmless_goal(alloc: Global) -> Result<Goal, AllocError>
     })
 }
 
-// The same, with the family that it stays at 0.
+// The switch starts at 0, there is no hazard, and the family holds only at 0.
 fn broken_goal(alloc: Global) -> Result<Goal, AllocError>
     ensures { IfOk result (λ g. IsTrue (goal_valid (2 ∷ []) (plain_goal g))) }
 {
@@ -36,7 +36,7 @@ fn broken_goal(alloc: Global) -> Result<Goal, AllocError>
     })
 }
 
-// The same, without an initial state.
+// The switch has no initial state.
 fn unreached_goal(alloc: Global) -> Result<Goal, AllocError>
     ensures { IfOk result (λ g. IsTrue (goal_valid (2 ∷ []) (plain_goal g))) }
 {
@@ -104,7 +104,7 @@ fn answer(alloc: Global, goal: &Goal, depth: u32, conflicts: u64) -> Result<Stri
 
 #[test]
 fn the_hazard_is_reached(rt: HostRuntime) -> Result<(), Fail> {
-    let goal = switch_goal(rt.alloc())?;
+    let goal = one_way_switch_goal(rt.alloc())?;
     let a = answer(rt.alloc(), &goal, 16, 100)?;
     assert_eq!(rt; a.as_str(), "unsafe by 1, hazard 0, breach 0, hazard 1");
     Ok(())

@@ -3,7 +3,7 @@ ghost use Rattle.ilk_cnf.specs.Formula.{is_clause_over};
 
 use ilk_base::{Row, Text};
 use ilk_cnf::{Clause, Cnf, Lit, add_and_gate, add_or_gate, negated_lits};
-use ilk_forms::{add_copy, demand_some_lit_false, reserve_copy};
+use ilk_forms::{add_copy_clauses, demand_some_first_violated, reserve_copy};
 use ilk_ints::one_of;
 use std::alloc::{AllocError, Global};
 use std::test::Fail;
@@ -37,7 +37,7 @@ fn made_of(alloc: Global, lits: &[Lit]) -> Result<(), AllocError>
     let mut cnf = formula(alloc)?;
     let _ = add_or_gate(alloc, &mut cnf, lits)?;
     let mut cnf = formula(alloc)?;
-    demand_some_lit_false(alloc, &mut cnf, lits)
+    demand_some_first_violated(alloc, &mut cnf, lits)
 }
 
 #[test]
@@ -83,7 +83,7 @@ fn copied(alloc: Global) -> Result<u64, AllocError> {
     ranges.push(8)?;
     let mut cnf = Cnf::new(alloc);
     reserve_copy(&mut cnf, &ranges)?;
-    let table = add_copy(alloc, &mut cnf, &ranges, 0)?;
+    let table = add_copy_clauses(alloc, &mut cnf, &ranges, 0)?;
     Ok(table.len())
 }
 

@@ -5,8 +5,8 @@ use ilk_cnf::Lit;
 use ilk_solver::{Picker, View};
 use std::alloc::{AllocError, Global};
 
-/// Picks the negative literal of the least unset variable.
-pub fn pick_least_negative(view: &View) -> Lit
+/// Picks the negative literal of the unset variable with the least number.
+pub(crate) fn pick_least_negative(view: &View) -> Lit
     ensures unset { (v : ℕ) → IsTrue (is_unset view.now v) → IsTrue (is_unset view.now result.var) }
     ensures negative { result.positive ≡ false }
 {
@@ -18,8 +18,8 @@ pub fn pick_least_negative(view: &View) -> Lit
     Lit::new(1, false)
 }
 
-/// Picks the positive literal of the greatest unset variable.
-pub fn pick_greatest_positive(view: &View) -> Lit
+/// Picks the positive literal of the unset variable with the greatest number.
+pub(crate) fn pick_greatest_positive(view: &View) -> Lit
     ensures unset { (v : ℕ) → IsTrue (is_unset view.now v) → IsTrue (is_unset view.now result.var) }
     ensures positive { result.positive ≡ true }
 {
@@ -33,8 +33,8 @@ pub fn pick_greatest_positive(view: &View) -> Lit
     Lit::new(1, true)
 }
 
-/// Picks the negative literal of the heaviest unset variable.
-pub fn pick_heaviest_negative(view: &View) -> Lit
+/// Picks the negative literal of the unset variable of greatest weight.
+pub(crate) fn pick_heaviest_negative(view: &View) -> Lit
     ensures unset { (v : ℕ) → IsTrue (is_unset view.now v) → IsTrue (is_unset view.now result.var) }
     ensures negative { result.positive ≡ false }
 {
@@ -45,9 +45,9 @@ pub fn pick_heaviest_negative(view: &View) -> Lit
     }
 }
 
-/// Picks the negative literal of the heaviest unset variable if it occurs in a step, or else the
-/// literal of `pick_least_negative`.
-pub fn pick_heaviest_or_least(view: &View) -> Lit
+/// Picks the negative literal of the unset variable of greatest weight, if this is above 0.
+/// Otherwise picks that of the least unset variable.
+pub(crate) fn pick_heaviest_or_least_negative(view: &View) -> Lit
     ensures unset { (v : ℕ) → IsTrue (is_unset view.now v) → IsTrue (is_unset view.now result.var) }
     ensures negative { result.positive ≡ false }
 {
@@ -58,32 +58,32 @@ pub fn pick_heaviest_or_least(view: &View) -> Lit
     }
 }
 
-/// Creates the picker `pick_heaviest_or_least`.
-pub fn heaviest_or_least_picker(alloc: Global) -> Result<Picker, AllocError> {
-    Ok(Picker::new(Box::new(alloc, pick_heaviest_or_least)?))
+/// Creates a `Picker` that calls `pick_heaviest_or_least_negative`.
+pub(crate) fn heaviest_or_least_negative_picker(alloc: Global) -> Result<Picker, AllocError> {
+    Ok(Picker::new(Box::new(alloc, pick_heaviest_or_least_negative)?))
 }
 
-/// Creates the picker `pick_least_negative`.
-pub fn least_negative_picker(alloc: Global) -> Result<Picker, AllocError> {
+/// Creates a `Picker` that calls `pick_least_negative`.
+pub(crate) fn least_negative_picker(alloc: Global) -> Result<Picker, AllocError> {
     Ok(Picker::new(Box::new(alloc, pick_least_negative)?))
 }
 
-/// Creates the picker `pick_greatest_positive`.
-pub fn greatest_positive_picker(alloc: Global) -> Result<Picker, AllocError> {
+/// Creates a `Picker` that calls `pick_greatest_positive`.
+pub(crate) fn greatest_positive_picker(alloc: Global) -> Result<Picker, AllocError> {
     Ok(Picker::new(Box::new(alloc, pick_greatest_positive)?))
 }
 
-/// Creates the picker `pick_heaviest_negative`.
-pub fn heaviest_negative_picker(alloc: Global) -> Result<Picker, AllocError> {
+/// Creates a `Picker` that calls `pick_heaviest_negative`.
+pub(crate) fn heaviest_negative_picker(alloc: Global) -> Result<Picker, AllocError> {
     Ok(Picker::new(Box::new(alloc, pick_heaviest_negative)?))
 }
 
-/// Restarts after each step.
-pub fn restart_always(_: u64) -> bool {
+/// Restart policy that restarts after each learned step: always returns `true`.
+pub(crate) fn restart_always(_: u64) -> bool {
     true
 }
 
-/// Never restarts.
-pub fn restart_never(_: u64) -> bool {
+/// Restart policy that never restarts: always returns `false`.
+pub(crate) fn restart_never(_: u64) -> bool {
     false
 }

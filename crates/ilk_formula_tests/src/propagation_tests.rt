@@ -2,7 +2,7 @@ ghost use Rattle.std.specs.Prelude.{◌≡◌, IfOk};
 
 use ilk_cnf::{Cnf, Lit};
 use ilk_trail::Trail;
-use ilk_watches::{Clauses, Propagator, propagate_by_scan};
+use ilk_watches::{NumberedClauses, PropagationProgress, propagate_by_scan};
 use std::alloc::{AllocError, Global};
 use std::test::Fail;
 
@@ -37,11 +37,11 @@ fn end(conflict: Option<u64>, trail: &Trail) -> Option<u64> {
 // Returns how propagation ends by chains, and by a scan.
 fn ends(alloc: Global, refuted: bool) -> Result<(Option<u64>, Option<u64>), AllocError> {
     let cnf = formula(alloc, refuted)?;
-    let mut clauses = Clauses::from_cnf(alloc, &cnf)?;
+    let mut clauses = NumberedClauses::from_cnf(alloc, &cnf)?;
     let mut by_chains = Trail::new(alloc, 4)?;
     let mut by_scan = Trail::new(alloc, 4)?;
     let scanned = propagate_by_scan(&clauses, &mut by_scan);
-    let mut queue = Propagator::new();
+    let mut queue = PropagationProgress::new();
     let chained = queue.propagate(&mut clauses, &mut by_chains);
     Ok((end(chained, &by_chains), end(scanned, &by_scan)))
 }

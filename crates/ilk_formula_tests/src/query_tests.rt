@@ -8,8 +8,8 @@ use ilk_unroll::{Goal, Trace, Wanted, query, read_back};
 use std::alloc::{AllocError, Global};
 use std::test::Fail;
 
-/// Creates a system with one variable of two values, and one rule that sets it from 0 to 1.
-pub fn switch(alloc: Global) -> Result<System, AllocError>
+/// Creates a system with one variable of two values and one rule, which sets it from 0 to 1.
+pub(crate) fn switch(alloc: Global) -> Result<System, AllocError>
     ensures ranges { IfOk result (λ s. s.ranges ≡ 2 ∷ []) }
     ensures valid { IfOk result (λ s. IsTrue (system_valid (plain_system s))) }
 {
@@ -25,9 +25,8 @@ pub fn switch(alloc: Global) -> Result<System, AllocError>
     Ok(System { ranges, rules })
 }
 
-/// Creates the goal of the switch. It starts at 0, the hazard is 1, and the only family always
-/// holds.
-pub fn switch_goal(alloc: Global) -> Result<Goal, AllocError>
+/// Creates the goal for `switch`: it starts at 0, 1 is a hazard, and its only family always holds.
+pub(crate) fn one_way_switch_goal(alloc: Global) -> Result<Goal, AllocError>
     ensures { IfOk result (λ g. IsTrue (goal_valid (2 ∷ []) (plain_goal g))) }
 {
     let mut families = Forms::new(alloc);
@@ -52,7 +51,7 @@ fn ask(alloc: Global, q: Wanted, patterns: u64) -> Result<Found, AllocError>
     requires { IsTrue (step_count_is_allowed q) }
 {
     let system = switch(alloc)?;
-    let goal = switch_goal(alloc)?;
+    let goal = one_way_switch_goal(alloc)?;
     let cnf = query(alloc, &system, &goal, q)?;
     let mut runs = Vec::new(alloc);
     for pattern in 0..patterns {

@@ -8,8 +8,8 @@ use ilk_solver::{Answer, Picker, Restart, Solver};
 use std::alloc::{AllocError, Global};
 use std::test::Fail;
 
-/// Creates a formula of the first `clauses` of (1 2), (1 -2), (-1 2), (-1 -2).
-pub fn formula(alloc: Global, clauses: u8) -> Result<Cnf, AllocError> {
+/// Creates a formula with the first `clauses` of the clauses (1 2), (1 -2), (-1 2), (-1 -2).
+pub(crate) fn formula(alloc: Global, clauses: u8) -> Result<Cnf, AllocError> {
     let mut cnf = Cnf::new(alloc);
     cnf.fresh()?;
     cnf.fresh()?;
@@ -38,8 +38,9 @@ fn push_sizes(text: &mut String, log: &Log) -> Result<(), AllocError> {
     Ok(())
 }
 
-/// Returns the answer of a search, and the sizes of its steps.
-pub fn search_report(
+/// Searches `cnf` with `picker`, `restart` and a conflict budget. Returns the answer as text, with
+/// the values if it is `sat`, and the sizes of the learned steps.
+pub(crate) fn search_answer_and_step_sizes(
     alloc: Global,
     cnf: &Cnf,
     picker: Picker,
@@ -60,8 +61,9 @@ pub fn search_report(
     Ok(text)
 }
 
-/// Returns the answer of a search over the first `clauses` clauses, and the sizes of its steps.
-pub fn first_clauses_search_report(
+/// Returns `search_answer_and_step_sizes` for the first `clauses` of the four clauses of `formula`:
+/// the answer of the search, and the sizes of the learned steps.
+pub(crate) fn first_clauses_answer_and_sizes(
     alloc: Global,
     clauses: u8,
     picker: Picker,
@@ -69,7 +71,7 @@ pub fn first_clauses_search_report(
     budget: u64,
 ) -> Result<String, AllocError> {
     let cnf = formula(alloc, clauses)?;
-    search_report(alloc, &cnf, picker, restart, budget)
+    search_answer_and_step_sizes(alloc, &cnf, picker, restart, budget)
 }
 
 // The four clauses are unsatisfiable. Each search learns one unit clause, and then the empty one.
@@ -80,7 +82,7 @@ fn four_clauses(rt: HostRuntime) -> Result<(), Fail> {
         (1, "unsat unit empty"),
         (9, "unsat unit empty"),
     ] {
-        let a = first_clauses_search_report(
+        let a = first_clauses_answer_and_sizes(
             rt.alloc(),
             4,
             least_negative_picker(rt.alloc())?,
@@ -88,7 +90,7 @@ fn four_clauses(rt: HostRuntime) -> Result<(), Fail> {
             budget,
         )?;
         assert_eq!(rt; a.as_str(), answer, "least, never, {budget}");
-        let a = first_clauses_search_report(
+        let a = first_clauses_answer_and_sizes(
             rt.alloc(),
             4,
             least_negative_picker(rt.alloc())?,
@@ -96,7 +98,7 @@ fn four_clauses(rt: HostRuntime) -> Result<(), Fail> {
             budget,
         )?;
         assert_eq!(rt; a.as_str(), answer, "least, always, {budget}");
-        let a = first_clauses_search_report(
+        let a = first_clauses_answer_and_sizes(
             rt.alloc(),
             4,
             greatest_positive_picker(rt.alloc())?,
@@ -104,7 +106,7 @@ fn four_clauses(rt: HostRuntime) -> Result<(), Fail> {
             budget,
         )?;
         assert_eq!(rt; a.as_str(), answer, "greatest, never, {budget}");
-        let a = first_clauses_search_report(
+        let a = first_clauses_answer_and_sizes(
             rt.alloc(),
             4,
             greatest_positive_picker(rt.alloc())?,
@@ -112,7 +114,7 @@ fn four_clauses(rt: HostRuntime) -> Result<(), Fail> {
             budget,
         )?;
         assert_eq!(rt; a.as_str(), answer, "greatest, always, {budget}");
-        let a = first_clauses_search_report(
+        let a = first_clauses_answer_and_sizes(
             rt.alloc(),
             4,
             heaviest_negative_picker(rt.alloc())?,
@@ -128,7 +130,7 @@ fn four_clauses(rt: HostRuntime) -> Result<(), Fail> {
 // learns a unit on the way, the other none.
 #[test]
 fn three_clauses(rt: HostRuntime) -> Result<(), Fail> {
-    let a = first_clauses_search_report(
+    let a = first_clauses_answer_and_sizes(
         rt.alloc(),
         3,
         least_negative_picker(rt.alloc())?,
@@ -136,7 +138,7 @@ fn three_clauses(rt: HostRuntime) -> Result<(), Fail> {
         9,
     )?;
     assert_eq!(rt; a.as_str(), "sat true true unit");
-    let a = first_clauses_search_report(
+    let a = first_clauses_answer_and_sizes(
         rt.alloc(),
         3,
         greatest_positive_picker(rt.alloc())?,
@@ -149,7 +151,7 @@ fn three_clauses(rt: HostRuntime) -> Result<(), Fail> {
 
 #[test]
 fn no_clause(rt: HostRuntime) -> Result<(), Fail> {
-    let a = first_clauses_search_report(
+    let a = first_clauses_answer_and_sizes(
         rt.alloc(),
         0,
         least_negative_picker(rt.alloc())?,

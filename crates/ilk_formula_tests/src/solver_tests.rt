@@ -2,10 +2,10 @@ ghost use Rattle.std.specs.Prelude.{◌≡◌, ℕ, false, IsTrue};
 ghost use Rattle.ilk_solver.specs.View.{is_unset};
 
 use crate::pickers::{
-    heaviest_negative_picker, heaviest_or_least_picker, least_negative_picker, pick_least_negative,
-    restart_always, restart_never,
+    heaviest_negative_picker, heaviest_or_least_negative_picker, least_negative_picker,
+    pick_least_negative, restart_always, restart_never,
 };
-use crate::row_tests::{first_clauses_search_report, search_report};
+use crate::row_tests::{first_clauses_answer_and_sizes, search_answer_and_step_sizes};
 use ilk_cnf::{Cnf, Lit};
 use ilk_solver::{Picker, Restart, Solver, View};
 use std::alloc::{AllocError, Global};
@@ -33,7 +33,7 @@ fn decisions_by_an_order(rt: HostRuntime) -> Result<(), Fail> {
         let by_order = move |view: &View| first_of(&order, view);
         let picker = Picker::new(Box::new(rt.alloc(), by_order)?);
         let restart = Restart::new(Box::new(rt.alloc(), restart_never)?);
-        let a = first_clauses_search_report(rt.alloc(), 1, picker, restart, 0)?;
+        let a = first_clauses_answer_and_sizes(rt.alloc(), 1, picker, restart, 0)?;
         assert_eq!(rt; a.as_str(), answer);
     }
     Ok(())
@@ -65,7 +65,7 @@ fn restarts_at_a_number(rt: HostRuntime) -> Result<(), Fail> {
         let picker = heaviest_negative_picker(rt.alloc())?;
         let restart = Restart::new(Box::new(rt.alloc(), at_number)?);
         let cnf = weighing(rt.alloc())?;
-        let a = search_report(rt.alloc(), &cnf, picker, restart, 9)?;
+        let a = search_answer_and_step_sizes(rt.alloc(), &cnf, picker, restart, 9)?;
         assert_eq!(rt; a.as_str(), answer, "restart at {number}");
     }
     Ok(())
@@ -76,10 +76,10 @@ fn restarts_at_a_number(rt: HostRuntime) -> Result<(), Fail> {
 fn decisions_by_weights(rt: HostRuntime) -> Result<(), Fail> {
     let cnf = weighing(rt.alloc())?;
     let restart = Restart::new(Box::new(rt.alloc(), restart_always)?);
-    let a = search_report(
+    let a = search_answer_and_step_sizes(
         rt.alloc(),
         &cnf,
-        heaviest_or_least_picker(rt.alloc())?,
+        heaviest_or_least_negative_picker(rt.alloc())?,
         restart,
         9,
     )?;

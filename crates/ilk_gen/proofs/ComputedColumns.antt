@@ -1,4 +1,3 @@
--- Column rules of 1 to 16 stations, by computation.
 use Rattle.std.proofs.Common.{◌≡◌, ℕ, ◌≤◌, [], refl}
 use Rattle.std.specs.Fmt.{digits}
 use Rattle.ilk_gen.proofs.Sixteen.{any_of_sixteen}

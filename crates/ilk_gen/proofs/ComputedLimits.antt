@@ -1,11 +1,10 @@
--- Limits and counts of 1 to 16 stations, by computation.
 use Rattle.std.proofs.Common.{◌≡◌, ℕ, ◌+◌, ◌*◌, ◌≤◌, true, length, refl}
 use Rattle.std.specs.Fmt.{digits}
 use Rattle.ilk_gen.proofs.Rules.{has_limits}
 use Rattle.ilk_gen.proofs.Sixteen.{any_of_sixteen}
 use Rattle.ilk_gen.specs.StationRoutes.{stations_table}
 use Rattle.ilk_gen.specs.Stations.{stations_net}
-use Rattle.ilk_conf_write.specs.ConfigurationText.{fits_version}
+use Rattle.ilk_conf_write.specs.ConfigurationText.{table_fits_version}
 use Rattle.ilk_net_read.specs.declared.version.Version.TheVariants.{First}
 
 pub limits-kept-by : (n : ℕ) → 1 ≤ n → n ≤ 16 → has_limits (stations_net n) (stations_table n) ≡ true
@@ -20,6 +19,6 @@ pub routes-counted : (n : ℕ) → 1 ≤ n → n ≤ 16 → length (stations_tab
 unfolding digits
 routes-counted = any_of_sixteen (λ n. length (stations_table n).routes ≡ 8 * n) refl refl refl refl refl refl refl refl refl refl refl refl refl refl refl refl
 
-pub unprotected-by : (n : ℕ) → 1 ≤ n → n ≤ 16 → fits_version First (stations_table n) ≡ true
+pub unprotected-by : (n : ℕ) → 1 ≤ n → n ≤ 16 → table_fits_version First (stations_table n) ≡ true
 unfolding digits
-unprotected-by = any_of_sixteen (λ n. fits_version First (stations_table n) ≡ true) refl refl refl refl refl refl refl refl refl refl refl refl refl refl refl refl
+unprotected-by = any_of_sixteen (λ n. table_fits_version First (stations_table n) ≡ true) refl refl refl refl refl refl refl refl refl refl refl refl refl refl refl refl

@@ -1,4 +1,3 @@
--- Network rules of 1 to 16 stations, by computation.
 use Rattle.std.proofs.Common.{◌≡◌, ℕ, ◌≤◌, true, [], refl}
 use Rattle.std.specs.Fmt.{digits}
 use Rattle.ilk_gen.proofs.Rules.{others_broken}

@@ -59,12 +59,10 @@ one-sections : (plant_from_drafts (stations_net 1) (stations_table 1)).sections
 unfolding digits
 one-sections = refl
 
--- The paths of its routes as numbers.
 one-paths : map (λ (route : Route). route.path) (plant_from_drafts (stations_net 1) (stations_table 1)).routes ≡ (1 ∷ 2 ∷ []) ∷ (1 ∷ 3 ∷ []) ∷ (4 ∷ 5 ∷ []) ∷ (4 ∷ 5 ∷ []) ∷ (4 ∷ 2 ∷ []) ∷ (4 ∷ 3 ∷ []) ∷ (1 ∷ 0 ∷ []) ∷ (1 ∷ 0 ∷ []) ∷ []
 unfolding digits
 one-paths = refl
 
--- Their conflicts as numbers.
 one-conflicts : map (λ (route : Route). route.conflicts) (plant_from_drafts (stations_net 1) (stations_table 1)).routes
     ≡ (1 ∷ 4 ∷ 6 ∷ 7 ∷ []) ∷ (0 ∷ 5 ∷ 6 ∷ 7 ∷ []) ∷ (3 ∷ 4 ∷ 5 ∷ []) ∷ (2 ∷ 4 ∷ 5 ∷ []) ∷ (0 ∷ 2 ∷ 3 ∷ 5 ∷ [])
     ∷ (1 ∷ 2 ∷ 3 ∷ 4 ∷ []) ∷ (0 ∷ 1 ∷ 7 ∷ []) ∷ (0 ∷ 1 ∷ 6 ∷ []) ∷ []

@@ -5,8 +5,8 @@ use Rattle.std.specs.List.{list_all}
 use Rattle.std.proofs.lemmas.Bool.{and_parts, leb-true}
 use Rattle.ilk_net_read.proofs.Limits.{is_between-true}
 use Rattle.ilk_plant.specs.Broken.{broken_below, broken_for_rules, place_kind_of}
-use Rattle.ilk_plant.specs.Limits.{WithinLimits, counts_are_allowed, route_within_limits, route_names_valid, section_names_valid}
-use Rattle.ilk_plant.specs.NetworkRules.{breaks_network, count_in_network, network_rules_broken, is_on_up_cycle}
+use Rattle.ilk_plant.specs.Limits.{WithinLimits, section_and_route_counts_allowed, route_within_limits, route_names_valid, section_names_valid}
+use Rattle.ilk_plant.specs.NetworkRules.{breaks_network_rule_at, place_count_in_network, network_rules_broken, is_on_up_cycle}
 use Rattle.ilk_plant.specs.declared.broken.Broken.{Broken}
 use Rattle.ilk_plant.specs.declared.broken.Rule.{Rule}
 use Rattle.ilk_plant.specs.declared.broken.Rule.TheVariants.{N1, N2, N3, N4, N5, N6, N7, N8}
@@ -17,7 +17,7 @@ use Rattle.ilk_gen.proofs.Upwards.{lists_upwards, never-broken, never-is_on_up_c
 
 -- The violated rules of a network except N7.
 abbrev pub others_broken : NetDraft → List Broken
-others_broken net = broken_for_rules (N1 ∷ N2 ∷ N3 ∷ N4 ∷ N5 ∷ N6 ∷ N8 ∷ []) (count_in_network net) (breaks_network net)
+others_broken net = broken_for_rules (N1 ∷ N2 ∷ N3 ∷ N4 ∷ N5 ∷ N6 ∷ N8 ∷ []) (place_count_in_network net) (breaks_network_rule_at net)
 
 both-none : {X : Type 0} (xs ys : List X) → xs ≡ [] → ys ≡ [] → xs ++ ys ≡ []
 both-none xs ys a b = rw (a, b) refl
@@ -27,19 +27,19 @@ among_seven a b c d e f g h all none = rw none all
 
 pub network_rules-kept : (net : NetDraft) → others_broken net ≡ [] → lists_upwards net ≡ true → network_rules_broken net ≡ []
 network_rules-kept net others upwards =
-    let broken : Rule → List Broken = λ rule. broken_below rule (count_in_network net (place_kind_of rule)) (breaks_network net rule) in
+    let broken : Rule → List Broken = λ rule. broken_below rule (place_count_in_network net (place_kind_of rule)) (breaks_network_rule_at net rule) in
     among_seven (broken N1) (broken N2) (broken N3) (broken N4) (broken N5) (broken N6) (broken N7) (broken N8) others (never-broken N7 (length net.sections) (is_on_up_cycle net) (never-is_on_up_cycle net upwards))
 
 -- Returns whether drafts are within the limits.
 abbrev pub has_limits : NetDraft → TableDraft → Bool
 has_limits net table =
-    counts_are_allowed (length net.sections) (length table.routes)
+    section_and_route_counts_allowed (length net.sections) (length table.routes)
     && (list_all section_names_valid net.sections
     && (list_all route_within_limits table.routes && list_all route_names_valid table.routes))
 
 pub limits-kept : (net : NetDraft) (table : TableDraft) → has_limits net table ≡ true → WithinLimits net table
 limits-kept net table h =
-    let counts = and_parts (counts_are_allowed (length net.sections) (length table.routes)) _ h in
+    let counts = and_parts (section_and_route_counts_allowed (length net.sections) (length table.routes)) _ h in
     let named = and_parts (list_all section_names_valid net.sections) _ counts.1 in
     let routes = and_parts (list_all route_within_limits table.routes) (list_all route_names_valid table.routes) named.1 in
     let allowed = and_parts _ _ counts.0 in

@@ -1,4 +1,3 @@
--- A fact about each number from 1 to 16 holds for any of them.
 use Rattle.std.proofs.Common.{ℕ, zero, suc, ◌≤◌, arith}
 
 pub any_of_sixteen : (P : ℕ → Type 0) → P 1 → P 2 → P 3 → P 4 → P 5 → P 6 → P 7 → P 8 → P 9 → P 10 → P 11 → P 12 → P 13 → P 14 → P 15 → P 16 → (n : ℕ) → 1 ≤ n → n ≤ 16 → P n

@@ -17,8 +17,7 @@ use Rattle.ilk_plant.specs.declared.broken.Rule.{Rule}
 use Rattle.ilk_plant.specs.declared.draft.NetDraft.{NetDraft}
 use Rattle.ilk_plant.specs.declared.network.Dir.TheVariants.{Up}
 
--- Returns whether an end of section x isn't on the up side, or names a section with a greater
--- number.
+-- Returns whether an end of section x isn't on the up side, or names a later section.
 abbrev pub leads_to_greater : NetDraft → ℕ → End → Bool
 leads_to_greater net x end = not (same_direction end.side Up) || is_some_and (section_named net end.name) (nat_lt x)
 

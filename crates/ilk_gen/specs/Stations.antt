@@ -20,67 +20,70 @@ use Rattle.ilk_plant.specs.declared.network.Dir.TheVariants.{Up, Down}
 use Rattle.ilk_plant.specs.declared.network.Position.{Position}
 use Rattle.ilk_plant.specs.declared.network.Position.TheVariants.{Plus, Minus}
 
--- Names of the sections. Line j is above station j; line 0 is below station 1.
+-- The name of line `j`, the section above station `j`. Line 0 is below station 1.
 abbrev pub line : ℕ → Name
 line j = codes "l" ++ decimal j
 
--- The point at the down end of station j.
+-- The name of the point at the down end of station `j`.
 abbrev pub down_point_name : ℕ → Name
 down_point_name j = codes "p" ++ decimal j
 
--- The track of station j on the legs of its points at a position.
+-- The name of the track of station `j` that joins the legs of its points at a position.
 abbrev pub track_name : ℕ → Position → Name
 track_name j Plus = codes "t" ++ decimal j
 track_name j Minus = codes "u" ++ decimal j
 
--- The point at the up end of station j.
+-- The name of the point at the up end of station `j`.
 abbrev pub up_point_name : ℕ → Name
 up_point_name j = codes "q" ++ decimal j
 
--- The boards on a section, for up trains and for down trains.
+-- The name of the board for up trains on a section.
 abbrev pub up_board_name : Name → Name
 up_board_name section = section ++ codes "U"
 
+-- The name of the board for down trains on a section.
 abbrev pub down_board_name : Name → Name
 down_board_name section = section ++ codes "D"
 
--- The boards on line j of n stations: an up board unless the line is the last, a down board unless
--- it is line 0.
+-- The name of the up board of line `j` of `n` stations, or `None` on the last line.
 abbrev pub line_up_board : ℕ → ℕ → Option Name
 line_up_board n j = then_some (nat_lt j n) (up_board_name (line j))
 
+-- The name of the down board of line `j`, or `None` on line 0.
 abbrev pub line_down_board : ℕ → Option Name
 line_down_board j = then_some (nat_lt 0 j) (down_board_name (line j))
 
--- The neighbours of line j of n stations. The down one is a point of station j, unless j is 0. The
--- up one is a point of station j + 1, unless the line is the last.
+-- The name of the down neighbour of line `j`, a point of station `j`, or `None` for line 0.
 abbrev pub line_down_neighbour : ℕ → Option Name
 line_down_neighbour j = then_some (nat_lt 0 j) (up_point_name j)
 
+-- The name of the up neighbour of line `j` of `n` stations, a point of station `j` + 1, or `None`
+-- for the last line.
 abbrev pub line_up_neighbour : ℕ → ℕ → Option Name
 line_up_neighbour n j = then_some (nat_lt j n) (down_point_name (j + 1))
 
--- Line j of n stations.
+-- The draft of line `j` of `n` stations.
 abbrev pub line_section : ℕ → ℕ → SectionDraft
 line_section n j = record { name = line j; kind = Linear (line_down_neighbour j) (line_up_neighbour n j) (line_down_board j) (line_up_board n j) }
 
--- A track of station j.
+-- The draft of the track of station `j` at a position.
 abbrev pub track_section : ℕ → Position → SectionDraft
 track_section j at = record {
   name = track_name j at;
   kind = Linear (Some (down_point_name j)) (Some (up_point_name j)) (Some (down_board_name (track_name j at))) (Some (up_board_name (track_name j at)));
 }
 
--- The points of station j. They face its tracks.
+-- The draft of the point at the down end of station `j`. It faces up, to the tracks.
 abbrev pub down_point_section : ℕ → SectionDraft
 down_point_section j = record { name = down_point_name j; kind = Point (line (j - 1)) (track_name j Plus) (track_name j Minus) Up }
 
+-- The draft of the point at the up end of station `j`. It faces down, to the tracks.
 abbrev pub up_point_section : ℕ → SectionDraft
 up_point_section j = record { name = up_point_name j; kind = Point (line j) (track_name j Plus) (track_name j Minus) Down }
 
--- The sections of station j, and the line above it.
-abbrev pub station_sections : ℕ → ℕ → List SectionDraft
-station_sections n j =
+-- The drafts of the four sections of station `j` of `n`, and of the line above it.
+abbrev pub station_and_line_sections : ℕ → ℕ → List SectionDraft
+station_and_line_sections n j =
     down_point_section j
     ∷ track_section j Plus
     ∷ track_section j Minus
@@ -88,10 +91,10 @@ station_sections n j =
     ∷ line_section n j
     ∷ []
 
--- The sections of stations 1 to n.
+-- The drafts of the sections of stations 1 to `n`, each with the line above it.
 abbrev pub all_station_sections : ℕ → List SectionDraft
-all_station_sections n = flat_map (station_sections n) (range_with_len 1 n)
+all_station_sections n = flat_map (station_and_line_sections n) (range_with_len 1 n)
 
--- The network of n stations: line 0, then the stations.
+-- The network of `n` stations: line 0, then the stations.
 abbrev pub stations_net : ℕ → NetDraft
 stations_net n = record { sections = line_section n 0 ∷ all_station_sections n }

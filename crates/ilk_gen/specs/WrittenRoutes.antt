@@ -1,5 +1,5 @@
--- The routes of a line of stations with their conflicts as constants. Used only by private
--- contracts.
+-- The routes of a line of stations, with their conflicts as constants in place of computed ones.
+-- Used only by private contracts.
 use Rattle.std.specs.Prelude.{ℕ, ◌+◌, ◌-◌, Bool, List, [], ◌∷◌, ◌++◌, flat_map, map, nat_lt, if◌then◌else◌}
 use Rattle.std.specs.List.{range_with_len}
 use Rattle.ilk_plant.specs.Name.{Name}
@@ -7,27 +7,29 @@ use Rattle.ilk_plant.specs.declared.draft.RouteDraft.{RouteDraft}
 use Rattle.ilk_plant.specs.declared.network.Position.TheVariants.{Plus, Minus}
 use Rattle.ilk_gen.specs.StationRoutes.{down_route_into, down_route_out_of, route_name, up_route_into, up_route_out_of}
 
--- The names of these routes of station j.
+-- The names of the routes of station `j` with these numbers.
 abbrev pub route_names : ℕ → List ℕ → List Name
 route_names j numbers = map (route_name j) numbers
 
--- The names of these routes of station j if the test holds, otherwise none.
-abbrev pub route_names_if : Bool → ℕ → List ℕ → List Name
-route_names_if test j numbers = if test then route_names j numbers else []
+-- The names of the routes of station `j` with these numbers if the test holds, otherwise none.
+abbrev pub station_route_names_if : Bool → ℕ → List ℕ → List Name
+station_route_names_if test j numbers = if test then route_names j numbers else []
 
--- The conflicts of a route up out of station j of n: these of the same station, and those down out
--- of the next.
+-- The conflicts of a route up out of station `j` of `n`: routes `own` of the same station, and
+-- those down out of the next.
 abbrev pub conflicts_up_out_of : ℕ → ℕ → List ℕ → List Name
-conflicts_up_out_of n j own = route_names j own ++ route_names_if (nat_lt j n) (j + 1) (7 ∷ 8 ∷ [])
+conflicts_up_out_of n j own = route_names j own ++ station_route_names_if (nat_lt j n) (j + 1) (7 ∷ 8 ∷ [])
 
--- The conflicts of a route down out of station j: those up out of the previous station, and these
--- of the same one.
+-- The conflicts of a route down out of station `j`: those up out of the previous station, and
+-- routes `own` of the same one.
 abbrev pub conflicts_down_out_of : ℕ → List ℕ → List Name
-conflicts_down_out_of j own = route_names_if (nat_lt 1 j) (j - 1) (3 ∷ 4 ∷ []) ++ route_names j own
+conflicts_down_out_of j own = station_route_names_if (nat_lt 1 j) (j - 1) (3 ∷ 4 ∷ []) ++ route_names j own
 
+-- The route with these conflicts.
 abbrev pub with_listed_conflicts : List Name → RouteDraft → RouteDraft
 with_listed_conflicts names route = record route { conflicts = names }
 
+-- The routes of station `j` of `n`, with conflicts as constants.
 abbrev pub explicit_station_routes : ℕ → ℕ → List RouteDraft
 explicit_station_routes n j =
     with_listed_conflicts (route_names j (2 ∷ 5 ∷ 7 ∷ 8 ∷ [])) (up_route_into j 1 Plus)
@@ -40,5 +42,6 @@ explicit_station_routes n j =
     ∷ with_listed_conflicts (conflicts_down_out_of j (1 ∷ 2 ∷ 7 ∷ [])) (down_route_out_of j 8 Minus)
     ∷ []
 
+-- The routes of stations 1 to `n`, with conflicts as constants.
 abbrev pub all_explicit_routes : ℕ → List RouteDraft
 all_explicit_routes n = flat_map (explicit_station_routes n) (range_with_len 1 n)

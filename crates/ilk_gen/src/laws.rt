@@ -12,16 +12,16 @@ ghost use Rattle.ilk_gen.specs.StationRoutes.{stations_table};
 ghost use Rattle.ilk_gen.specs.Stations.{stations_net};
 ghost use Rattle.ilk_gen.specs.declared.making.TheConstants.{MAX_STATIONS};
 
-/// The text of 1 to `MAX_STATIONS` stations is read as exactly their drafts. Proof only; no
-/// run-time effect.
-pub fn stations_are_read(n: u32)
+/// The reader reads the configuration text of `n` stations, 1 to `MAX_STATIONS`, as exactly their
+/// drafts. Proof only; no run-time effect.
+pub fn stations_text_reads_as_drafts(n: u32)
     requires some { 1 ≤ n }
     requires few { n ≤ MAX_STATIONS }
     ensures { net_and_table_drafts (stations_text n) ≡ Ok (stations_net n, stations_table n) }
 {}
 
-/// The drafts of 1 to `MAX_STATIONS` stations are within the limits, and violate no rule of the
-/// network, table or columns. Proof only; no run-time effect.
+/// The drafts of `n` stations, 1 to `MAX_STATIONS`, are within the limits, and violate no rule of
+/// the network, table or columns. Proof only; no run-time effect.
 pub fn stations_break_no_rule(n: u32)
     requires some { 1 ≤ n }
     requires few { n ≤ MAX_STATIONS }
@@ -34,7 +34,7 @@ pub fn stations_break_no_rule(n: u32)
 
 /// A line of `n` stations, 1 to `MAX_STATIONS`, has `5 * n + 1` sections and `8 * n` routes. Proof
 /// only; no run-time effect.
-pub fn stations_are_counted(n: u32)
+pub fn stations_section_and_route_counts(n: u32)
     requires some { 1 ≤ n }
     requires few { n ≤ MAX_STATIONS }
     ensures sections { length (stations_net n).sections ≡ 5 * n + 1 }

@@ -1,14 +1,13 @@
 //! Generates configurations of known size and shape, for tests, measurements and demonstrations:
 //! lines of up to sixteen stations.
 //!
-//! `stations` writes the configuration of `n` stations as a text; `stations_plant` creates its
-//! plant without a text. `specs/Stations` and `specs/StationRoutes` define the line;
-//! `ilk_conf_write` writes its text.
+//! `stations` returns the configuration of `n` stations as a text; `stations_plant` creates its
+//! plant without a text. `specs/Stations` and `specs/StationRoutes` define the line.
 //!
-//! There are three theorems: `stations_are_read` (the text is read as exactly these drafts),
-//! `stations_break_no_rule` and `stations_are_counted`. They are proved by computation, since there
-//! are only sixteen such lines (`proofs/Computed..`). Only N7, that no walk returns, is proved by
-//! reasoning (`proofs/Upwards`).
+//! Three theorems state that the text is read as exactly these drafts, that the drafts violate no
+//! rule, and their numbers of sections and routes (`laws`). They are proved by computation, since
+//! there are only sixteen such lines (`proofs/Computed..`). Only N7, that no walk returns, is
+//! proved by reasoning (`proofs/Upwards`).
 #![tactic(auto)]
 
 mod laws;
@@ -17,5 +16,7 @@ mod names;
 mod routes;
 mod sections;
 
-pub use laws::{stations_are_counted, stations_are_read, stations_break_no_rule};
+pub use laws::{
+    stations_break_no_rule, stations_section_and_route_counts, stations_text_reads_as_drafts,
+};
 pub use making::{MAX_STATIONS, stations, stations_plant};

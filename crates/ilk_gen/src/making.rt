@@ -6,16 +6,16 @@ ghost use Rattle.ilk_gen.specs.Stations.{stations_net};
 
 use crate::routes::stations_table;
 use crate::sections::stations_net;
-use crate::{stations_are_counted, stations_break_no_rule};
+use crate::{stations_break_no_rule, stations_section_and_route_counts};
 use ilk_conf_write::{Version, configuration_json};
 use ilk_plant::Plant;
 use std::alloc::{AllocError, Global};
 
-/// The maximum number of stations in a line.
+/// The greatest number of stations in a generated line.
 pub const MAX_STATIONS: u32 = 16;
 
-/// Returns the configuration of a line of `n` stations, 1 to `MAX_STATIONS`, in version 1. It is
-/// JSON without spaces and without a final line feed. It has `5 * n + 1` sections and `8 * n`
+/// Returns the configuration text of a line of `n` stations, 1 to `MAX_STATIONS`, in version 1. It
+/// is JSON without spaces and without a final line feed, with `5 * n + 1` sections and `8 * n`
 /// routes. Fails only if memory runs out.
 pub fn stations(alloc: Global, n: u32) -> Result<Vec<u8>, AllocError>
     requires some { 1 ≤ n }
@@ -28,7 +28,7 @@ pub fn stations(alloc: Global, n: u32) -> Result<Vec<u8>, AllocError>
     configuration_json(alloc, Version::First, &net, &table)
 }
 
-/// Creates the plant of a line of `n` stations, 1 to `MAX_STATIONS`, as in the configuration from
+/// Creates the plant of a line of `n` stations, 1 to `MAX_STATIONS`: that of the text from
 /// `stations`. Fails only if memory runs out.
 pub fn stations_plant(alloc: Global, n: u32) -> Result<Plant, AllocError>
     requires some { 1 ≤ n }
@@ -41,6 +41,6 @@ pub fn stations_plant(alloc: Global, n: u32) -> Result<Plant, AllocError>
     let net = stations_net(alloc, n)?;
     let table = stations_table(alloc, n)?;
     stations_break_no_rule(n);
-    stations_are_counted(n);
+    stations_section_and_route_counts(n);
     Plant::make(alloc, &net, &table)
 }

@@ -13,14 +13,12 @@ pub(crate) fn line(alloc: Global, j: u32) -> Result<Text, AllocError>
     Ok(Text::of(format!(in alloc; "l{j}")?))
 }
 
-// Returns the name of the point at the down end of station `j`.
 pub(crate) fn down_point_name(alloc: Global, j: u32) -> Result<Text, AllocError>
     ensures { IfOk result (λ name. name ≡ stations.down_point_name j) }
 {
     Ok(Text::of(format!(in alloc; "p{j}")?))
 }
 
-// Returns the name of station `j`'s track on the legs at position `at`.
 pub(crate) fn track_name(alloc: Global, j: u32, at: Position) -> Result<Text, AllocError>
     ensures { IfOk result (λ name. name ≡ stations.track_name j at) }
 {
@@ -30,7 +28,6 @@ pub(crate) fn track_name(alloc: Global, j: u32, at: Position) -> Result<Text, Al
     }
 }
 
-// Returns the name of the point at the up end of station `j`.
 pub(crate) fn up_point_name(alloc: Global, j: u32) -> Result<Text, AllocError>
     ensures { IfOk result (λ name. name ≡ stations.up_point_name j) }
 {
@@ -51,7 +48,6 @@ pub(crate) fn down_board_name(alloc: Global, section: &Text) -> Result<Text, All
     Ok(Text::of(format!(in alloc; "{section}D")?))
 }
 
-// Returns the up board of line `j` of `n` stations. Returns `None` on the last line.
 pub(crate) fn line_up_board(alloc: Global, n: u32, j: u32) -> Result<Option<Text>, AllocError>
     ensures { IfOk result (λ name. name ≡ stations.line_up_board n j) }
 {
@@ -63,7 +59,6 @@ pub(crate) fn line_up_board(alloc: Global, n: u32, j: u32) -> Result<Option<Text
     }
 }
 
-// Returns the down board of line `j`. Returns `None` on line 0.
 pub(crate) fn line_down_board(alloc: Global, j: u32) -> Result<Option<Text>, AllocError>
     ensures { IfOk result (λ name. name ≡ stations.line_down_board j) }
 {
@@ -75,7 +70,6 @@ pub(crate) fn line_down_board(alloc: Global, j: u32) -> Result<Option<Text>, All
     }
 }
 
-// Returns the neighbour of line `j` on its down side. Returns `None` for line 0.
 pub(crate) fn point_below(alloc: Global, j: u32) -> Result<Option<Text>, AllocError>
     ensures { IfOk result (λ name. name ≡ stations.line_down_neighbour j) }
 {
@@ -86,8 +80,6 @@ pub(crate) fn point_below(alloc: Global, j: u32) -> Result<Option<Text>, AllocEr
     }
 }
 
-// Returns the neighbour of line `j` of `n` stations on its up side. Returns `None` for the last
-// line.
 pub(crate) fn point_above(alloc: Global, n: u32, j: u32) -> Result<Option<Text>, AllocError>
     ensures { IfOk result (λ name. name ≡ stations.line_up_neighbour n j) }
 {

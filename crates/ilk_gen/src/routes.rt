@@ -73,7 +73,6 @@ fn over_point(
     })
 }
 
-// Creates route `k` of station `j`, up into it by one track.
 fn up_into(
     alloc: Global,
     j: u32,
@@ -99,7 +98,6 @@ fn up_into(
     over_point(alloc, ends, &point, at, &track_name, conflicts)
 }
 
-// Creates route `k` of station `j` of `n`, up out of it by one track.
 fn up_out_of(
     alloc: Global,
     n: u32,
@@ -126,7 +124,6 @@ fn up_out_of(
     over_point(alloc, ends, &point, at, &above, conflicts)
 }
 
-// Creates route `k` of station `j`, down into it by one track.
 fn down_into(
     alloc: Global,
     j: u32,
@@ -151,7 +148,6 @@ fn down_into(
     over_point(alloc, ends, &point, at, &track_name, conflicts)
 }
 
-// Creates route `k` of station `j`, down out of it by one track.
 fn down_out_of(
     alloc: Global,
     j: u32,
@@ -200,7 +196,6 @@ fn names_of(alloc: Global, j: u32, own: &[u32]) -> Result<Row<Text>, AllocError>
     Ok(names)
 }
 
-// Returns the conflicts of a route up out of station `j` of `n`.
 fn names_up_out(alloc: Global, n: u32, j: u32, own: &[u32]) -> Result<Row<Text>, AllocError>
     ensures { IfOk result (λ names. names ≡ written.conflicts_up_out_of n j own.now) }
 {
@@ -211,7 +206,6 @@ fn names_up_out(alloc: Global, n: u32, j: u32, own: &[u32]) -> Result<Row<Text>,
     Ok(names)
 }
 
-// Returns the conflicts of a route down out of station `j`.
 fn names_down_out(alloc: Global, j: u32, own: &[u32]) -> Result<Row<Text>, AllocError>
     ensures { IfOk result (λ names. names ≡ written.conflicts_down_out_of j own.now) }
 {

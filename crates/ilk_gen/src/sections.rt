@@ -77,7 +77,6 @@ fn up_point_section(alloc: Global, j: u32) -> Result<SectionDraft, AllocError>
     Ok(SectionDraft { name, kind })
 }
 
-// Adds the sections of station `j` of `n`, and the line above it.
 fn push_station(
     alloc: Global,
     n: u32,
@@ -85,7 +84,7 @@ fn push_station(
     sections: &mut Row<SectionDraft>,
 ) -> Result<(), AllocError>
     requires { 1 ≤ j }
-    ensures { OnOk result (sections.new ≡ sections.old ++ stations.station_sections n j) }
+    ensures { OnOk result (sections.new ≡ sections.old ++ stations.station_and_line_sections n j) }
 {
     sections.push(down_point_section(alloc, j)?)?;
     sections.push(track_section(alloc, j, Position::Plus)?)?;

@@ -20,8 +20,8 @@ use Rattle.ilk_certificate.specs.CertificateText.{total_conflicts}
 use Rattle.ilk_induct.specs.declared.verdict.Verdict.TheVariants.{Unsafe, Breach}
 use Rattle.ilk_unroll.specs.Evidence.{HasRun}
 use Rattle.ilk_induct.specs.Right.{IsRunOfQuery, IsRightSystemVerdict}
-use Rattle.ilk_induct.specs.Spent.{IsLogOf}
-use Rattle.ilk_induct.specs.Due.{query_with_log, queries_up_to_query, after_breach_and_no_hazard, IsKnown, IsFoundBreach, IsNextInQueryOrder, IsEnd, IsValidContinuation}
+use Rattle.ilk_induct.specs.Spent.{LogStepsDerivedAndFresh}
+use Rattle.ilk_induct.specs.Due.{query_with_log, queries_to_query_given_breach, next_hazard_query_or_breach, NoHazardBreachInductionBelow, IsFoundBreachWithoutShorter, QueryFollowsAskedInOrder, IsFinalVerdictAfterAsked, IsValidContinuation}
 use Rattle.ilk_unroll.proofs.QueryDemands.{wanted-parts}
 use Rattle.ilk_induct.proofs.Orders.{to-hazard-after, all-to-hazard, more-queries, more-conflicts, asked-to, go-on, found-order, found-to, go-on-found}
 
@@ -41,9 +41,9 @@ few total rest conflicts h = omega (arith, h)
 pub endangered :
     (s : PlainSystem) (g : PlainGoal) (depth conflicts : ℕ) (breach : Option ℕ) (n : ℕ) (t : Trace)
     (log : List LogStep) (asked : List Asked) (left rest : ℕ) →
-    IsNextInQueryOrder s g depth conflicts breach (Hazard n) asked left → ((m : ℕ) → m < n → ¬ HasRun s g (Hazard m)) →
-    IsLogOf s g (query_with_log (Hazard n) log) → count_learned_clauses log + rest ≡ left → IsRunOfQuery s g (Hazard n) t →
-    IsEnd s g depth conflicts (Unsafe t) (asked ++ query_with_log (Hazard n) log ∷ [])
+    QueryFollowsAskedInOrder s g depth conflicts breach (Hazard n) asked left → ((m : ℕ) → m < n → ¬ HasRun s g (Hazard m)) →
+    LogStepsDerivedAndFresh s g (query_with_log (Hazard n) log) → count_learned_clauses log + rest ≡ left → IsRunOfQuery s g (Hazard n) t →
+    IsFinalVerdictAfterAsked s g depth conflicts (Unsafe t) (asked ++ query_with_log (Hazard n) log ∷ [])
 endangered s g depth conflicts breach n t log asked left rest d none logged count run =
     let a = query_with_log (Hazard n) log in
     let e : length t.rules ≡ n = steps-of s g (Hazard n) t run in
@@ -56,17 +56,18 @@ endangered s g depth conflicts breach n t log asked left rest d none logged coun
       few = few (total_conflicts (asked ++ a ∷ [])) rest conflicts (more-conflicts asked a left rest conflicts d.counted count);
     }
 
-breach-end : (s : PlainSystem) (g : PlainGoal) (depth : ℕ) (t : Trace) → length t.rules ≤ depth → IsKnown s g (depth + 1) (length t.rules) 0 → IsRunOfQuery s g (BreachQuery (length t.rules)) t → IsRightSystemVerdict s g depth (Breach t)
+breach-end : (s : PlainSystem) (g : PlainGoal) (depth : ℕ) (t : Trace) → length t.rules ≤ depth → NoHazardBreachInductionBelow s g (depth + 1) (length t.rules) 0 → IsRunOfQuery s g (BreachQuery (length t.rules)) t →
+    IsRightSystemVerdict s g depth (Breach t)
 breach-end s g depth t within known run =
     (record { no_hazard = λ m le. known.no_hazard m (omega arith); breach = record { within = within; so = (t.first, t.rules, run); least = known.no_breach } }, run)
 
 pub after-broken :
     (s : PlainSystem) (g : PlainGoal) (depth conflicts n : ℕ) (t : Trace) (log : List LogStep)
     (asked : List Asked) (left rest : ℕ) → depth ≤ 16 →
-    IsNextInQueryOrder s g depth conflicts (Some (length t.rules)) (Hazard n) asked left → IsFoundBreach s g n t →
-    IsLogOf s g (query_with_log (Hazard n) log) → count_learned_clauses log + rest ≡ left → IsRefuted s g (Hazard n) log →
+    QueryFollowsAskedInOrder s g depth conflicts (Some (length t.rules)) (Hazard n) asked left → IsFoundBreachWithoutShorter s g n t →
+    LogStepsDerivedAndFresh s g (query_with_log (Hazard n) log) → count_learned_clauses log + rest ≡ left → IsRefuted s g (Hazard n) log →
     ¬ HasRun s g (Hazard n) →
-    IsValidContinuation s g depth conflicts (3 * (depth - n) + 2) (after_breach_and_no_hazard depth n t)
+    IsValidContinuation s g depth conflicts (3 * (depth - n) + 2) (next_hazard_query_or_breach depth n t)
     (asked ++ query_with_log (Hazard n) log ∷ []) rest
 after-broken s g depth conflicts n t log asked left rest low d found logged count refuted none = by_case (nat_lt n depth) refl
   where
@@ -94,7 +95,7 @@ after-broken s g depth conflicts n t log asked left rest low d found logged coun
           right = inl (breach-end s g depth t (omega arith) (record { no_hazard = λ m less. no_hazard m (omega arith); no_breach = found.known.no_breach; runs = found.known.runs }) found.run);
           lasts = tt;
           queries = record {
-            all = more-queries asked a (queries_up_to_query (Some (length t.rules)) (Hazard n)) d.order
+            all = more-queries asked a (queries_to_query_given_breach (Some (length t.rules)) (Hazard n)) d.order
                 ∙ all-to-hazard (length t.rules) depth (Hazard n) same;
             ends = (
               a,
@@ -108,12 +109,12 @@ after-broken s g depth conflicts n t log asked left rest low d found logged coun
 broke-at :
     (s : PlainSystem) (g : PlainGoal) (depth conflicts : ℕ) (t : Trace) (log : List LogStep)
     (asked : List Asked) (left rest : ℕ) → depth ≤ 16 →
-    IsNextInQueryOrder s g depth conflicts None (BreachQuery (length t.rules)) asked left →
-    IsKnown s g (length t.rules + 1) (length t.rules) (length t.rules) →
-    IsLogOf s g (query_with_log (BreachQuery (length t.rules)) log) → count_learned_clauses log + rest ≡ left →
+    QueryFollowsAskedInOrder s g depth conflicts None (BreachQuery (length t.rules)) asked left →
+    NoHazardBreachInductionBelow s g (length t.rules + 1) (length t.rules) (length t.rules) →
+    LogStepsDerivedAndFresh s g (query_with_log (BreachQuery (length t.rules)) log) → count_learned_clauses log + rest ≡ left →
     IsRunOfQuery s g (BreachQuery (length t.rules)) t →
     IsSatisfiable (query_formula s g (BreachQuery (length t.rules))) →
-    IsValidContinuation s g depth conflicts (3 * (depth - length t.rules) + 1) (after_breach_and_no_hazard depth (length t.rules) t)
+    IsValidContinuation s g depth conflicts (3 * (depth - length t.rules) + 1) (next_hazard_query_or_breach depth (length t.rules) t)
     (asked ++ query_with_log (BreachQuery (length t.rules)) log ∷ []) rest
 broke-at s g depth conflicts t log asked left rest low d known logged count run has = by_case (nat_lt (length t.rules) depth) refl
   where
@@ -152,16 +153,16 @@ broke-at s g depth conflicts t log asked left rest low d known logged count run 
 pub broke :
     (s : PlainSystem) (g : PlainGoal) (depth conflicts n : ℕ) (t : Trace) (log : List LogStep)
     (asked : List Asked) (left rest : ℕ) → depth ≤ 16 →
-    length t.rules ≡ n → IsNextInQueryOrder s g depth conflicts None (BreachQuery n) asked left →
-    IsKnown s g (n + 1) n n → IsLogOf s g (query_with_log (BreachQuery n) log) → count_learned_clauses log + rest ≡ left →
+    length t.rules ≡ n → QueryFollowsAskedInOrder s g depth conflicts None (BreachQuery n) asked left →
+    NoHazardBreachInductionBelow s g (n + 1) n n → LogStepsDerivedAndFresh s g (query_with_log (BreachQuery n) log) → count_learned_clauses log + rest ≡ left →
     IsRunOfQuery s g (BreachQuery n) t → IsSatisfiable (query_formula s g (BreachQuery n)) →
-    IsValidContinuation s g depth conflicts (3 * (depth - n) + 1) (after_breach_and_no_hazard depth n t)
+    IsValidContinuation s g depth conflicts (3 * (depth - n) + 1) (next_hazard_query_or_breach depth n t)
     (asked ++ query_with_log (BreachQuery n) log ∷ []) rest
 broke s g depth conflicts n t log asked left rest low size =
     subst
-    (λ (k : ℕ). IsNextInQueryOrder s g depth conflicts None (BreachQuery k) asked left → IsKnown s g (k + 1) k k →
-    IsLogOf s g (query_with_log (BreachQuery k) log) → count_learned_clauses log + rest ≡ left →
+    (λ (k : ℕ). QueryFollowsAskedInOrder s g depth conflicts None (BreachQuery k) asked left → NoHazardBreachInductionBelow s g (k + 1) k k →
+    LogStepsDerivedAndFresh s g (query_with_log (BreachQuery k) log) → count_learned_clauses log + rest ≡ left →
     IsRunOfQuery s g (BreachQuery k) t → IsSatisfiable (query_formula s g (BreachQuery k)) →
-    IsValidContinuation s g depth conflicts (3 * (depth - k) + 1) (after_breach_and_no_hazard depth k t)
+    IsValidContinuation s g depth conflicts (3 * (depth - k) + 1) (next_hazard_query_or_breach depth k t)
     (asked ++ query_with_log (BreachQuery k) log ∷ []) rest) size
     (broke-at s g depth conflicts t log asked left rest low)

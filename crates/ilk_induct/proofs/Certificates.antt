@@ -13,14 +13,14 @@ use Rattle.ilk_log.specs.Propagation.{after_hint}
 use Rattle.ilk_unroll.specs.Goal.{PlainGoal}
 use Rattle.ilk_unroll.specs.Query.{query_formula}
 use Rattle.ilk_certificate.specs.declared.asked.Asked.{Asked}
-use Rattle.ilk_certificate.specs.Certificate.{IsCertificate}
+use Rattle.ilk_certificate.specs.Certificate.{IsCertificateText}
 use Rattle.ilk_certificate.specs.CertificateText.{total_conflicts, has_no_hint_zero, have_no_hint_zero, safe_text, spent_text}
-use Rattle.ilk_certificate.specs.Kept.{drop_early_step_queries}
+use Rattle.ilk_certificate.specs.Kept.{drop_nonfinal_step_queries}
 use Rattle.ilk_induct.specs.declared.verdict.Verdict.{Verdict}
 use Rattle.ilk_induct.specs.declared.verdict.Verdict.TheVariants.{Safe, Unsafe, Breach, NotInductive, Spent}
-use Rattle.ilk_induct.specs.Spent.{IsLogOf, IsSpentText}
+use Rattle.ilk_induct.specs.Spent.{LogStepsDerivedAndFresh, IsSpentText}
 use Rattle.ilk_induct.specs.Asked.{AreQueriesOfVerdict}
-use Rattle.ilk_induct.specs.Certified.{AreCertifyingQueries}
+use Rattle.ilk_induct.specs.Certified.{AreRefutedCertificateQueries}
 use Rattle.ilk_induct.proofs.Certified.{certifies}
 
 from-one : (h : ℕ) → nat_lt 0 (suc h) ≡ true
@@ -49,12 +49,12 @@ derived-count n clauses (s ∷ steps) e =
     let hints : has_no_hint_zero s ≡ true = ends-count clauses (negated_clause s.clause) s.hints here.1 in
     rw hints (derived-count n (clauses ++ s.clause ∷ []) steps parts.1)
 
-logs-count : (s : PlainSystem) (g : PlainGoal) (asked : List Asked) → All (IsLogOf s g) asked → IsTrue (have_no_hint_zero asked)
+logs-count : (s : PlainSystem) (g : PlainGoal) (asked : List Asked) → All (LogStepsDerivedAndFresh s g) asked → IsTrue (have_no_hint_zero asked)
 logs-count s g [] logs = refl
 logs-count s g (a ∷ asked) logs =
-    let one : IsLogOf s g a = All-head (IsLogOf s g) a asked logs in
+    let one : LogStepsDerivedAndFresh s g a = All-head (LogStepsDerivedAndFresh s g) a asked logs in
     let here : list_all has_no_hint_zero a.log ≡ true = derived-count (query_formula s g a.query).vars (query_formula s g a.query).clauses a.log one.derived in
-    rw here (logs-count s g asked (All-tail (IsLogOf s g) a asked logs))
+    rw here (logs-count s g asked (All-tail (LogStepsDerivedAndFresh s g) a asked logs))
 
 pub hints_count : (s : PlainSystem) (g : PlainGoal) (depth conflicts : ℕ) (verdict : Verdict) (asked : List Asked) → AreQueriesOfVerdict s g depth conflicts verdict asked → IsTrue (have_no_hint_zero asked)
 hints_count s g depth conflicts (Unsafe t) asked h = logs-count s g asked h.1.1.logs
@@ -63,12 +63,13 @@ hints_count s g depth conflicts (Safe k) asked h = logs-count s g asked h.1.ends
 hints_count s g depth conflicts (NotInductive t) asked h = logs-count s g asked h.ends.1.logs
 hints_count s g depth conflicts Spent asked h = logs-count s g asked h.0.1.1.logs
 
-pub safe_certifies : (s : PlainSystem) (g : PlainGoal) (depth conflicts k : ℕ) (asked : List Asked) → depth ≤ 16 → 0 < k → AreQueriesOfVerdict s g depth conflicts (Safe k) asked → IsCertificate s g k (safe_text k (drop_early_step_queries asked))
+pub safe_certifies : (s : PlainSystem) (g : PlainGoal) (depth conflicts k : ℕ) (asked : List Asked) → depth ≤ 16 → 0 < k → AreQueriesOfVerdict s g depth conflicts (Safe k) asked → IsCertificateText s g k (safe_text k
+    (drop_nonfinal_step_queries asked))
 safe_certifies s g depth conflicts k asked deep some h =
-    let all : AreCertifyingQueries s g k asked = certifies s g depth conflicts (Safe k) asked h in
+    let all : AreRefutedCertificateQueries s g k asked = certifies s g depth conflicts (Safe k) asked h in
     let within = h.0 in
     record {
-      asked = drop_early_step_queries asked;
+      asked = drop_nonfinal_step_queries asked;
       some = some;
       most = omega (arith, deep, within);
       queries = all.queries;

@@ -5,7 +5,7 @@ use Rattle.std.proofs.lemmas.Bool.{and_from, and_parts, lt-ltb, ltb-true}
 use Rattle.std.proofs.lemmas.Bool.Decides.{nat_tests}
 use Rattle.std.proofs.lemmas.List.Elements.{All-nil}
 use Rattle.ilk_ir.specs.System.{PlainSystem, rule_valid, system_valid}
-use Rattle.ilk_solver.specs.Answered.{IsSearchLog}
+use Rattle.ilk_solver.specs.Answered.{IsEmpoweringLogWithinBudget}
 use Rattle.ilk_unroll.specs.Query.{query_formula}
 use Rattle.ilk_unroll.specs.Satisfied.{IsSatisfiable}
 use Rattle.ilk_log.specs.declared.step.Step.{Step as LogStep}
@@ -26,8 +26,8 @@ use Rattle.ilk_certificate.specs.CertificateText.{total_conflicts}
 use Rattle.ilk_induct.specs.declared.verdict.Verdict.TheVariants.{Safe, NotInductive, Spent}
 use Rattle.ilk_unroll.specs.Evidence.{HasRun}
 use Rattle.ilk_induct.specs.Right.{IsRunOfQuery}
-use Rattle.ilk_induct.specs.Spent.{IsLogOf, AskedAllowsNextQuery}
-use Rattle.ilk_induct.specs.Due.{query_with_log, IsResponse, due_query, breach_length, after_response, IsKnown, IsNextInQueryOrder, IsDue, IsEnd, IsValidContinuation, max_queries_left}
+use Rattle.ilk_induct.specs.Spent.{LogStepsDerivedAndFresh, AskedAnswerAllowsNext}
+use Rattle.ilk_induct.specs.Due.{query_with_log, IsResponse, due_query, breach_length, query_or_verdict_after_response, NoHazardBreachInductionBelow, QueryFollowsAskedInOrder, IsDueAfterAskedQueries, IsFinalVerdictAfterAsked, IsValidContinuation, max_queries_left}
 use Rattle.ilk_unroll.proofs.Induction.{forever}
 use Rattle.ilk_induct.proofs.Orders.{to-breach, to-step, to-hazard, more-conflicts, asked-to, asked-all, go-on, all-conflicts}
 use Rattle.ilk_induct.proofs.Breaches.{after-broken, below-more, broke, endangered, few, hazard-valid, steps-of}
@@ -38,8 +38,8 @@ some-step n h = ltb-true 0 n (and_parts _ _ h).0
 left-invariant :
     (s : PlainSystem) (g : PlainGoal) (depth conflicts n : ℕ) (t : Trace) (log : List LogStep)
     (asked : List Asked) (left rest : ℕ) → depth ≤ 16 →
-    IsNextInQueryOrder s g depth conflicts None (Step n) asked left → IsKnown s g (n + 1) (n + 1) n →
-    IsLogOf s g (query_with_log (Step n) log) → count_learned_clauses log + rest ≡ left → IsRunOfQuery s g (Step n) t →
+    QueryFollowsAskedInOrder s g depth conflicts None (Step n) asked left → NoHazardBreachInductionBelow s g (n + 1) (n + 1) n →
+    LogStepsDerivedAndFresh s g (query_with_log (Step n) log) → count_learned_clauses log + rest ≡ left → IsRunOfQuery s g (Step n) t →
     IsSatisfiable (query_formula s g (Step n)) →
     IsValidContinuation s g depth conflicts (3 * (depth - n))
     (cond (nat_lt n depth) (Ask (Unbroken (Hazard (n + 1)))) (End (NotInductive t)))
@@ -77,17 +77,17 @@ left-invariant s g depth conflicts n t log asked left rest low d known logged co
             subst (λ (k : ℕ). IsRunOfQuery s g (Step k) t) same run,
           );
           lasts = tt;
-          queries = asked-all s g depth conflicts depth a asked left (AskedAllowsNextQuery s g None) d logged (ap Step same) sat;
+          queries = asked-all s g depth conflicts depth a asked left (AskedAnswerAllowsNext s g None) d logged (ap Step same) sat;
           few = few (total_conflicts (asked ++ a ∷ [])) rest conflicts (more-conflicts asked a left rest conflicts d.counted count);
         }
 
 carried :
     (s : PlainSystem) (g : PlainGoal) (depth conflicts n : ℕ) (log : List LogStep) (asked : List Asked)
     (left rest : ℕ) →
-    list_all (rule_valid s.ranges) s.rules ≡ true → IsNextInQueryOrder s g depth conflicts None (Step n) asked left →
-    IsKnown s g (n + 1) (n + 1) n → IsLogOf s g (query_with_log (Step n) log) → count_learned_clauses log + rest ≡ left →
+    list_all (rule_valid s.ranges) s.rules ≡ true → QueryFollowsAskedInOrder s g depth conflicts None (Step n) asked left →
+    NoHazardBreachInductionBelow s g (n + 1) (n + 1) n → LogStepsDerivedAndFresh s g (query_with_log (Step n) log) → count_learned_clauses log + rest ≡ left →
     IsRefuted s g (Step n) log → ¬ HasRun s g (Step n) →
-    IsEnd s g depth conflicts (Safe n) (asked ++ query_with_log (Step n) log ∷ [])
+    IsFinalVerdictAfterAsked s g depth conflicts (Safe n) (asked ++ query_with_log (Step n) log ∷ [])
 carried s g depth conflicts n log asked left rest rules d known logged count refuted none =
     let a = query_with_log (Step n) log in
     let ever = forever s g n rules (λ m le. known.no_hazard m (omega (arith, le))) (λ m le. known.no_breach m (omega (arith, le))) none in
@@ -105,9 +105,9 @@ carried s g depth conflicts n log asked left rest rules d known logged count ref
 given-up :
     (s : PlainSystem) (g : PlainGoal) (depth conflicts : ℕ) (due : DueQuery) (log : List LogStep)
     (asked : List Asked) (left rest : ℕ) →
-    IsDue s g depth conflicts due asked left → IsLogOf s g (query_with_log (due_query due) log) →
+    IsDueAfterAskedQueries s g depth conflicts due asked left → LogStepsDerivedAndFresh s g (query_with_log (due_query due) log) →
     count_learned_clauses log + rest ≡ left → IsResponse s g (due_query due) left GivenUp log →
-    IsEnd s g depth conflicts Spent (asked ++ query_with_log (due_query due) log ∷ [])
+    IsFinalVerdictAfterAsked s g depth conflicts Spent (asked ++ query_with_log (due_query due) log ∷ [])
 given-up s g depth conflicts due log asked left rest d logged count spent =
     let a = query_with_log (due_query due) log in
     let total = more-conflicts asked a left rest conflicts d.in_order.counted count in
@@ -123,10 +123,10 @@ given-up s g depth conflicts due log asked left rest d logged count spent =
 no-hazard :
     (s : PlainSystem) (g : PlainGoal) (depth conflicts n : ℕ) (log : List LogStep) (asked : List Asked)
     (left rest : ℕ) →
-    IsNextInQueryOrder s g depth conflicts None (Hazard n) asked left → IsKnown s g n n n →
-    IsLogOf s g (query_with_log (Hazard n) log) → count_learned_clauses log + rest ≡ left → IsRefuted s g (Hazard n) log →
+    QueryFollowsAskedInOrder s g depth conflicts None (Hazard n) asked left → NoHazardBreachInductionBelow s g n n n →
+    LogStepsDerivedAndFresh s g (query_with_log (Hazard n) log) → count_learned_clauses log + rest ≡ left → IsRefuted s g (Hazard n) log →
     ¬ HasRun s g (Hazard n) →
-    IsDue s g depth conflicts (Unbroken (BreachQuery n)) (asked ++ query_with_log (Hazard n) log ∷ []) rest
+    IsDueAfterAskedQueries s g depth conflicts (Unbroken (BreachQuery n)) (asked ++ query_with_log (Hazard n) log ∷ []) rest
 no-hazard s g depth conflicts n log asked left rest d known logged count refuted none =
     record {
       in_order = go-on s g depth conflicts None (query_with_log (Hazard n) log) (BreachQuery n) asked left rest d logged refuted count (to-breach n) d.valid d.within;
@@ -136,11 +136,11 @@ no-hazard s g depth conflicts n log asked left rest d known logged count refuted
 no-breach :
     (s : PlainSystem) (g : PlainGoal) (depth conflicts n : ℕ) (log : List LogStep) (asked : List Asked)
     (left rest : ℕ) →
-    IsNextInQueryOrder s g depth conflicts None (BreachQuery (suc n)) asked left →
-    IsKnown s g (suc n + 1) (suc n) (suc n) → IsLogOf s g (query_with_log (BreachQuery (suc n)) log) →
+    QueryFollowsAskedInOrder s g depth conflicts None (BreachQuery (suc n)) asked left →
+    NoHazardBreachInductionBelow s g (suc n + 1) (suc n) (suc n) → LogStepsDerivedAndFresh s g (query_with_log (BreachQuery (suc n)) log) →
     count_learned_clauses log + rest ≡ left → IsRefuted s g (BreachQuery (suc n)) log →
     ¬ HasRun s g (BreachQuery (suc n)) →
-    IsDue s g depth conflicts (Unbroken (Step (suc n))) (asked ++ query_with_log (BreachQuery (suc n)) log ∷ [])
+    IsDueAfterAskedQueries s g depth conflicts (Unbroken (Step (suc n))) (asked ++ query_with_log (BreachQuery (suc n)) log ∷ [])
     rest
 no-breach s g depth conflicts n log asked left rest d known logged count refuted none =
     record {
@@ -154,10 +154,10 @@ no-breach s g depth conflicts n log asked left rest d known logged count refuted
 no-breach-at-start :
     (s : PlainSystem) (g : PlainGoal) (depth conflicts : ℕ) (log : List LogStep) (asked : List Asked)
     (left rest : ℕ) → 0 < depth →
-    IsNextInQueryOrder s g depth conflicts None (BreachQuery 0) asked left → IsKnown s g 1 0 0 →
-    IsLogOf s g (query_with_log (BreachQuery 0) log) → count_learned_clauses log + rest ≡ left →
+    QueryFollowsAskedInOrder s g depth conflicts None (BreachQuery 0) asked left → NoHazardBreachInductionBelow s g 1 0 0 →
+    LogStepsDerivedAndFresh s g (query_with_log (BreachQuery 0) log) → count_learned_clauses log + rest ≡ left →
     IsRefuted s g (BreachQuery 0) log → ¬ HasRun s g (BreachQuery 0) →
-    IsDue s g depth conflicts (Unbroken (Hazard 1)) (asked ++ query_with_log (BreachQuery 0) log ∷ []) rest
+    IsDueAfterAskedQueries s g depth conflicts (Unbroken (Hazard 1)) (asked ++ query_with_log (BreachQuery 0) log ∷ []) rest
 no-breach-at-start s g depth conflicts log asked left rest deep d known logged count refuted none =
     record {
       in_order = go-on s g depth conflicts None (query_with_log (BreachQuery 0) log) (Hazard 1) asked left rest d logged (inl refuted) count refl refl (omega (arith, deep));
@@ -168,9 +168,9 @@ pub follows :
     (s : PlainSystem) (g : PlainGoal) (depth conflicts : ℕ) (due : DueQuery) (response : Response)
     (log : List LogStep) (asked : List Asked) (left rest : ℕ) →
     list_all (rule_valid s.ranges) s.rules ≡ true → 0 < depth → depth ≤ 16 →
-    IsDue s g depth conflicts due asked left → IsLogOf s g (query_with_log (due_query due) log) →
+    IsDueAfterAskedQueries s g depth conflicts due asked left → LogStepsDerivedAndFresh s g (query_with_log (due_query due) log) →
     count_learned_clauses log + rest ≡ left → IsResponse s g (due_query due) left response log →
-    IsValidContinuation s g depth conflicts (max_queries_left depth due) (after_response depth due response)
+    IsValidContinuation s g depth conflicts (max_queries_left depth due) (query_or_verdict_after_response depth due response)
     (asked ++ query_with_log (due_query due) log ∷ []) rest
 follows s g depth conflicts (Unbroken (Hazard n)) (Run t) log asked left rest rules deep low d logged count r = endangered s g depth conflicts None n t log asked left rest d.in_order d.known.no_hazard logged count r.0
 follows s g depth conflicts (Unbroken (BreachQuery n)) (Run t) log asked left rest rules deep low d logged count r = broke s g depth conflicts n t log asked left rest low (steps-of s g (BreachQuery n) t r.0) d.in_order d.known logged count r.0 r.1
@@ -183,25 +183,24 @@ follows s g depth conflicts (Unbroken (Step n)) Refuted log asked left rest rule
 follows s g depth conflicts (Broken n t) Refuted log asked left rest rules deep low d logged count r = after-broken s g depth conflicts n t log asked left rest low d.in_order d.known logged count r.0 r.1
 follows s g depth conflicts due GivenUp log asked left rest rules deep low d logged count r = given-up s g depth conflicts due log asked left rest d logged count r
 
-pub first-due : (s : PlainSystem) (g : PlainGoal) (depth conflicts : ℕ) → IsDue s g depth conflicts (Unbroken (Hazard 0)) [] conflicts
+pub first-due : (s : PlainSystem) (g : PlainGoal) (depth conflicts : ℕ) → IsDueAfterAskedQueries s g depth conflicts (Unbroken (Hazard 0)) [] conflicts
 first-due s g depth conflicts =
     record {
-      in_order = record { order = refl; valid = refl; within = omega arith; found = tt; passed = All-nil (AskedAllowsNextQuery s g None); logs = All-nil (IsLogOf s g); counted = omega arith };
+      in_order = record { order = refl; valid = refl; within = omega arith; found = tt; passed = All-nil (AskedAnswerAllowsNext s g None); logs = All-nil (LogStepsDerivedAndFresh s g); counted = omega arith };
       known = record { no_hazard = λ m less. absurd (omega (arith, less)); no_breach = λ m less. absurd (omega (arith, less)); runs = λ m pos less. absurd (omega (arith, less)) };
     }
 
--- One round: a query is asked, its conflicts are counted, and the continuation is found.
 pub turned :
     (s : PlainSystem) (g : PlainGoal) (depth conflicts : ℕ) (due : DueQuery) (q : Wanted) (response : Response)
     (log : List LogStep) (asked new : List Asked) (left count rest : ℕ) (next : Next) →
-    system_valid s ≡ true → 0 < depth → depth ≤ 16 → IsDue s g depth conflicts due asked left →
-    q ≡ due_query due → IsSearchLog (query_formula s g q) left log → IsResponse s g q left response log →
+    system_valid s ≡ true → 0 < depth → depth ≤ 16 → IsDueAfterAskedQueries s g depth conflicts due asked left →
+    q ≡ due_query due → IsEmpoweringLogWithinBudget (query_formula s g q) left log → IsResponse s g q left response log →
     count ≡ count_learned_clauses log → rest ≡ left - count → new ≡ asked ++ query_with_log q log ∷ [] →
-    next ≡ after_response depth due response → IsValidContinuation s g depth conflicts (max_queries_left depth due) next new rest
+    next ≡ query_or_verdict_after_response depth due response → IsValidContinuation s g depth conflicts (max_queries_left depth due) next new rest
 turned s g depth conflicts due q response log asked new left count rest next valid deep low d same is_log says counted rested grown is_next =
-    let good = subst (λ (u : Wanted). IsSearchLog (query_formula s g u) left log) same is_log in
+    let good = subst (λ (u : Wanted). IsEmpoweringLogWithinBudget (query_formula s g u) left log) same is_log in
     let said = subst (λ (u : Wanted). IsResponse s g u left response log) same says in
-    let logged : IsLogOf s g (query_with_log (due_query due) log) = record { derived = good.derived; fresh = good.fresh } in
+    let logged : LogStepsDerivedAndFresh s g (query_with_log (due_query due) log) = record { derived = good.derived; fresh = good.fresh } in
     let most = good.few in
     let sum : count_learned_clauses log + rest ≡ left = omega (arith, most, counted, rested) in
     let main = follows s g depth conflicts due response log asked left rest (and_parts _ _ valid).1 deep low d logged sum said in

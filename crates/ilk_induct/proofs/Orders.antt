@@ -18,27 +18,27 @@ use Rattle.ilk_unroll.specs.Query.{query_formula}
 use Rattle.ilk_unroll.specs.Satisfied.{IsSatisfiable}
 use Rattle.ilk_certificate.specs.declared.asked.Asked.{Asked}
 use Rattle.ilk_certificate.specs.CertificateText.{total_conflicts}
-use Rattle.ilk_induct.specs.Order.{queries_of_length, queries_below, queries_up_to_depth, IsPrefix}
-use Rattle.ilk_induct.specs.Spent.{IsLogOf, AllowsNextQuery, AskedAllowsNextQuery, IsAskedPrefix}
-use Rattle.ilk_induct.specs.Asked.{AreAllQueriesToDepth}
-use Rattle.ilk_induct.specs.Due.{query_with_log, queries_up_to_query, IsNextInQueryOrder}
+use Rattle.ilk_induct.specs.Order.{queries_of_length, queries_below, queries_to_depth_given_breach, IsPrefix}
+use Rattle.ilk_induct.specs.Spent.{LogStepsDerivedAndFresh, QueryAnswerAllowsNext, AskedAnswerAllowsNext, AskedPrefixPassedExceptLast}
+use Rattle.ilk_induct.specs.Asked.{AllAskedAndLastMeets}
+use Rattle.ilk_induct.specs.Due.{query_with_log, queries_to_query_given_breach, QueryFollowsAskedInOrder}
 
-pub to-breach : (n : ℕ) → queries_up_to_query None (Hazard n) ++ BreachQuery n ∷ [] ≡ queries_up_to_query None (BreachQuery n)
+pub to-breach : (n : ℕ) → queries_to_query_given_breach None (Hazard n) ++ BreachQuery n ∷ [] ≡ queries_to_query_given_breach None (BreachQuery n)
 to-breach n = append_assoc (queries_below n) (Hazard n ∷ []) (BreachQuery n ∷ [])
 
-pub to-step : (n : ℕ) → queries_up_to_query None (BreachQuery n) ++ Step n ∷ [] ≡ queries_up_to_query None (Step n)
+pub to-step : (n : ℕ) → queries_to_query_given_breach None (BreachQuery n) ++ Step n ∷ [] ≡ queries_to_query_given_breach None (Step n)
 to-step n = append_assoc (queries_below n) (Hazard n ∷ BreachQuery n ∷ []) (Step n ∷ [])
 
-pub to-hazard : (n : ℕ) → 0 < n → queries_up_to_query None (Step n) ++ Hazard (n + 1) ∷ [] ≡ queries_up_to_query None (Hazard (n + 1))
+pub to-hazard : (n : ℕ) → 0 < n → queries_to_query_given_breach None (Step n) ++ Hazard (n + 1) ∷ [] ≡ queries_to_query_given_breach None (Hazard (n + 1))
 to-hazard zero pos = absurd (omega arith)
 to-hazard (suc n) pos = ap (λ (qs : List Wanted). qs ++ Hazard (suc n + 1) ∷ []) (sym (listed_all-more queries_of_length (suc n)))
 
-pub to-found : (n : ℕ) → queries_up_to_query None (BreachQuery n) ≡ queries_up_to_query (Some n) (BreachQuery n)
+pub to-found : (n : ℕ) → queries_to_query_given_breach None (BreachQuery n) ≡ queries_to_query_given_breach (Some n) (BreachQuery n)
 to-found n =
     let none : n - n ≡ 0 = omega arith in
     sym (append-nil (queries_below n ++ Hazard n ∷ BreachQuery n ∷ [])) ∙ ap (λ (k : ℕ). (queries_below n ++ Hazard n ∷ BreachQuery n ∷ []) ++ map Hazard (range_with_len (n + 1) k)) (sym none)
 
-pub to-hazard-after : (b n : ℕ) (q : Wanted) → step_count q ≡ n → b ≤ n → queries_up_to_query (Some b) q ++ Hazard (n + 1) ∷ [] ≡ queries_up_to_query (Some b) (Hazard (n + 1))
+pub to-hazard-after : (b n : ℕ) (q : Wanted) → step_count q ≡ n → b ≤ n → queries_to_query_given_breach (Some b) q ++ Hazard (n + 1) ∷ [] ≡ queries_to_query_given_breach (Some b) (Hazard (n + 1))
 to-hazard-after b n q e le =
     let front = queries_below b ++ Hazard b ∷ BreachQuery b ∷ [] in
     let more : (n + 1) - b ≡ suc (n - b) = omega arith in
@@ -70,7 +70,6 @@ prefix-up L up i (suc k) =
 queries_below-up : (n : ℕ) → IsPrefix (queries_below n) (queries_below (n + 1))
 queries_below-up n = (queries_of_length n, sym (listed_all-more queries_of_length n))
 
--- The `n` hazard queries after a breach of `b` steps.
 abbrev hazards : ℕ → ℕ → List Wanted
 hazards b n = map Hazard (range_with_len (b + 1) n)
 
@@ -83,7 +82,7 @@ hazards-up b n =
           ∙ map-append Hazard (range_with_len (b + 1) n) (((b + 1) + n) ∷ [])),
     )
 
-to-queries_of_length : (q : Wanted) → step_count_is_allowed q ≡ true → IsPrefix (queries_up_to_query None q) (queries_below (step_count q + 1))
+to-queries_of_length : (q : Wanted) → step_count_is_allowed q ≡ true → IsPrefix (queries_to_query_given_breach None q) (queries_below (step_count q + 1))
 to-queries_of_length (Hazard zero) valid = (BreachQuery 0 ∷ [], refl)
 to-queries_of_length (Hazard (suc n)) valid =
     (BreachQuery (suc n) ∷ Step (suc n) ∷ [], append_assoc (queries_below (suc n)) (Hazard (suc n) ∷ []) (BreachQuery (suc n) ∷ Step (suc n) ∷ []) ∙ sym (listed_all-more queries_of_length (suc n)))
@@ -95,20 +94,20 @@ to-queries_of_length (Step (suc n)) valid =
     let all = queries_below (suc n) ++ queries_of_length (suc n) in
     ([], append-nil all ∙ sym (listed_all-more queries_of_length (suc n)))
 
-pub all-to-step : (n : ℕ) → 0 < n → queries_up_to_query None (Step n) ≡ queries_up_to_depth None n
+pub all-to-step : (n : ℕ) → 0 < n → queries_to_query_given_breach None (Step n) ≡ queries_to_depth_given_breach None n
 all-to-step zero pos = absurd (omega arith)
 all-to-step (suc n) pos = sym (listed_all-more queries_of_length (suc n))
 
-pub all-to-hazard : (b n : ℕ) (q : Wanted) → step_count q ≡ n → queries_up_to_query (Some b) q ≡ queries_up_to_depth (Some b) n
+pub all-to-hazard : (b n : ℕ) (q : Wanted) → step_count q ≡ n → queries_to_query_given_breach (Some b) q ≡ queries_to_depth_given_breach (Some b) n
 all-to-hazard b n q e =
     ap (λ (k : ℕ). (queries_below b ++ Hazard b ∷ BreachQuery b ∷ []) ++ map Hazard (range_with_len (b + 1) (k - b))) e
     ∙ append_assoc (queries_below b) (Hazard b ∷ BreachQuery b ∷ []) (map Hazard (range_with_len (b + 1) (n - b)))
 
-pub to-prefix : (depth : ℕ) (breach : Option ℕ) (q : Wanted) → step_count_is_allowed q ≡ true → step_count q ≤ depth → IsPrefix (queries_up_to_query breach q) (queries_up_to_depth breach depth)
+pub to-prefix : (depth : ℕ) (breach : Option ℕ) (q : Wanted) → step_count_is_allowed q ≡ true → step_count q ≤ depth → IsPrefix (queries_to_query_given_breach breach q) (queries_to_depth_given_breach breach depth)
 to-prefix depth None q valid within =
     let far : (step_count q + 1) + (depth - step_count q) ≡ depth + 1 = omega arith in
     let all = subst (λ (m : ℕ). IsPrefix (queries_below (step_count q + 1)) (queries_below m)) far (prefix-up queries_below queries_below-up (step_count q + 1) (depth - step_count q)) in
-    prefix-then (queries_up_to_query None q) (queries_below (step_count q + 1)) (queries_below (depth + 1)) (to-queries_of_length q valid) all
+    prefix-then (queries_to_query_given_breach None q) (queries_below (step_count q + 1)) (queries_below (depth + 1)) (to-queries_of_length q valid) all
 to-prefix depth (Some b) q valid within =
     let i = step_count q - b in
     let far : i + ((depth - b) - i) ≡ depth - b = omega arith in
@@ -131,37 +130,38 @@ as-prefix asked qs all e p = subst (λ (us : List Wanted). IsPrefix us all) (sym
 pub asked-to :
     (s : PlainSystem) (g : PlainGoal) (depth conflicts : ℕ) (breach : Option ℕ) (a : Asked) (asked : List Asked)
     (left : ℕ) →
-    IsNextInQueryOrder s g depth conflicts breach a.query asked left → IsLogOf s g a →
-    IsAskedPrefix s g depth breach (asked ++ a ∷ []) a
+    QueryFollowsAskedInOrder s g depth conflicts breach a.query asked left → LogStepsDerivedAndFresh s g a →
+    AskedPrefixPassedExceptLast s g depth breach (asked ++ a ∷ []) a
 asked-to s g depth conflicts breach a asked left d log =
     record {
       before = asked;
       split = refl;
-      order = as-prefix (asked ++ a ∷ []) (queries_up_to_query breach a.query) (queries_up_to_depth breach depth) (more-queries asked a (queries_up_to_query breach a.query) d.order) (to-prefix depth breach a.query d.valid d.within);
+      order = as-prefix (asked ++ a ∷ []) (queries_to_query_given_breach breach a.query) (queries_to_depth_given_breach breach depth) (more-queries asked a (queries_to_query_given_breach breach a.query) d.order)
+          (to-prefix depth breach a.query d.valid d.within);
       found = d.found;
       passed = d.passed;
-      logs = All-push (IsLogOf s g) asked a d.logs log;
+      logs = All-push (LogStepsDerivedAndFresh s g) asked a d.logs log;
     }
 
 pub go-on :
     (s : PlainSystem) (g : PlainGoal) (depth conflicts : ℕ) (breach : Option ℕ) (a : Asked) (q : Wanted)
     (asked : List Asked) (left rest : ℕ) →
-    IsNextInQueryOrder s g depth conflicts breach a.query asked left → IsLogOf s g a → AskedAllowsNextQuery s g breach a →
-    count_learned_clauses a.log + rest ≡ left → queries_up_to_query breach a.query ++ q ∷ [] ≡ queries_up_to_query breach q →
+    QueryFollowsAskedInOrder s g depth conflicts breach a.query asked left → LogStepsDerivedAndFresh s g a → AskedAnswerAllowsNext s g breach a →
+    count_learned_clauses a.log + rest ≡ left → queries_to_query_given_breach breach a.query ++ q ∷ [] ≡ queries_to_query_given_breach breach q →
     step_count_is_allowed q ≡ true → step_count q ≤ depth →
-    IsNextInQueryOrder s g depth conflicts breach q (asked ++ a ∷ []) rest
+    QueryFollowsAskedInOrder s g depth conflicts breach q (asked ++ a ∷ []) rest
 go-on s g depth conflicts breach a q asked left rest d log passed count order valid within =
     record {
-      order = ap (λ (qs : List Wanted). qs ++ q ∷ []) (more-queries asked a (queries_up_to_query breach a.query) d.order) ∙ order;
+      order = ap (λ (qs : List Wanted). qs ++ q ∷ []) (more-queries asked a (queries_to_query_given_breach breach a.query) d.order) ∙ order;
       valid = valid;
       within = within;
       found = d.found;
-      passed = All-push (AskedAllowsNextQuery s g breach) asked a d.passed passed;
-      logs = All-push (IsLogOf s g) asked a d.logs log;
+      passed = All-push (AskedAnswerAllowsNext s g breach) asked a d.passed passed;
+      logs = All-push (LogStepsDerivedAndFresh s g) asked a d.logs log;
       counted = more-conflicts asked a left rest conflicts d.counted count;
     }
 
-pub passed-after : (s : PlainSystem) (g : PlainGoal) (b : ℕ) (q : Wanted) (log : List LogStep) → AllowsNextQuery s g None q log → AllowsNextQuery s g (Some b) q log
+pub passed-after : (s : PlainSystem) (g : PlainGoal) (b : ℕ) (q : Wanted) (log : List LogStep) → QueryAnswerAllowsNext s g None q log → QueryAnswerAllowsNext s g (Some b) q log
 passed-after s g b (Hazard n) log h = h
 passed-after s g b (BreachQuery n) log h = elim h [ inl refuted ↦ inl refuted | inr found ↦ absurd (none n found) ]
   where
@@ -169,40 +169,40 @@ passed-after s g b (BreachQuery n) log h = elim h [ inl refuted ↦ inl refuted 
     none n e = cc
 passed-after s g b (Step n) log h = h
 
-pub all-passed-after : (s : PlainSystem) (g : PlainGoal) (b : ℕ) (asked : List Asked) → All (AskedAllowsNextQuery s g None) asked → All (AskedAllowsNextQuery s g (Some b)) asked
-all-passed-after s g b asked h = All-weaker (AskedAllowsNextQuery s g None) (AskedAllowsNextQuery s g (Some b)) (λ a k. passed-after s g b a.query a.log k) asked h
+pub all-passed-after : (s : PlainSystem) (g : PlainGoal) (b : ℕ) (asked : List Asked) → All (AskedAnswerAllowsNext s g None) asked → All (AskedAnswerAllowsNext s g (Some b)) asked
+all-passed-after s g b asked h = All-weaker (AskedAnswerAllowsNext s g None) (AskedAnswerAllowsNext s g (Some b)) (λ a k. passed-after s g b a.query a.log k) asked h
 
 pub found-order : (asked : List Asked) (n : ℕ) (log : List LogStep) →
-    map (λ (x : Asked). x.query) asked ++ BreachQuery n ∷ [] ≡ queries_up_to_query None (BreachQuery n) →
+    map (λ (x : Asked). x.query) asked ++ BreachQuery n ∷ [] ≡ queries_to_query_given_breach None (BreachQuery n) →
     map (λ (x : Asked). x.query) (asked ++ query_with_log (BreachQuery n) log ∷ [])
-    ≡ queries_up_to_query (Some n) (BreachQuery n)
-found-order asked n log order = more-queries asked (query_with_log (BreachQuery n) log) (queries_up_to_query None (BreachQuery n)) order ∙ to-found n
+    ≡ queries_to_query_given_breach (Some n) (BreachQuery n)
+found-order asked n log order = more-queries asked (query_with_log (BreachQuery n) log) (queries_to_query_given_breach None (BreachQuery n)) order ∙ to-found n
 
 pub found-to :
     (s : PlainSystem) (g : PlainGoal) (depth conflicts n : ℕ) (log : List LogStep) (asked : List Asked)
     (left : ℕ) →
-    IsNextInQueryOrder s g depth conflicts None (BreachQuery n) asked left →
-    IsLogOf s g (query_with_log (BreachQuery n) log) → IsSatisfiable (query_formula s g (BreachQuery n)) →
-    IsAskedPrefix s g depth (Some n) (asked ++ query_with_log (BreachQuery n) log ∷ [])
+    QueryFollowsAskedInOrder s g depth conflicts None (BreachQuery n) asked left →
+    LogStepsDerivedAndFresh s g (query_with_log (BreachQuery n) log) → IsSatisfiable (query_formula s g (BreachQuery n)) →
+    AskedPrefixPassedExceptLast s g depth (Some n) (asked ++ query_with_log (BreachQuery n) log ∷ [])
     (query_with_log (BreachQuery n) log)
 found-to s g depth conflicts n log asked left d logged has =
     let a = query_with_log (BreachQuery n) log in
     record {
       before = asked;
       split = refl;
-      order = as-prefix (asked ++ a ∷ []) (queries_up_to_query (Some n) (BreachQuery n)) (queries_up_to_depth (Some n) depth) (found-order asked n log d.order) (to-prefix depth (Some n) (BreachQuery n) d.valid d.within);
+      order = as-prefix (asked ++ a ∷ []) (queries_to_query_given_breach (Some n) (BreachQuery n)) (queries_to_depth_given_breach (Some n) depth) (found-order asked n log d.order) (to-prefix depth (Some n) (BreachQuery n) d.valid d.within);
       found = (d.within, has);
       passed = all-passed-after s g n asked d.passed;
-      logs = All-push (IsLogOf s g) asked a d.logs logged;
+      logs = All-push (LogStepsDerivedAndFresh s g) asked a d.logs logged;
     }
 
 pub go-on-found :
     (s : PlainSystem) (g : PlainGoal) (depth conflicts n : ℕ) (log : List LogStep) (asked : List Asked)
     (left rest : ℕ) →
-    IsNextInQueryOrder s g depth conflicts None (BreachQuery n) asked left →
-    IsLogOf s g (query_with_log (BreachQuery n) log) → IsSatisfiable (query_formula s g (BreachQuery n)) →
+    QueryFollowsAskedInOrder s g depth conflicts None (BreachQuery n) asked left →
+    LogStepsDerivedAndFresh s g (query_with_log (BreachQuery n) log) → IsSatisfiable (query_formula s g (BreachQuery n)) →
     count_learned_clauses log + rest ≡ left → step_count_is_allowed (Hazard (n + 1)) ≡ true → n + 1 ≤ depth →
-    IsNextInQueryOrder s g depth conflicts (Some n) (Hazard (n + 1)) (asked ++ query_with_log (BreachQuery n) log ∷ [])
+    QueryFollowsAskedInOrder s g depth conflicts (Some n) (Hazard (n + 1)) (asked ++ query_with_log (BreachQuery n) log ∷ [])
     rest
 go-on-found s g depth conflicts n log asked left rest d logged has count valid within =
     let a = query_with_log (BreachQuery n) log in
@@ -211,22 +211,22 @@ go-on-found s g depth conflicts n log asked left rest d logged has count valid w
       valid = valid;
       within = within;
       found = (d.within, has);
-      passed = All-push (AskedAllowsNextQuery s g (Some n)) asked a (all-passed-after s g n asked d.passed) (inr refl);
-      logs = All-push (IsLogOf s g) asked a d.logs logged;
+      passed = All-push (AskedAnswerAllowsNext s g (Some n)) asked a (all-passed-after s g n asked d.passed) (inr refl);
+      logs = All-push (LogStepsDerivedAndFresh s g) asked a d.logs logged;
       counted = more-conflicts asked a left rest conflicts d.counted count;
     }
 
 pub asked-all :
     (s : PlainSystem) (g : PlainGoal) (depth conflicts n : ℕ) (a : Asked) (asked : List Asked) (left : ℕ)
     (Ends : Asked → Type 0) →
-    IsNextInQueryOrder s g depth conflicts None a.query asked left → IsLogOf s g a → a.query ≡ Step n → Ends a →
-    AreAllQueriesToDepth s g n None Ends (asked ++ a ∷ [])
+    QueryFollowsAskedInOrder s g depth conflicts None a.query asked left → LogStepsDerivedAndFresh s g a → a.query ≡ Step n → Ends a →
+    AllAskedAndLastMeets s g n None Ends (asked ++ a ∷ [])
 asked-all s g depth conflicts n a asked left Ends d log is ends =
     let pos : 0 < n = ltb-true 0 n (and_parts _ _ (ap step_count_is_allowed (sym is) ∙ d.valid)).0 in
-    let all : map (λ (x : Asked). x.query) (asked ++ a ∷ []) ≡ queries_up_to_depth None n = more-queries asked a (queries_up_to_query None a.query) d.order ∙ ap (queries_up_to_query None) is ∙ all-to-step n pos in
+    let all : map (λ (x : Asked). x.query) (asked ++ a ∷ []) ≡ queries_to_depth_given_breach None n = more-queries asked a (queries_to_query_given_breach None a.query) d.order ∙ ap (queries_to_query_given_breach None) is ∙ all-to-step n pos in
     record {
       all = all;
-      ends = (a, record { before = asked; split = refl; order = ([], append-nil (map (λ (x : Asked). x.query) (asked ++ a ∷ [])) ∙ all); found = tt; passed = d.passed; logs = All-push (IsLogOf s g) asked a d.logs log }, ends);
+      ends = (a, record { before = asked; split = refl; order = ([], append-nil (map (λ (x : Asked). x.query) (asked ++ a ∷ [])) ∙ all); found = tt; passed = d.passed; logs = All-push (LogStepsDerivedAndFresh s g) asked a d.logs log }, ends);
     }
 
 pub all-conflicts : (log : List LogStep) → has_no_empty_step log ≡ true → count_learned_clauses log ≡ length log

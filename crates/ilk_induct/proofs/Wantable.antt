@@ -12,7 +12,7 @@ use Rattle.ilk_unroll.specs.Goal.{PlainGoal, step_count_is_allowed}
 use Rattle.ilk_unroll.specs.Query.{query_formula}
 use Rattle.ilk_unroll.specs.Satisfied.{IsSatisfiable}
 use Rattle.ilk_certificate.specs.declared.asked.Asked.{Asked}
-use Rattle.ilk_induct.specs.Order.{queries_of_length, queries_below, queries_up_to_depth, IsPrefix}
+use Rattle.ilk_induct.specs.Order.{queries_of_length, queries_below, queries_to_depth_given_breach, IsPrefix}
 use Rattle.ilk_induct.specs.Spent.{IsSpentText}
 
 queries_of_length-valid : (n : ℕ) → n ≤ 16 → list_all step_count_is_allowed (queries_of_length n) ≡ true
@@ -32,7 +32,7 @@ hazards-valid : (a n : ℕ) → a + n ≤ 17 → list_all step_count_is_allowed 
 hazards-valid a zero low = refl
 hazards-valid a (suc n) low = and_from _ _ (le-leb a 16 (omega arith)) (hazards-valid (a + 1) n (omega arith))
 
-order-valid : (breach : Option ℕ) (depth : ℕ) → depth ≤ 16 → IfSome breach (λ b. b ≤ depth) → list_all step_count_is_allowed (queries_up_to_depth breach depth) ≡ true
+order-valid : (breach : Option ℕ) (depth : ℕ) → depth ≤ 16 → IfSome breach (λ b. b ≤ depth) → list_all step_count_is_allowed (queries_to_depth_given_breach breach depth) ≡ true
 order-valid None depth low within = queries_below-valid (depth + 1) (omega arith)
 order-valid (Some b) depth low within =
     let base : step_count_is_allowed (Hazard b) ≡ true = le-leb b 16 (omega (arith, low, within)) in
@@ -42,7 +42,7 @@ order-valid (Some b) depth low within =
 
 pub prefix-valid : (asked : List Asked) (breach : Option ℕ) (depth : ℕ) → depth ≤ 16 →
     IfSome breach (λ b. b ≤ depth) →
-    IsPrefix (map (λ (a : Asked). a.query) asked) (queries_up_to_depth breach depth) →
+    IsPrefix (map (λ (a : Asked). a.query) asked) (queries_to_depth_given_breach breach depth) →
     list_all (λ (a : Asked). step_count_is_allowed a.query) asked ≡ true
 prefix-valid asked breach depth low within p =
     let queries = map (λ (a : Asked). a.query) asked in

@@ -13,11 +13,12 @@ queries_of_length (suc n) = Hazard (suc n) ∷ Breach (suc n) ∷ Step (suc n) �
 abbrev pub queries_below : ℕ → List Wanted
 queries_below n = flat_map queries_of_length (range_with_len 0 n)
 
--- The queries for runs of up to `depth` steps; after a breach of `b` steps, only hazard queries.
-abbrev pub queries_up_to_depth : Option ℕ → ℕ → List Wanted
-queries_up_to_depth None depth = queries_below (depth + 1)
-queries_up_to_depth (Some b) depth = queries_below b ++ Hazard b ∷ Breach b ∷ map Hazard (range_with_len (b + 1) (depth - b))
+-- The queries in order for runs of up to `depth` steps. After a breach of `b` steps, only hazard
+-- queries.
+abbrev pub queries_to_depth_given_breach : Option ℕ → ℕ → List Wanted
+queries_to_depth_given_breach None depth = queries_below (depth + 1)
+queries_to_depth_given_breach (Some b) depth = queries_below b ++ Hazard b ∷ Breach b ∷ map Hazard (range_with_len (b + 1) (depth - b))
 
--- Holds if the first queries are a prefix of the others.
+-- Holds if the first list is a prefix of the second.
 abbrev pub IsPrefix : List Wanted → List Wanted → Type 0
 IsPrefix qs all = (rest : List Wanted) × (qs ++ rest ≡ all)

@@ -1,4 +1,4 @@
--- Verdicts that are right.
+-- Verdicts that are right. `Has` says of a query whether the run that it asks for exists.
 use Rattle.std.specs.Prelude.{ℕ, length, IsTrue}
 use Rattle.ilk_ir.specs.System.{PlainSystem}
 use Rattle.ilk_unroll.specs.declared.queries.Wanted.{Wanted}
@@ -8,27 +8,28 @@ use Rattle.ilk_unroll.specs.Goal.{PlainGoal}
 use Rattle.ilk_unroll.specs.Run.{is_wanted_run}
 use Rattle.ilk_induct.specs.declared.verdict.Verdict.{Verdict}
 use Rattle.ilk_induct.specs.declared.verdict.Verdict.TheVariants.{Safe, Unsafe, Breach, NotInductive, Spent}
-use Rattle.ilk_unroll.specs.Evidence.{HasRun, IsLeast, HoldsForNoneUpTo, ReachesHazard, ReachesBreach, IsInductiveAt, IsSafeForAllRuns}
+use Rattle.ilk_unroll.specs.Evidence.{HasRun, IsLeastUpToDepth, HoldsForNoneUpTo, ReachesHazard, ReachesBreach, IsInductiveAt, NoHazardOrBreachEver}
 
--- Holds if a hazard is reached, in no fewer than `h` steps.
-pub record IsUnsafe (Has : Wanted → Type 0) (depth h : ℕ) : Type 0 where
-  pub hazard : IsLeast depth (ReachesHazard Has) h
+-- Holds if `h`, up to the depth, is the least number of steps in which a hazard is reached.
+pub record IsShortestHazardLength (Has : Wanted → Type 0) (depth h : ℕ) : Type 0 where
+  pub hazard : IsLeastUpToDepth depth (ReachesHazard Has) h
 
--- Holds if no hazard is reached, and a family is broken, in no fewer than `b` steps.
-pub record HasBreachWithoutHazard (Has : Wanted → Type 0) (depth b : ℕ) : Type 0 where
+-- Holds if no hazard is reached within the depth, and `b` is the least number of steps in which a
+-- family is broken.
+pub record IsShortestBreachWithoutHazard (Has : Wanted → Type 0) (depth b : ℕ) : Type 0 where
   pub no_hazard : HoldsForNoneUpTo depth (ReachesHazard Has)
-  pub breach : IsLeast depth (ReachesBreach Has) b
+  pub breach : IsLeastUpToDepth depth (ReachesBreach Has) b
 
--- Holds if no hazard is reached, no family is broken, and `i` is the least number from which the
--- invariant is inductive.
-pub record IsSafeByInduction (Has : Wanted → Type 0) (depth i : ℕ) : Type 0 where
+-- Holds if within the depth no hazard is reached and no family broken, and `i` is the least number
+-- of steps for which the step query has no run.
+pub record IsLeastSafeInductionLength (Has : Wanted → Type 0) (depth i : ℕ) : Type 0 where
   pub no_hazard : HoldsForNoneUpTo depth (ReachesHazard Has)
   pub no_breach : HoldsForNoneUpTo depth (ReachesBreach Has)
-  pub induction : IsLeast depth (IsInductiveAt Has) i
+  pub induction : IsLeastUpToDepth depth (IsInductiveAt Has) i
 
--- Holds if no hazard is reached, no family is broken, and the invariant is inductive from no
--- number.
-pub record IsNotInductive (Has : Wanted → Type 0) (depth : ℕ) : Type 0 where
+-- Holds if within the depth no hazard is reached and no family broken, and each step query has a
+-- run.
+pub record NeitherBreachNorInductive (Has : Wanted → Type 0) (depth : ℕ) : Type 0 where
   pub no_hazard : HoldsForNoneUpTo depth (ReachesHazard Has)
   pub no_breach : HoldsForNoneUpTo depth (ReachesBreach Has)
   pub no_induction : HoldsForNoneUpTo depth (IsInductiveAt Has)
@@ -37,18 +38,19 @@ pub record IsNotInductive (Has : Wanted → Type 0) (depth : ℕ) : Type 0 where
 abbrev pub IsRunOfQuery : PlainSystem → PlainGoal → Wanted → Trace → Type 0
 IsRunOfQuery s g q t = IsTrue (is_wanted_run s g q t.first t.rules)
 
--- Holds if a verdict is right; `Spent` never is.
+-- Holds if a verdict is right for runs of at most `depth` steps. It never holds for `Spent`.
 abbrev pub IsRightSystemVerdict : PlainSystem → PlainGoal → ℕ → Verdict → Type 0
-IsRightSystemVerdict s g depth (Unsafe t) = IsUnsafe (HasRun s g) depth (length t.rules) × IsRunOfQuery s g (Hazard (length t.rules)) t
-IsRightSystemVerdict s g depth (Breach t) = HasBreachWithoutHazard (HasRun s g) depth (length t.rules) × IsRunOfQuery s g (BreachQuery (length t.rules)) t
-IsRightSystemVerdict s g depth (Safe k) = IsSafeByInduction (HasRun s g) depth k
-IsRightSystemVerdict s g depth (NotInductive t) = IsNotInductive (HasRun s g) depth × IsRunOfQuery s g (Step depth) t
+IsRightSystemVerdict s g depth (Unsafe t) = IsShortestHazardLength (HasRun s g) depth (length t.rules) × IsRunOfQuery s g (Hazard (length t.rules)) t
+IsRightSystemVerdict s g depth (Breach t) = IsShortestBreachWithoutHazard (HasRun s g) depth (length t.rules) × IsRunOfQuery s g (BreachQuery (length t.rules)) t
+IsRightSystemVerdict s g depth (Safe k) = IsLeastSafeInductionLength (HasRun s g) depth k
+IsRightSystemVerdict s g depth (NotInductive t) = NeitherBreachNorInductive (HasRun s g) depth × IsRunOfQuery s g (Step depth) t
 IsRightSystemVerdict s g depth Spent = ⊥
 
--- The meaning of a verdict for runs of any length.
+-- Holds if a safe verdict means that runs of any length reach no hazard and break no family. It
+-- always holds for the other verdicts.
 abbrev pub SystemVerdictHoldsAtAnyLength : PlainSystem → PlainGoal → Verdict → Type 0
 SystemVerdictHoldsAtAnyLength s g (Unsafe t) = Unit {0}
 SystemVerdictHoldsAtAnyLength s g (Breach t) = Unit {0}
-SystemVerdictHoldsAtAnyLength s g (Safe k) = IsSafeForAllRuns (HasRun s g)
+SystemVerdictHoldsAtAnyLength s g (Safe k) = NoHazardOrBreachEver (HasRun s g)
 SystemVerdictHoldsAtAnyLength s g (NotInductive t) = Unit {0}
 SystemVerdictHoldsAtAnyLength s g Spent = Unit {0}

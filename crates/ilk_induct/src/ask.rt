@@ -1,11 +1,11 @@
 ghost use Rattle.std.specs.Prelude.{IfOk, IsTrue};
 ghost use Rattle.ilk_ir.specs.System.{plain_system, system_valid};
-ghost use Rattle.ilk_solver.specs.Answered.{IsSearchLog};
+ghost use Rattle.ilk_solver.specs.Answered.{IsEmpoweringLogWithinBudget};
 ghost use Rattle.ilk_unroll.specs.Goal.{plain_goal, goal_valid, step_count_is_allowed};
 ghost use Rattle.ilk_unroll.specs.Query.{query_formula};
 ghost use Rattle.ilk_induct.specs.Due.{IsResponse};
 
-use crate::pick::{is_restart_due, pick_decision};
+use crate::pick::{is_restart_due, pick_negated_heaviest_unset_var};
 use crate::searching::search;
 use ilk_ir::System;
 use ilk_log::{Log, refutations_refute};
@@ -13,28 +13,27 @@ use ilk_solver::{Answer, Outcome};
 use ilk_unroll::{Goal, Trace, Wanted, query, read_back};
 use std::alloc::{AllocError, Global};
 
-/// The answer to a query.
+/// The result of a search for the run that a query asks for.
 #[derive(Drop)]
-pub enum Response {
-    /// A run that it asks for.
+pub(crate) enum Response {
+    /// A run that the query asks for.
     Run(Trace),
     /// There is no such run.
     Refuted,
-    /// The search was given up.
+    /// The search was given up: its conflict budget is used up.
     GivenUp,
 }
 
-/// The answer to a query, and the log of its search.
+/// The result of a query's search, and the log of the search.
 #[derive(Drop)]
-pub struct ResponseWithLog {
-    /// The answer.
+pub(crate) struct ResponseWithLog {
     pub response: Response,
     /// The steps of the search.
     pub log: Log,
 }
 
-/// Asks one query, by a search of at most `budget` conflicts.
-pub fn ask(
+/// Searches for the run that query `q` asks for, and learns at most `budget` clauses.
+pub(crate) fn ask(
     alloc: Global,
     system: &System,
     goal: &Goal,
@@ -45,7 +44,8 @@ pub fn ask(
     requires goal { IsTrue (goal_valid system.now.ranges (plain_goal goal.now)) }
     requires wanted { IsTrue (step_count_is_allowed q) }
     ensures log { IfOk result
-        (λ r. IsSearchLog (query_formula (plain_system system.now) (plain_goal goal.now) q) budget
+        (λ r. IsEmpoweringLogWithinBudget (query_formula (plain_system system.now)
+        (plain_goal goal.now) q) budget
         r.log) }
     ensures response { IfOk result
         (λ r. IsResponse (plain_system system.now)
@@ -53,7 +53,7 @@ pub fn ask(
 {
     let cnf = query(alloc, system, goal, q)?;
     refutations_refute();
-    let picks = Box::new(alloc, pick_decision)?;
+    let picks = Box::new(alloc, pick_negated_heaviest_unset_var)?;
     let asks = Box::new(alloc, is_restart_due)?;
     let Outcome { answer, log } = search(alloc, cnf, picks, asks, budget)?;
     match answer {

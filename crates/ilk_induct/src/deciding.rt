@@ -3,11 +3,11 @@ ghost use Rattle.ilk_ir.specs.System.{plain_system, system_valid};
 ghost use Rattle.ilk_unroll.specs.Goal.{plain_goal, goal_valid};
 ghost use Rattle.ilk_certificate.specs.CertificateText.{total_conflicts};
 ghost use Rattle.ilk_induct.specs.Asked.{AreQueriesOfVerdict};
-ghost use Rattle.ilk_induct.specs.Certified.{QueriesProveVerdict};
+ghost use Rattle.ilk_induct.specs.Certified.{QueriesCertifySafeVerdict};
 ghost use Rattle.ilk_induct.specs.Right.{IsRightSystemVerdict, SystemVerdictHoldsAtAnyLength};
 
 use crate::ask::{ResponseWithLog, ask};
-use crate::due::{DueQuery, Next, after_response};
+use crate::due::{DueQuery, Next, query_or_verdict_after_response};
 use crate::verdict::{Found, Verdict};
 use ilk_base::Row;
 use ilk_certificate::Asked;
@@ -16,8 +16,8 @@ use ilk_log::count_learned_clauses;
 use ilk_unroll::{Goal, Wanted};
 use std::alloc::{AllocError, Global};
 
-/// Decides whether the system keeps to the goal, by runs of at most `depth` steps and searches of
-/// at most `conflicts` conflicts together. The system has to be valid, the goal's formulas valid
+/// Decides whether the system keeps to the goal, by runs of at most `depth` steps and searches that
+/// learn at most `conflicts` clauses together. The system has to be valid, the goal's forms valid
 /// over its ranges, and the depth from 1 to 16.
 ///
 /// The queries are asked in this order: the hazard and breach queries for no step, then for each
@@ -40,7 +40,6 @@ pub fn decide(
         found.verdict
         ⊎ (found.verdict ≡ Verdict.Spent)) }
 
-    // A safe verdict holds for runs of any length.
     ensures lasts { IfOk result
         (λ found. SystemVerdictHoldsAtAnyLength (plain_system system.now) (plain_goal goal.now)
         found.verdict) }
@@ -51,7 +50,8 @@ pub fn decide(
 
     // If the verdict is safe, all queries but the step queries before the last are refuted.
     ensures certified { IfOk result
-        (λ found. QueriesProveVerdict (plain_system system.now) (plain_goal goal.now) found.verdict
+        (λ found. QueriesCertifySafeVerdict (plain_system system.now)
+        (plain_goal goal.now) found.verdict
         found.asked) }
     ensures few { IfOk result (λ found. total_conflicts found.asked ≤ conflicts) }
 {
@@ -63,7 +63,7 @@ pub fn decide(
         let ResponseWithLog { response, log } = ask(alloc, system, goal, query, left)?;
         left -= count_learned_clauses(&log);
         asked.push(Asked { query, log })?;
-        match after_response(depth, due, response) {
+        match query_or_verdict_after_response(depth, due, response) {
             Next::Ask(query) => due = query,
             Next::End(verdict) => return Ok(Found { verdict, asked }),
         }

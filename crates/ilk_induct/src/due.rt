@@ -1,21 +1,21 @@
 ghost use Rattle.std.specs.Prelude.{◌≡◌};
-ghost use Rattle.ilk_induct.specs.Due.{due_query, after_response, after_breach_and_no_hazard, after_no_run, after_run};
+ghost use Rattle.ilk_induct.specs.Due.{due_query, query_or_verdict_after_response, next_hazard_query_or_breach, query_or_verdict_after_refutation, query_or_verdict_after_run};
 
 use crate::ask::Response;
 use crate::verdict::Verdict;
 use ilk_unroll::{Trace, Wanted};
 
-/// The query that is due.
+/// The query to be asked next.
 #[derive(Drop)]
-pub enum DueQuery {
+pub(crate) enum DueQuery {
     /// This query; no breach was found yet.
     Unbroken(Wanted),
-    /// The hazard query for runs of this many steps, after this run broke a family.
+    /// The hazard query for runs of this many steps; this run is a breach.
     Broken(u32, Trace),
 }
 
 impl DueQuery {
-    /// Returns the query.
+    /// Returns the query to be asked.
     pub fn query(&self) -> Wanted
         ensures { result ≡ due_query self.now }
     {
@@ -26,18 +26,15 @@ impl DueQuery {
     }
 }
 
-/// The continuation after an answer.
+/// What follows after a query: another query, or the verdict.
 #[derive(Drop)]
-pub enum Next {
-    /// Another query.
+pub(crate) enum Next {
     Ask(DueQuery),
-    /// The verdict.
     End(Verdict),
 }
 
-// Returns the continuation after a breach by this run and the hazard query for `n` steps.
 fn next_after_breach(depth: u32, n: u32, breach: Trace) -> Next
-    ensures { result ≡ after_breach_and_no_hazard depth n breach }
+    ensures { result ≡ next_hazard_query_or_breach depth n breach }
 {
     if n < depth {
         Next::Ask(DueQuery::Broken(n + 1, breach))
@@ -46,9 +43,8 @@ fn next_after_breach(depth: u32, n: u32, breach: Trace) -> Next
     }
 }
 
-// Returns the continuation if the query has this run.
 fn next_after_run(depth: u32, due: DueQuery, trace: Trace) -> Next
-    ensures { result ≡ after_run depth due trace }
+    ensures { result ≡ query_or_verdict_after_run depth due trace }
 {
     match due {
         DueQuery::Unbroken(Wanted::Hazard(_)) => Next::End(Verdict::Unsafe(trace)),
@@ -64,9 +60,8 @@ fn next_after_run(depth: u32, due: DueQuery, trace: Trace) -> Next
     }
 }
 
-// Returns the continuation if the query has no run.
 fn next_after_none(depth: u32, due: DueQuery) -> Next
-    ensures { result ≡ after_no_run depth due }
+    ensures { result ≡ query_or_verdict_after_refutation depth due }
 {
     match due {
         DueQuery::Unbroken(Wanted::Hazard(n)) => Next::Ask(DueQuery::Unbroken(Wanted::Breach(n))),
@@ -77,9 +72,10 @@ fn next_after_none(depth: u32, due: DueQuery) -> Next
     }
 }
 
-/// Returns the continuation after a query, by its answer.
-pub fn after_response(depth: u32, due: DueQuery, response: Response) -> Next
-    ensures { result ≡ after_response depth due response }
+/// Returns the query or the verdict that follows after the query `due` has this response. `depth`
+/// is the maximum number of steps.
+pub(crate) fn query_or_verdict_after_response(depth: u32, due: DueQuery, response: Response) -> Next
+    ensures { result ≡ query_or_verdict_after_response depth due response }
 {
     match response {
         Response::Run(trace) => next_after_run(depth, due, trace),

@@ -5,9 +5,8 @@
 //! `decide` asks three kinds of queries for runs of a given number of steps. A hazard query asks
 //! for a run from the start to a hazard. A breach query asks for a run from the start that breaks a
 //! family. A step query asks for a run from anywhere that stays in the invariant and leaves it with
-//! its last step. `ilk_unroll` has the numbers that a verdict rests on, and `specs/Right` defines
-//! which verdict is right. Both depend only on whether the queried runs exist, so a layer above can
-//! apply them to its own runs.
+//! its last step. `specs/Right` defines which verdict is right, only by whether such runs exist, so
+//! a layer above can apply it to its own runs.
 //!
 //! `specs/Order` has the order of the queries, as one list. `specs/Asked` defines how far each
 //! verdict went in it. `specs/Spent` has the properties of each query and its log, and defines a
@@ -31,5 +30,5 @@ mod verdict;
 
 pub use deciding::decide;
 pub use ilk_certificate::Asked;
-pub use laws::{hints_are_from_one, spent_queries_fit_limits, written_texts_are_valid};
+pub use laws::{hints_are_from_one, spent_text_queries_are_valid, written_texts_are_valid};
 pub use verdict::{Found, Verdict};

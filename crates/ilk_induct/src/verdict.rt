@@ -2,7 +2,7 @@ use ilk_base::Row;
 use ilk_certificate::Asked;
 use ilk_unroll::Trace;
 
-/// The verdict on a system and a goal.
+/// The verdict on a system and a goal, found by runs up to a depth.
 #[derive(Drop)]
 pub enum Verdict {
     /// No run of any length reaches a hazard or breaks a family. The invariant is inductive from
@@ -17,15 +17,14 @@ pub enum Verdict {
     /// The run of `depth` steps begins anywhere, meets the invariant before its last step, and
     /// doesn't after it.
     NotInductive(Trace),
-    /// The searches used up all conflicts, and another one would be due.
+    /// The conflict budget of the searches is used up. Says nothing of the system.
     Spent,
 }
 
 /// A verdict, and the queries asked for it.
 #[derive(Drop)]
 pub struct Found {
-    /// The verdict.
     pub verdict: Verdict,
-    /// The queries in the order in which they were asked.
+    /// The queries in the order in which they were asked, each with its log.
     pub asked: Row<Asked>,
 }

@@ -7,11 +7,11 @@ use Rattle.std.proofs.Math.Nat.{pow-succ'}
 use Rattle.ilk_cnf.specs.Literal.{Literal, positive_lit, negative_lit}
 use Rattle.ilk_cnf.specs.Formula.{is_clause_over}
 use Rattle.ilk_cnf.specs.Truth.{value, is_true}
-use Rattle.ilk_cnf.specs.Extends.{ExtensionsAreExactly, AreExactValues}
+use Rattle.ilk_cnf.specs.Extends.{ExtensionsAreExactly, EqualsGivenValues}
 use Rattle.ilk_cnf.specs.Part.{empty_part, or_gate_part}
 use Rattle.ilk_cnf.proofs.Parts.{value-new}
 use Rattle.ilk_cnf.proofs.Extending.{any_of-law, no_more_if, only_from_if}
-use Rattle.ilk_ints.specs.Bits.{bit_count, bits_of, bits_at}
+use Rattle.ilk_ints.specs.Bits.{bit_count, lowest_bits_of, bits_at}
 use Rattle.ilk_ints.specs.AtMost.{highest_bit_decides, at_most_part, at_most_lit, at_most_bits}
 
 pub bits_some : (range b : ℕ) → 1 < range → range ≤ 2 ^ b → 0 < b
@@ -24,8 +24,7 @@ first_item p q ps qs h = cc
 other_items : (p q : Bool) (ps qs : List Bool) → p ∷ ps ≡ q ∷ qs → ps ≡ qs
 other_items p q ps qs h = cc
 
--- The highest bit is set if and only if the number is at least half the number of patterns.
-highest_bit : (m v : ℕ) (a : List Bool) (first : ℕ) → v < 2 ^ suc m → bits_at a first (suc m) ≡ bits_of (suc m) v → value a (first + m) ≡ leb (2 ^ m) v
+highest_bit : (m v : ℕ) (a : List Bool) (first : ℕ) → v < 2 ^ suc m → bits_at a first (suc m) ≡ lowest_bits_of (suc m) v → value a (first + m) ≡ leb (2 ^ m) v
 highest_bit zero v a first less h =
     let one : value a first ≡ (v % 2 == 1) = first_item (value a first) (v % 2 == 1) [] [] h in
     let here : first + 0 ≡ first = omega arith in
@@ -34,7 +33,7 @@ highest_bit zero v a first less h =
       | inr other ↦ (let low : v < 1 = omega (arith, pow-succ' 2 0) in ne_eqb (v % 2) 1 (λ e. absurd (omega arith)) ∙ sym (lt-leb (2 ^ 0) v (omega arith)))
     ])
 highest_bit (suc m) v a first less h =
-    let rest : bits_at a (first + 1) (suc m) ≡ bits_of (suc m) (v / 2) = other_items (value a first) (v % 2 == 1) (bits_at a (first + 1) (suc m)) (bits_of (suc m) (v / 2)) h in
+    let rest : bits_at a (first + 1) (suc m) ≡ lowest_bits_of (suc m) (v / 2) = other_items (value a first) (v % 2 == 1) (bits_at a (first + 1) (suc m)) (lowest_bits_of (suc m) (v / 2)) h in
     let step = highest_bit m (v / 2) a (first + 1) (omega (arith, pow-succ' 2 (suc m))) rest in
     let here : first + suc m ≡ first + 1 + m = omega arith in
     ap (value a) here ∙ step ∙ (elim (cases_lt v (2 ^ suc m)) [
@@ -42,7 +41,7 @@ highest_bit (suc m) v a first less h =
       | inr high ↦ le-leb (2 ^ m) (v / 2) (omega (arith, pow-succ' 2 m)) ∙ sym (le-leb (2 ^ suc m) v high)
     ])
 
-highest_bit-says : (b v k : ℕ) (a : List Bool) (first : ℕ) → 0 < b → v < 2 ^ b → k + 1 ≡ 2 ^ (b - 1) → bits_at a first b ≡ bits_of b v → not (value a (first + (b - 1))) ≡ leb v k
+highest_bit-says : (b v k : ℕ) (a : List Bool) (first : ℕ) → 0 < b → v < 2 ^ b → k + 1 ≡ 2 ^ (b - 1) → bits_at a first b ≡ lowest_bits_of b v → not (value a (first + (b - 1))) ≡ leb v k
 highest_bit-says zero v k a first some less half h = absurd (omega arith)
 highest_bit-says (suc m) v k a first some less half h =
     let one : suc m - 1 ≡ m = omega arith in
@@ -66,19 +65,19 @@ below_or_equal v k =
 pub at_most-law : (a : List Bool) (range k v n : ℕ) (below equal : Literal) → length a ≡ n →
     is_clause_over n (below ∷ equal ∷ []) ≡ true → is_true a below ≡ ltb v k → is_true a equal ≡ eqb v k →
     ExtensionsAreExactly a (at_most_part range k below equal n).vars (at_most_part range k below equal n).clauses
-    (AreExactValues (at_most_bits range k v))
+    (EqualsGivenValues (at_most_bits range k v))
 at_most-law a range k v n below equal size inside low same = by_case (highest_bit_decides range k)
   where
     some : list_any (is_true a) (below ∷ equal ∷ []) ≡ leb v k
     some = rw (low, same) (below_or_equal v k)
 
-    by_case : (h : Bool) → ExtensionsAreExactly a (cond h (empty_part n) (or_gate_part (below ∷ equal ∷ []) n)).vars (cond h (empty_part n) (or_gate_part (below ∷ equal ∷ []) n)).clauses (AreExactValues (cond h [] (leb v k ∷ [])))
+    by_case : (h : Bool) → ExtensionsAreExactly a (cond h (empty_part n) (or_gate_part (below ∷ equal ∷ []) n)).vars (cond h (empty_part n) (or_gate_part (below ∷ equal ∷ []) n)).clauses (EqualsGivenValues (cond h [] (leb v k ∷ [])))
     by_case true = only_from_if a n [] [] (no_more_if a n [] true size refl)
-    by_case false = subst (λ (e : Bool). ExtensionsAreExactly a (n + 1) (or_gate_part (below ∷ equal ∷ []) n).clauses (AreExactValues (e ∷ []))) some (any_of-law a n (below ∷ equal ∷ []) size inside)
+    by_case false = subst (λ (e : Bool). ExtensionsAreExactly a (n + 1) (or_gate_part (below ∷ equal ∷ []) n).clauses (EqualsGivenValues (e ∷ []))) some (any_of-law a n (below ∷ equal ∷ []) size inside)
 
 pub at_most-exact : (a : List Bool) (first range k v n : ℕ) → length a ≡ n → 0 < bit_count range →
     range ≤ 2 ^ bit_count range → v < range →
-    bits_at a first (bit_count range) ≡ bits_of (bit_count range) v →
+    bits_at a first (bit_count range) ≡ lowest_bits_of (bit_count range) v →
     is_true (a ++ at_most_bits range k v) (at_most_lit first range k n) ≡ leb v k
 at_most-exact a first range k v n size some enough less is = by_case (highest_bit_decides range k) refl
   where

@@ -5,13 +5,13 @@ use Rattle.std.proofs.lemmas.Bool.{and_parts, and_from, cases_lt, le-leb, lt-leb
 use Rattle.ilk_cnf.specs.Literal.{Literal, positive_lit, negative_lit}
 use Rattle.ilk_cnf.specs.Formula.{Formula, is_lit_over, is_clause_over, are_clauses_over}
 use Rattle.ilk_cnf.specs.Truth.{is_true}
-use Rattle.ilk_cnf.specs.Extends.{ExtensionsAreExactly, AreExactValues}
+use Rattle.ilk_cnf.specs.Extends.{ExtensionsAreExactly, EqualsGivenValues}
 use Rattle.ilk_cnf.specs.Part.{empty_part, with_part, or_gate_part}
 use Rattle.ilk_cnf.proofs.Literals.{is_clause_over-more, are_clauses_over-more}
 use Rattle.ilk_cnf.proofs.Parts.{is_true-left, one_by_one}
 use Rattle.ilk_cnf.proofs.Gates.{new-in, any_of-in, with_part-and_then}
 use Rattle.ilk_cnf.proofs.Extending.{no_more_if, only_from_if}
-use Rattle.ilk_ints.specs.Bits.{bit_count, bits_of, bits_at}
+use Rattle.ilk_ints.specs.Bits.{bit_count, lowest_bits_of, bits_at}
 use Rattle.ilk_ints.specs.AtMost.{highest_bit_decides, at_most_part, at_most_lit, at_most_bits}
 use Rattle.ilk_ints.specs.Named.{one_hot_bits, bound_lits_from, bound_bits, bound_vars_bits}
 use Rattle.ilk_ints.proofs.OneOfLaw.{map-left, first-two}
@@ -81,10 +81,10 @@ bounds-in (e ∷ es) first range k n below low some high h =
 pub bounds-law : (es : List Literal) (a : List Bool) (first range k w n : ℕ) (below : Literal) →
     length a ≡ n → 0 < first → 0 < bit_count range → first + bit_count range ≤ n + 1 →
     range ≤ 2 ^ bit_count range → w < range →
-    bits_at a first (bit_count range) ≡ bits_of (bit_count range) w → is_clause_over n (below ∷ es) ≡ true →
+    bits_at a first (bit_count range) ≡ lowest_bits_of (bit_count range) w → is_clause_over n (below ∷ es) ≡ true →
     is_true a below ≡ ltb w k → map (is_true a) es ≡ one_hot_bits w k (length es) →
     ExtensionsAreExactly a (bound_lits_from first range below k es n).part.vars
-    (bound_lits_from first range below k es n).part.clauses (AreExactValues (bound_vars_bits range w k (length es)))
+    (bound_lits_from first range below k es n).part.clauses (EqualsGivenValues (bound_vars_bits range w k (length es)))
 bounds-law [] a first range k w n below size low some high enough less is inside under same = only_from_if a n [] [] (no_more_if a n [] true size refl)
 bounds-law (e ∷ es) a first range k w n below size low some high enough less is inside under same =
     let p = at_most_part range k below e n in
@@ -93,10 +93,10 @@ bounds-law (e ∷ es) a first range k w n below size low some high enough less i
     let rest = bound_lits_from first range l (k + 1) es p.vars in
     let here : is_true a e ≡ eqb w k = first_of (is_true a e) (eqb w k) (map (is_true a) es) (one_hot_bits w (k + 1) (length es)) same in
     let others : map (is_true a) es ≡ one_hot_bits w (k + 1) (length es) = rest_of (is_true a e) (eqb w k) (map (is_true a) es) (one_hot_bits w (k + 1) (length es)) same in
-    let one : ExtensionsAreExactly a p.vars p.clauses (AreExactValues b) = at_most-law a range k w n below e size (first-two n below e es inside) under here in
+    let one : ExtensionsAreExactly a p.vars p.clauses (EqualsGivenValues b) = at_most-law a range k w n below e size (first-two n below e es inside) under here in
     let long : length (a ++ b) ≡ p.vars = one.sized b refl in
     let grows : n ≤ p.vars = at_most-low range k n below e in
-    let kept : bits_at (a ++ b) first (bit_count range) ≡ bits_of (bit_count range) w = bits_at-left (bit_count range) a b first (rw size high) ∙ is in
+    let kept : bits_at (a ++ b) first (bit_count range) ≡ lowest_bits_of (bit_count range) w = bits_at-left (bit_count range) a b first (rw size high) ∙ is in
     let next_under : is_true (a ++ b) l ≡ ltb w (k + 1) = at_most-exact a first range k w n size some enough less is ∙ below_next w k in
     let next_same : map (is_true (a ++ b)) es ≡ one_hot_bits w (k + 1) (length es) = map-left a b es (rw size (and_parts _ _ (and_parts _ _ inside).1).1) ∙ others in
     let next = bounds-law es (a ++ b) first range (k + 1) w p.vars l long low some (omega (arith, high, grows)) enough less kept (next-inside first range k n below e es low some high inside) next_under next_same in
@@ -113,7 +113,7 @@ bounds-law (e ∷ es) a first range k w n below size low some high enough less i
 pub bounds-say : (es : List Literal) (a c : List Bool) (first range k w n : ℕ) (below : Literal) →
     length a ≡ n → 0 < first → 0 < bit_count range → first + bit_count range ≤ n + 1 →
     range ≤ 2 ^ bit_count range → w < range →
-    bits_at a first (bit_count range) ≡ bits_of (bit_count range) w → is_clause_over n (below ∷ es) ≡ true →
+    bits_at a first (bit_count range) ≡ lowest_bits_of (bit_count range) w → is_clause_over n (below ∷ es) ≡ true →
     is_true a below ≡ ltb w k → map (is_true a) es ≡ one_hot_bits w k (length es) →
     map (is_true (a ++ (bound_vars_bits range w k (length es) ++ c))) (bound_lits_from first range below k es n).lits
     ≡ bound_bits w k (length es)
@@ -125,10 +125,10 @@ bounds-say (e ∷ es) a c first range k w n below size low some high enough less
     let d = bound_vars_bits range w (k + 1) (length es) in
     let here : is_true a e ≡ eqb w k = first_of (is_true a e) (eqb w k) (map (is_true a) es) (one_hot_bits w (k + 1) (length es)) same in
     let others : map (is_true a) es ≡ one_hot_bits w (k + 1) (length es) = rest_of (is_true a e) (eqb w k) (map (is_true a) es) (one_hot_bits w (k + 1) (length es)) same in
-    let one : ExtensionsAreExactly a p.vars p.clauses (AreExactValues b) = at_most-law a range k w n below e size (first-two n below e es inside) under here in
+    let one : ExtensionsAreExactly a p.vars p.clauses (EqualsGivenValues b) = at_most-law a range k w n below e size (first-two n below e es inside) under here in
     let long : length (a ++ b) ≡ p.vars = one.sized b refl in
     let grows : n ≤ p.vars = at_most-low range k n below e in
-    let kept : bits_at (a ++ b) first (bit_count range) ≡ bits_of (bit_count range) w = bits_at-left (bit_count range) a b first (rw size high) ∙ is in
+    let kept : bits_at (a ++ b) first (bit_count range) ≡ lowest_bits_of (bit_count range) w = bits_at-left (bit_count range) a b first (rw size high) ∙ is in
     let says : is_true (a ++ b) l ≡ leb w k = at_most-exact a first range k w n size some enough less is in
     let next_same : map (is_true (a ++ b)) es ≡ one_hot_bits w (k + 1) (length es) = map-left a b es (rw size (and_parts _ _ (and_parts _ _ inside).1).1) ∙ others in
     let rest = bounds-say es (a ++ b) c first range (k + 1) w p.vars l long low some (omega (arith, high, grows)) enough less kept (next-inside first range k n below e es low some high inside) (says ∙ below_next w k) next_same in
@@ -151,7 +151,6 @@ bounds-say (e ∷ es) a c first range k w n below size low some high enough less
     join : {p q : Bool} {ps qs : List Bool} → p ≡ q → ps ≡ qs → p ∷ ps ≡ q ∷ qs
     join h k = cc
 
--- One step of the loop over the literals.
 pub bounds_step :
     (f g : Formula) (lits whole : List Literal) (first range k : ℕ) (below l e : Literal)
     (es rest : List Literal) → es ≡ e ∷ rest → 0 < first →

@@ -5,9 +5,9 @@ use Rattle.std.proofs.lemmas.Bool.{and_parts, and_from, cases_lt, lt-ltb, le-ltb
 use Rattle.ilk_cnf.specs.Literal.{Literal}
 use Rattle.ilk_cnf.specs.Formula.{is_lit_over, is_clause_over}
 use Rattle.ilk_cnf.specs.Truth.{is_true}
-use Rattle.ilk_cnf.specs.Extends.{ExtensionsAreExactly, AreExactValues}
+use Rattle.ilk_cnf.specs.Extends.{ExtensionsAreExactly, EqualsGivenValues}
 use Rattle.ilk_cnf.proofs.Extending.{no_more_if, only_from_if}
-use Rattle.ilk_ints.specs.Bits.{bit_count, bits_of, bits_at}
+use Rattle.ilk_ints.specs.Bits.{bit_count, lowest_bits_of, bits_at}
 use Rattle.ilk_ints.specs.Named.{one_hot_bits, bound_count, bound_lits_from, bound_lits_part, bound_bits, bound_vars_bits}
 use Rattle.ilk_ints.proofs.AtMostLaw.{bits_some}
 use Rattle.ilk_ints.proofs.BoundsLaw.{bounds-law, bounds-say}
@@ -69,10 +69,10 @@ ready a first range w n e es all inside says =
 
 pub bound_lits_part-law : (values : List Literal) (a : List Bool) (first range w n : ℕ) → length a ≡ n →
     0 < first → first + bit_count range ≤ n + 1 → range ≤ 2 ^ bit_count range → length values ≡ range →
-    is_clause_over n values ≡ true → w < range → bits_at a first (bit_count range) ≡ bits_of (bit_count range) w →
+    is_clause_over n values ≡ true → w < range → bits_at a first (bit_count range) ≡ lowest_bits_of (bit_count range) w →
     map (is_true a) values ≡ one_hot_bits w 0 range →
     ExtensionsAreExactly a (bound_lits_part first range values n).part.vars (bound_lits_part first range values n).part.clauses
-    (AreExactValues (bound_vars_bits range w 1 (bound_count range)))
+    (EqualsGivenValues (bound_vars_bits range w 1 (bound_count range)))
 bound_lits_part-law [] a first range w n size low high enough all inside less is says = absurd (omega arith)
 bound_lits_part-law (e ∷ es) a first range w n size low high enough all inside less is says =
     elim (cases_lt 1 range) [
@@ -80,19 +80,19 @@ bound_lits_part-law (e ∷ es) a first range w n size low high enough all inside
           (let r = ready a first range w n e es all inside says in
           subst
           (λ (j : ℕ). ExtensionsAreExactly a (bound_lits_part first range (e ∷ es) n).part.vars
-          (bound_lits_part first range (e ∷ es) n).part.clauses (AreExactValues (bound_vars_bits range w 1 j))) r.count
+          (bound_lits_part first range (e ∷ es) n).part.clauses (EqualsGivenValues (bound_vars_bits range w 1 j))) r.count
           (bounds-law (take (bound_count range) es) a first range 1 w n e size low
           (bits_some range (bit_count range) more enough) high enough less is r.inside r.under
           r.same))
       | inr one ↦
           (let none : 0 ≡ bound_count range = omega (arith, few_bounds range) in
-          subst (λ (j : ℕ). ExtensionsAreExactly a (bound_lits_from first range e 1 (take j es) n).part.vars (bound_lits_from first range e 1 (take j es) n).part.clauses (AreExactValues (bound_vars_bits range w 1 j))) none
+          subst (λ (j : ℕ). ExtensionsAreExactly a (bound_lits_from first range e 1 (take j es) n).part.vars (bound_lits_from first range e 1 (take j es) n).part.clauses (EqualsGivenValues (bound_vars_bits range w 1 j))) none
           (only_from_if a n [] [] (no_more_if a n [] true size refl)))
     ]
 
 pub bound_lits_part-say : (values : List Literal) (a c : List Bool) (first range w n : ℕ) → length a ≡ n →
     0 < first → first + bit_count range ≤ n + 1 → range ≤ 2 ^ bit_count range → length values ≡ range →
-    is_clause_over n values ≡ true → w < range → bits_at a first (bit_count range) ≡ bits_of (bit_count range) w →
+    is_clause_over n values ≡ true → w < range → bits_at a first (bit_count range) ≡ lowest_bits_of (bit_count range) w →
     map (is_true a) values ≡ one_hot_bits w 0 range →
     map (is_true (a ++ (bound_vars_bits range w 1 (bound_count range) ++ c)))
     (bound_lits_part first range values n).lits

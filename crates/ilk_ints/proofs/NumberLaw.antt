@@ -6,13 +6,13 @@ use Rattle.std.proofs.Math.Pow.{pow_mono}
 use Rattle.std.proofs.lemmas.Bool.{and_parts, and_from, ne_eqb, cases_eq, cases_lt, false≢true}
 use Rattle.std.proofs.Math.Nat.{pow-succ'}
 use Rattle.ilk_cnf.specs.Literal.{Literal, negated_lit}
-use Rattle.ilk_cnf.specs.Formula.{Formula, with_clauses, clause_unless_tautology, is_clause_over, are_clauses_over}
+use Rattle.ilk_cnf.specs.Formula.{Formula, with_vars_and_clauses, clause_unless_tautology, is_clause_over, are_clauses_over}
 use Rattle.ilk_cnf.specs.Truth.{value, is_clause_true, satisfies}
 use Rattle.ilk_cnf.specs.Extends.{ExtensionsAreExactly}
 use Rattle.ilk_cnf.specs.Part.{clauses_from_lists}
 use Rattle.ilk_cnf.proofs.Parts.{value-new}
 use Rattle.ilk_cnf.proofs.Gates.{is_clause_true-opposites, opposites-in, satisfies-clauses_from_lists}
-use Rattle.ilk_ints.specs.Bits.{bit_count, bits_of, bits_at, bit_pattern_lits, same_bits}
+use Rattle.ilk_ints.specs.Bits.{bit_count, lowest_bits_of, bits_at, bit_pattern_lits, same_bits}
 use Rattle.ilk_ints.specs.Number.{value_bit_lits, non_value_clauses, number_part, bits_have_value, AreBitsInRange}
 use Rattle.ilk_ints.proofs.BitsLaw.{number_of, number-less, number-bits, bits-number, bits-twice, length-bits, same_bits-self, bits-test, value_bit_lits-say, value_bit_lits-in}
 
@@ -51,7 +51,6 @@ bits_at-new (q ∷ d) a first size =
 ruled-says : (a : List Bool) (first range v : ℕ) → is_clause_true a (map negated_lit (value_bit_lits first range v)) ≡ not (bits_have_value a first range v)
 ruled-says a first range v = is_clause_true-opposites a (value_bit_lits first range v) ∙ ap not (value_bit_lits-say a first range v)
 
--- If every other pattern is ruled out, the bits are those of a value.
 pub value-below : (a : List Bool) (first range : ℕ) → range ≤ 2 ^ bit_count range → satisfies a (non_value_clauses first range) ≡ true → AreBitsInRange range (bits_at a first (bit_count range))
 value-below a first range enough sat = below
   where
@@ -61,14 +60,14 @@ value-below a first range enough sat = below
     v : ℕ
     v = number_of (bits_at a first b)
 
-    is : bits_at a first b ≡ bits_of b v
-    is = sym (bits-number (bits_at a first b)) ∙ ap (λ (k : ℕ). bits_of k v) (length-bits_at a b first)
+    is : bits_at a first b ≡ lowest_bits_of b v
+    is = sym (bits-number (bits_at a first b)) ∙ ap (λ (k : ℕ). lowest_bits_of k v) (length-bits_at a b first)
 
     less : v < 2 ^ b
     less = subst (λ (k : ℕ). v < 2 ^ k) (length-bits_at a b first) (number-less (bits_at a first b))
 
     same : bits_have_value a first range v ≡ true
-    same = ap (λ (u : List Bool). same_bits u (bits_of b v)) is ∙ same_bits-self (bits_of b v)
+    same = ap (λ (u : List Bool). same_bits u (lowest_bits_of b v)) is ∙ same_bits-self (lowest_bits_of b v)
 
     past : range ≤ v → ⊥
     past h =
@@ -84,8 +83,7 @@ value-below a first range enough sat = below
     below : AreBitsInRange range (bits_at a first b)
     below = elim (cases_lt v range) [ inl low ↦ (v, low, is) | inr high ↦ absurd (past high) ]
 
--- The bits of a value satisfy all these clauses.
-pub value-passes : (a : List Bool) (first range w : ℕ) → range ≤ 2 ^ bit_count range → w < range → bits_at a first (bit_count range) ≡ bits_of (bit_count range) w → satisfies a (non_value_clauses first range) ≡ true
+pub value-passes : (a : List Bool) (first range w : ℕ) → range ≤ 2 ^ bit_count range → w < range → bits_at a first (bit_count range) ≡ lowest_bits_of (bit_count range) w → satisfies a (non_value_clauses first range) ≡ true
 value-passes a first range w enough less bits =
     satisfies-map a (λ v. map negated_lit (value_bit_lits first range v)) (range_with_len range (2 ^ b - range))
     ∙ range-each (λ v. is_clause_true a (map negated_lit (value_bit_lits first range v))) (2 ^ b - range) range (λ i low high. other i low (omega arith))
@@ -95,7 +93,7 @@ value-passes a first range w enough less bits =
 
     other : (i : ℕ) → range ≤ i → i < 2 ^ b → is_clause_true a (map negated_lit (value_bit_lits first range i)) ≡ true
     other i low high =
-        let differs : bits_have_value a first range i ≡ false = ap (λ (u : List Bool). same_bits u (bits_of b i)) bits ∙ bits-test b w i (omega arith) high ∙ ne_eqb w i (λ k. absurd (omega arith)) in
+        let differs : bits_have_value a first range i ≡ false = ap (λ (u : List Bool). same_bits u (lowest_bits_of b i)) bits ∙ bits-test b w i (omega arith) high ∙ ne_eqb w i (λ k. absurd (omega arith)) in
         ruled-says a first range i ∙ ap not differs
 
 pub number-law : (a : List Bool) (range n : ℕ) → range ≤ 2 ^ bit_count range → length a ≡ n → ExtensionsAreExactly a (number_part range n).vars (number_part range n).clauses (AreBitsInRange range)
@@ -116,34 +114,33 @@ non_value_clauses-in n first range low high =
     are_clauses_over-map n (λ v. map negated_lit (value_bit_lits first range v)) (range_with_len range (2 ^ bit_count range - range)) (λ v. opposites-in n (value_bit_lits first range v) (value_bit_lits-in n first range v low high))
 
 pub ruled_step : (f g : Formula) (whole : List (List Literal)) (first b v : ℕ) → v < 2 ^ b →
-    g ≡ with_clauses f f.vars (clause_unless_tautology (map negated_lit (bit_pattern_lits first (bits_of b v)))) →
+    g ≡ with_vars_and_clauses f f.vars (clause_unless_tautology (map negated_lit (bit_pattern_lits first (lowest_bits_of b v)))) →
     f.clauses
-    ++ clauses_from_lists (map (λ u. map negated_lit (bit_pattern_lits first (bits_of b u))) (range_with_len v (2 ^ b - v)))
+    ++ clauses_from_lists (map (λ u. map negated_lit (bit_pattern_lits first (lowest_bits_of b u))) (range_with_len v (2 ^ b - v)))
     ≡ whole →
     g.clauses
     ++ clauses_from_lists
-    (map (λ u. map negated_lit (bit_pattern_lits first (bits_of b u)))
+    (map (λ u. map negated_lit (bit_pattern_lits first (lowest_bits_of b u)))
     (range_with_len (v + 1) (2 ^ b - (v + 1)))) ≡ whole
 ruled_step f g whole first b v less made h =
     let more : 2 ^ b - v ≡ suc (2 ^ b - (v + 1)) = omega arith in
-    let rest = clauses_from_lists (map (λ u. map negated_lit (bit_pattern_lits first (bits_of b u))) (range_with_len (v + 1) (2 ^ b - (v + 1)))) in
+    let rest = clauses_from_lists (map (λ u. map negated_lit (bit_pattern_lits first (lowest_bits_of b u))) (range_with_len (v + 1) (2 ^ b - (v + 1)))) in
     ap (λ (k : Formula). k.clauses ++ rest) made
-    ∙ append_assoc f.clauses (clause_unless_tautology (map negated_lit (bit_pattern_lits first (bits_of b v)))) rest
-    ∙ ap (λ (k : ℕ). f.clauses ++ clauses_from_lists (map (λ u. map negated_lit (bit_pattern_lits first (bits_of b u))) (range_with_len v k))) (sym more)
+    ∙ append_assoc f.clauses (clause_unless_tautology (map negated_lit (bit_pattern_lits first (lowest_bits_of b v)))) rest
+    ∙ ap (λ (k : ℕ). f.clauses ++ clauses_from_lists (map (λ u. map negated_lit (bit_pattern_lits first (lowest_bits_of b u))) (range_with_len v k))) (sym more)
     ∙ h
 
--- The loop reads a value from the highest bit down.
 pub value_step : (a : List Bool) (first count k v q : ℕ) → k < count → count ≤ 8 →
-    q ≡ cond (value a (first + (count - 1 - k))) 1 0 → bits_of k v ≡ bits_at a (first + (count - k)) k →
+    q ≡ cond (value a (first + (count - 1 - k))) 1 0 → lowest_bits_of k v ≡ bits_at a (first + (count - k)) k →
     v < 2 ^ k →
-    (bits_of (k + 1) (2 * v + q) ≡ bits_at a (first + (count - (k + 1))) (k + 1)) ×
+    (lowest_bits_of (k + 1) (2 * v + q) ≡ bits_at a (first + (count - (k + 1))) (k + 1)) ×
     (2 * v + q < 2 ^ (k + 1)) × (2 * v + q < 256)
 value_step a first count k v q less few is bits small =
     let f : ℕ = first + (count - 1 - k) in
     let here : f ≡ first + (count - suc k) = omega arith in
     let next : first + (count - k) ≡ f + 1 = omega arith in
-    let at : bits_of (suc k) (2 * v + q) ≡ bits_at a (first + (count - suc k)) (suc k) =
-    ap (λ (u : ℕ). bits_of (suc k) (2 * v + u)) is ∙ bits-twice k v (value a f) ∙ ap (λ (u : List Bool). value a f ∷ u) (bits ∙ ap (λ (g : ℕ). bits_at a g k) next)
+    let at : lowest_bits_of (suc k) (2 * v + q) ≡ bits_at a (first + (count - suc k)) (suc k) =
+    ap (λ (u : ℕ). lowest_bits_of (suc k) (2 * v + u)) is ∙ bits-twice k v (value a f) ∙ ap (λ (u : List Bool). value a f ∷ u) (bits ∙ ap (λ (g : ℕ). bits_at a g k) next)
     ∙ ap (λ (g : ℕ). bits_at a g (suc k)) here in
     let one : q ≤ 1 = rw is (at_most_one (value a f)) in
     let fits : 2 * v + q < 2 ^ suc k = omega (arith, pow-succ' 2 k, small, one) in
@@ -155,7 +152,8 @@ value_step a first count k v q less few is bits small =
     at_most_one true = omega arith
     at_most_one false = omega arith
 
-pub value_read : (a : List Bool) (first range v : ℕ) → range ≤ 2 ^ bit_count range → satisfies a (clauses_from_lists (non_value_clauses first range)) ≡ true → bits_of (bit_count range) v ≡ bits_at a first (bit_count range) → v < 2 ^ bit_count range
+pub value_read : (a : List Bool) (first range v : ℕ) → range ≤ 2 ^ bit_count range → satisfies a (clauses_from_lists (non_value_clauses first range)) ≡ true → lowest_bits_of (bit_count range) v ≡ bits_at a first (bit_count range) →
+    v < 2 ^ bit_count range
     → v < range
 value_read a first range v enough sat is small =
     let b = bit_count range in
@@ -168,8 +166,8 @@ pub byte_of : (b : Bool) → bool_byte b ≡ cond b 1 0
 byte_of true = refl
 byte_of false = refl
 
-pub value_end : (a : List Bool) (first b count k v : ℕ) → k ≡ count → count ≡ b → bits_of k v ≡ bits_at a (first + (count - k)) k → v < 2 ^ k → (bits_of b v ≡ bits_at a first b) × (v < 2 ^ b)
+pub value_end : (a : List Bool) (first b count k v : ℕ) → k ≡ count → count ≡ b → lowest_bits_of k v ≡ bits_at a (first + (count - k)) k → v < 2 ^ k → (lowest_bits_of b v ≡ bits_at a first b) × (v < 2 ^ b)
 value_end a first b count k v end is bits small =
     let all : k ≡ b = end ∙ is in
     let start : first + (count - k) ≡ first = omega arith in
-    (ap (λ (u : ℕ). bits_of u v) (sym all) ∙ bits ∙ ap (λ (f : ℕ). bits_at a f k) start ∙ ap (λ (u : ℕ). bits_at a first u) all, subst (λ (u : ℕ). v < 2 ^ u) all small)
+    (ap (λ (u : ℕ). lowest_bits_of u v) (sym all) ∙ bits ∙ ap (λ (f : ℕ). bits_at a f k) start ∙ ap (λ (u : ℕ). bits_at a first u) all, subst (λ (u : ℕ). v < 2 ^ u) all small)

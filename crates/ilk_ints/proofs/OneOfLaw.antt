@@ -9,12 +9,12 @@ use Rattle.ilk_cnf.specs.Literal.{Literal, negated_lit, positive_lit}
 use Rattle.ilk_cnf.specs.Formula.{Formula, clause_unless_tautology, deduped_lits, is_tautology, is_lit_over, is_clause_over, are_clauses_over}
 use Rattle.ilk_cnf.specs.Part.{FormulaPart, and_then, with_part, clauses_from_lists}
 use Rattle.ilk_cnf.specs.Truth.{value, is_true}
-use Rattle.ilk_cnf.specs.Extends.{ExtensionsAreExactly, PassesWithExactValues}
+use Rattle.ilk_cnf.specs.Extends.{ExtensionsAreExactly, PassesAndEqualsGivenValues}
 use Rattle.ilk_cnf.proofs.Literals.{is_lit_over-more, is_clause_over-more, are_clauses_over-more}
 use Rattle.ilk_cnf.proofs.Parts.{value-new, is_true-left}
 use Rattle.ilk_cnf.proofs.Gates.{is_true-negated_lit, new-in, with_part-and_then}
 use Rattle.ilk_cnf.proofs.Extending.{one_more_if, no_more_if, if_then_if}
-use Rattle.ilk_ints.specs.OneOf.{disjoint_or_clauses, disjoint_or_part, join_pairs_until_one, exactly_one_part, none_true, exactly_one_true, joined_bits, exactly_one_bits}
+use Rattle.ilk_ints.specs.OneOf.{disjoint_or_clauses, disjoint_or_part, join_pairs_until_one, exactly_one_part, none_true, exactly_one_true, join_pairs_bits, exactly_one_bits}
 
 either_says : (w s l : Bool) → ((not l || (w || false)) && ((not s || (w || false)) && ((not w || (s || (l || false))) && ((not s || (not l || false)) && true)))) ≡ (beq w (s || l) && not (s && l))
 either_says true true true = refl
@@ -27,7 +27,7 @@ either_says false false true = refl
 either_says false false false = refl
 
 disjoint_or_clauses-law : (a : List Bool) (s l : Literal) (p q : Bool) (v : ℕ) → length a + 1 ≡ v → s.var ≤ length a → l.var ≤ length a → is_true a s ≡ p → is_true a l ≡ q
-    → ExtensionsAreExactly a v (disjoint_or_clauses s l (positive_lit v)) (PassesWithExactValues (not (p && q)) ((p || q) ∷ []))
+    → ExtensionsAreExactly a v (disjoint_or_clauses s l (positive_lit v)) (PassesAndEqualsGivenValues (not (p && q)) ((p || q) ∷ []))
 disjoint_or_clauses-law a s l p q v size si li sp lq =
     one_more_if a v (disjoint_or_clauses s l (positive_lit v)) (not (p && q)) (p || q) size (λ w.
     let new : value (a ++ w ∷ []) v ≡ w = value-new a [] w v size in
@@ -68,7 +68,6 @@ exactly_one_true-first true false qs = refl
 exactly_one_true-first false true qs = refl
 exactly_one_true-first false false qs = refl
 
--- Joining the first two entries preserves "exactly one", if not both are true.
 pub exactly_one_true-join_pairs_until_one : (p q : Bool) (qs : List Bool) → (not (p && q) && exactly_one_true (qs ++ (p || q) ∷ [])) ≡ exactly_one_true (p ∷ q ∷ qs)
 exactly_one_true-join_pairs_until_one p q qs = ap (λ (o : Bool). not (p && q) && o) (exactly_one_true-last qs (p || q)) ∙ exactly_one_true-first p q qs
 
@@ -122,7 +121,7 @@ join_pairs_until_one-in (suc k) (s ∷ l ∷ ls) n h =
 join_pairs_until_one-law : (k : ℕ) (ls : List Literal) (a : List Bool) (n : ℕ) → length a ≡ n → length ls ≤ k →
     is_clause_over n ls ≡ true →
     ExtensionsAreExactly a (join_pairs_until_one k ls n).vars (join_pairs_until_one k ls n).clauses
-    (PassesWithExactValues (exactly_one_true (map (is_true a) ls)) (joined_bits k (map (is_true a) ls)))
+    (PassesAndEqualsGivenValues (exactly_one_true (map (is_true a) ls)) (join_pairs_bits k (map (is_true a) ls)))
 join_pairs_until_one-law zero [] a n size few h = no_more_if a n ([] ∷ []) false size refl
 join_pairs_until_one-law zero (l ∷ ls) a n size few h = absurd (omega arith)
 join_pairs_until_one-law (suc k) [] a n size few h = no_more_if a n ([] ∷ []) false size refl
@@ -145,18 +144,19 @@ join_pairs_until_one-law (suc k) (s ∷ l ∷ ls) a n size few h =
     let longer : length a + 1 ≡ n + 1 = ap (λ (k : ℕ). k + 1) size in
     let fits : length a ≤ n + 1 = rw size (more n) in
     let here : length (a ++ (p || q) ∷ []) ≡ n + 1 = length-append a ((p || q) ∷ []) ∙ longer in
-    let then : ExtensionsAreExactly (a ++ (p || q) ∷ []) (join_pairs_until_one k next (n + 1)).vars (join_pairs_until_one k next (n + 1)).clauses (PassesWithExactValues (exactly_one_true (qs ++ (p || q) ∷ [])) (joined_bits k (qs ++ (p || q) ∷ []))) =
+    let then : ExtensionsAreExactly (a ++ (p || q) ∷ []) (join_pairs_until_one k next (n + 1)).vars (join_pairs_until_one k next (n + 1)).clauses (PassesAndEqualsGivenValues (exactly_one_true (qs ++ (p || q) ∷ [])) (join_pairs_bits k (qs ++
+    (p || q) ∷ []))) =
     subst
     (λ (xs : List Bool). ExtensionsAreExactly (a ++ (p || q) ∷ []) (join_pairs_until_one k next (n + 1)).vars
-    (join_pairs_until_one k next (n + 1)).clauses (PassesWithExactValues (exactly_one_true xs) (joined_bits k xs)))
+    (join_pairs_until_one k next (n + 1)).clauses (PassesAndEqualsGivenValues (exactly_one_true xs) (join_pairs_bits k xs)))
     (next-true ls a (p || q) n size two.1)
     (join_pairs_until_one-law k next (a ++ (p || q) ∷ []) (n + 1) here fewer (next-in s l ls n h)) in
-    let both = if_then_if a ((p || q) ∷ []) (joined_bits k (qs ++ (p || q) ∷ [])) (not (p && q))
+    let both = if_then_if a ((p || q) ∷ []) (join_pairs_bits k (qs ++ (p || q) ∷ [])) (not (p && q))
     (exactly_one_true (qs ++ (p || q) ∷ [])) (n + 1) (join_pairs_until_one k next (n + 1)).vars (disjoint_or_clauses s l v)
     (join_pairs_until_one k next (n + 1)).clauses fits (join_pairs_until_one-low k next (n + 1))
     (disjoint_or_clauses-in (n + 1) s l v (either-next-in s l ls n h))
     (disjoint_or_clauses-law a s l p q (n + 1) longer (rw size si) (rw size li) refl refl) (λ _. then) in
-    subst (λ (o : Bool). ExtensionsAreExactly a (join_pairs_until_one k next (n + 1)).vars (disjoint_or_clauses s l v ++ (join_pairs_until_one k next (n + 1)).clauses) (PassesWithExactValues o (joined_bits (suc k) (p ∷ q ∷ qs))))
+    subst (λ (o : Bool). ExtensionsAreExactly a (join_pairs_until_one k next (n + 1)).vars (disjoint_or_clauses s l v ++ (join_pairs_until_one k next (n + 1)).clauses) (PassesAndEqualsGivenValues o (join_pairs_bits (suc k) (p ∷ q ∷ qs))))
     (exactly_one_true-join_pairs_until_one p q qs) both
 
 join_pairs_until_one-vars : (k : ℕ) (ls : List Literal) (n : ℕ) → (join_pairs_until_one k ls n).vars ≤ n + k
@@ -180,14 +180,14 @@ one_of-low ls n = join_pairs_until_one-low (length ls) ls n
 pub part-in : (ls : List Literal) (n : ℕ) → is_clause_over n ls ≡ true → are_clauses_over (exactly_one_part ls n).vars (exactly_one_part ls n).clauses ≡ true
 part-in ls n h = join_pairs_until_one-in (length ls) ls n h
 
-same_length : (ls : List Literal) (qs : List Bool) → length qs ≡ length ls → joined_bits (length ls) qs ≡ exactly_one_bits qs
-same_length ls qs h = ap (λ (k : ℕ). joined_bits k qs) (sym h)
+same_length : (ls : List Literal) (qs : List Bool) → length qs ≡ length ls → join_pairs_bits (length ls) qs ≡ exactly_one_bits qs
+same_length ls qs h = ap (λ (k : ℕ). join_pairs_bits k qs) (sym h)
 
 pub one_of-law : (ls : List Literal) (a : List Bool) (n : ℕ) → length a ≡ n → is_clause_over n ls ≡ true
-    → ExtensionsAreExactly a (exactly_one_part ls n).vars (exactly_one_part ls n).clauses (PassesWithExactValues (exactly_one_true (map (is_true a) ls)) (exactly_one_bits (map (is_true a) ls)))
+    → ExtensionsAreExactly a (exactly_one_part ls n).vars (exactly_one_part ls n).clauses (PassesAndEqualsGivenValues (exactly_one_true (map (is_true a) ls)) (exactly_one_bits (map (is_true a) ls)))
 one_of-law ls a n size h =
     let qs = map (is_true a) ls in
-    subst (λ (b : List Bool). ExtensionsAreExactly a (exactly_one_part ls n).vars (exactly_one_part ls n).clauses (PassesWithExactValues (exactly_one_true qs) b)) (same_length ls qs (length-map ls (is_true a)))
+    subst (λ (b : List Bool). ExtensionsAreExactly a (exactly_one_part ls n).vars (exactly_one_part ls n).clauses (PassesAndEqualsGivenValues (exactly_one_true qs) b)) (same_length ls qs (length-map ls (is_true a)))
     (join_pairs_until_one-law (length ls) ls a n size (omega arith) h)
 
 pub one_of-vars : (ls : List Literal) (n : ℕ) → (exactly_one_part ls n).vars ≤ n + length ls
@@ -207,8 +207,6 @@ pub clauses-few : (f : Formula) (ls : List Literal) → length (with_part f (exa
 clauses-few f ls =
     let part = exactly_one_part ls f.vars in
     omega (arith, length-append f.clauses (clauses_from_lists part.clauses), clauses_from_lists-few part.clauses, one_of-few ls f.vars)
-
--- The queue
 
 pub queue-front : (queue : List Literal) (i : ℕ) (s l : Literal) → i + 1 < length queue → s ≡ get_or queue i s → l ≡ get_or queue (i + 1) l → drop i queue ≡ s ∷ l ∷ drop (i + 2) queue
 queue-front queue i s l within one two =

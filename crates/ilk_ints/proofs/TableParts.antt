@@ -30,8 +30,6 @@ bit_count-enough range high = by_case (find (λ b. leb range (2 ^ b)) (range_wit
     by_case None h = high
     by_case (Some b) h = leb-true range (2 ^ b) (find-passes (λ b. leb range (2 ^ b)) (range_with_len 0 8) b h)
 
--- Values
-
 abbrev two : ℕ → ℕ → PartWithLits
 two first n =
     record {
@@ -66,8 +64,6 @@ length-value_lits_part first range n = by_case (range == 2) refl
     by_case : (h : Bool) → (range == 2) ≡ h → length (cond h (two first n) (value_lits_from first range 0 range n)).lits ≡ range
     by_case true h = sym (eqb-true range 2 h)
     by_case false h = length-value_lits_from range first range 0 n
-
--- Bounds
 
 pub bound_lits_part-low : (values : List Literal) (first range n : ℕ) → n ≤ (bound_lits_part first range values n).part.vars
 bound_lits_part-low [] first range n = omega arith

@@ -5,13 +5,13 @@ use Rattle.std.proofs.lemmas.Bool.{and_from, eqb-true}
 use Rattle.ilk_cnf.specs.Literal.{Literal, positive_lit}
 use Rattle.ilk_cnf.specs.Formula.{Formula, is_clause_over, are_clauses_over}
 use Rattle.ilk_cnf.specs.Truth.{value, is_true}
-use Rattle.ilk_cnf.specs.Extends.{ExtensionsAreExactly, AreExactValues}
+use Rattle.ilk_cnf.specs.Extends.{ExtensionsAreExactly, EqualsGivenValues}
 use Rattle.ilk_cnf.specs.Part.{empty_part, with_part}
 use Rattle.ilk_cnf.proofs.Literals.{is_lit_over-more, are_clauses_over-more}
 use Rattle.ilk_cnf.proofs.Parts.{value-new, value-left, one_by_one}
 use Rattle.ilk_cnf.proofs.Gates.{new-in, all_of-in, with_part-and_then}
 use Rattle.ilk_cnf.proofs.Extending.{no_more_if, only_from_if}
-use Rattle.ilk_ints.specs.Bits.{bit_count, bits_of, bits_at}
+use Rattle.ilk_ints.specs.Bits.{bit_count, lowest_bits_of, bits_at}
 use Rattle.ilk_ints.specs.Number.{value_lit_part, bits_have_value, value_bit_lits}
 use Rattle.ilk_ints.proofs.BitsLaw.{is-law, has_value-exact, value_bit_lits-in, bit_is-exact}
 use Rattle.ilk_ints.specs.Named.{value_lits_from, value_lits_part, one_hot_bits, one_hot_var_bits}
@@ -54,7 +54,6 @@ values-lits_in zero first range v n m high = refl
 values-lits_in (suc j) first range v n m high =
     and_from _ _ (is_lit_over-more (n + 1) m (positive_lit (n + 1)) (omega arith) (new-in n true)) (values-lits_in j first range (v + 1) (n + 1) m (omega arith))
 
--- An extension doesn't change the earlier bits.
 pub bits_at-left : (b : ℕ) (a c : List Bool) (first : ℕ) → first + b ≤ length a + 1 → bits_at (a ++ c) first b ≡ bits_at a first b
 bits_at-left zero a c first h = refl
 bits_at-left (suc b) a c first h =
@@ -66,27 +65,25 @@ pub length-one_hot_bits : (w v j : ℕ) → length (one_hot_bits w v j) ≡ j
 length-one_hot_bits w v zero = refl
 length-one_hot_bits w v (suc j) = ap suc (length-one_hot_bits w (v + 1) j)
 
--- If the integer is w, each new variable says whether w is its value.
 pub values-law : (j : ℕ) (a : List Bool) (first range v w n : ℕ) → length a ≡ n → 0 < first →
     first + bit_count range ≤ n + 1 → range ≤ 2 ^ bit_count range → w < range → v + j ≤ range →
-    bits_at a first (bit_count range) ≡ bits_of (bit_count range) w →
+    bits_at a first (bit_count range) ≡ lowest_bits_of (bit_count range) w →
     ExtensionsAreExactly a (value_lits_from first range v j n).part.vars (value_lits_from first range v j n).part.clauses
-    (AreExactValues (one_hot_bits w v j))
+    (EqualsGivenValues (one_hot_bits w v j))
 values-law zero a first range v w n size low high enough less upto is = only_from_if a n [] [] (no_more_if a n [] true size refl)
 values-law (suc j) a first range v w n size low high enough less upto is =
     let rest = value_lits_from first range (v + 1) j (n + 1) in
     let q = bits_have_value a first range v in
     let here : q ≡ eqb w v = has_value-exact a first range v w enough (omega arith) less is in
-    let one : ExtensionsAreExactly a (n + 1) (value_lit_part first range v n).clauses (AreExactValues (eqb w v ∷ [])) =
-    subst (λ (e : Bool). ExtensionsAreExactly a (n + 1) (value_lit_part first range v n).clauses (AreExactValues (e ∷ []))) here (is-law a first range v n size low high) in
+    let one : ExtensionsAreExactly a (n + 1) (value_lit_part first range v n).clauses (EqualsGivenValues (eqb w v ∷ [])) =
+    subst (λ (e : Bool). ExtensionsAreExactly a (n + 1) (value_lit_part first range v n).clauses (EqualsGivenValues (e ∷ []))) here (is-law a first range v n size low high) in
     let long : length (a ++ eqb w v ∷ []) ≡ n + 1 = length-append a (eqb w v ∷ []) ∙ ap (λ (k : ℕ). k + 1) size in
-    let kept : bits_at (a ++ eqb w v ∷ []) first (bit_count range) ≡ bits_of (bit_count range) w = bits_at-left (bit_count range) a (eqb w v ∷ []) first (rw size high) ∙ is in
+    let kept : bits_at (a ++ eqb w v ∷ []) first (bit_count range) ≡ lowest_bits_of (bit_count range) w = bits_at-left (bit_count range) a (eqb w v ∷ []) first (rw size high) ∙ is in
     let next = values-law j (a ++ eqb w v ∷ []) first range (v + 1) w (n + 1) long low (omega arith) enough less (omega arith) kept in
     let fits : length a ≤ n + 1 = omega (arith, size) in
     let end : n + 1 ≤ rest.part.vars = omega (arith, values-low j first range (v + 1) (n + 1)) in
     one_by_one a (eqb w v ∷ []) (one_hot_bits w (v + 1) j) (n + 1) rest.part.vars (value_lit_part first range v n).clauses rest.part.clauses fits end (all_of-in n (value_bit_lits first range v) (value_bit_lits-in n first range v low high)) one next
 
--- The literals keep their meaning under any extension c.
 pub values-say : (j : ℕ) (a c : List Bool) (first range v w n : ℕ) → length a ≡ n → map (is_true (a ++ (one_hot_bits w v j ++ c))) (value_lits_from first range v j n).lits ≡ one_hot_bits w v j
 values-say zero a c first range v w n size = refl
 values-say (suc j) a c first range v w n size =
@@ -113,9 +110,9 @@ value_lits_part-low first range n = by_case (range == 2)
 
 pub value_lits_part-law : (a : List Bool) (first range w n : ℕ) → length a ≡ n → 0 < first →
     first + bit_count range ≤ n + 1 → range ≤ 2 ^ bit_count range → w < range →
-    bits_at a first (bit_count range) ≡ bits_of (bit_count range) w →
+    bits_at a first (bit_count range) ≡ lowest_bits_of (bit_count range) w →
     ExtensionsAreExactly a (value_lits_part first range n).part.vars (value_lits_part first range n).part.clauses
-    (AreExactValues (one_hot_var_bits range w))
+    (EqualsGivenValues (one_hot_var_bits range w))
 value_lits_part-law a first range w n size low high enough less is = by_case (range == 2)
   where
     by_case : (h : Bool) →
@@ -134,13 +131,13 @@ value_lits_part-law a first range w n size low high enough less is = by_case (ra
               ∷ (record { var = first; positive = (1 == 1) }) ∷ [];
         })
         (value_lits_from first range 0 range n)).part.clauses
-        (AreExactValues (cond h [] (one_hot_bits w 0 range)))
+        (EqualsGivenValues (cond h [] (one_hot_bits w 0 range)))
     by_case true = only_from_if a n [] [] (no_more_if a n [] true size refl)
     by_case false = values-law range a first range 0 w n size low high enough less (omega arith) is
 
 pub value_lits_part-say : (a c : List Bool) (first range w n : ℕ) → length a ≡ n →
     first + bit_count range ≤ n + 1 → range ≤ 2 ^ bit_count range → w < range →
-    bits_at a first (bit_count range) ≡ bits_of (bit_count range) w →
+    bits_at a first (bit_count range) ≡ lowest_bits_of (bit_count range) w →
     map (is_true (a ++ (one_hot_var_bits range w ++ c))) (value_lits_part first range n).lits ≡ one_hot_bits w 0 range
 value_lits_part-say a c first range w n size high enough less is = by_case (range == 2) refl
   where
@@ -157,7 +154,7 @@ value_lits_part-say a c first range w n size high enough less is = by_case (rang
     by_case true h =
         let two : range ≡ 2 = eqb-true range 2 h in
         let long : first + bit_count range ≤ length a + 1 = rw size high in
-        let kept : bits_at (a ++ c) first (bit_count range) ≡ bits_of (bit_count range) w = bits_at-left (bit_count range) a c first long ∙ is in
+        let kept : bits_at (a ++ c) first (bit_count range) ≡ lowest_bits_of (bit_count range) w = bits_at-left (bit_count range) a c first long ∙ is in
         let one : (v : ℕ) → v < 2 → is_true (a ++ c) (record { var = first; positive = (v == 1) }) ≡ eqb w v =
         λ v small. bit_is-exact (a ++ c) first v small
         ∙ ap (λ (r : ℕ). bits_have_value (a ++ c) first r v) (sym two)

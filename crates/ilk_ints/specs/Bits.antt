@@ -4,16 +4,17 @@ use Rattle.std.specs.List.{find, range_with_len}
 use Rattle.ilk_cnf.specs.Literal.{Literal}
 use Rattle.ilk_cnf.specs.Truth.{value}
 
--- The least b with 2 ^ b at least the range, for ranges up to 256.
+-- The number of bits of an integer below `range`, for ranges up to 256: the least b with 2 ^ b at
+-- least `range`.
 abbrev pub bit_count : ℕ → ℕ
 bit_count range = unwrap_or (find (λ b. nat_le range (2 ^ b)) (range_with_len 0 8)) 8
 
--- The b lowest bits of a number.
-abbrev pub bits_of : ℕ → ℕ → List Bool
-bits_of zero v = []
-bits_of (suc b) v = (v % 2 == 1) ∷ bits_of b (v / 2)
+-- The `b` lowest bits of the number `v`, the lowest first.
+abbrev pub lowest_bits_of : ℕ → ℕ → List Bool
+lowest_bits_of zero v = []
+lowest_bits_of (suc b) v = (v % 2 == 1) ∷ lowest_bits_of b (v / 2)
 
--- The bits of b variables from `first` on.
+-- The truth values in assignment `a` of the `b` variables from `first` on.
 abbrev pub bits_at : List Bool → ℕ → ℕ → List Bool
 bits_at a first b = map (value a) (range_with_len first b)
 

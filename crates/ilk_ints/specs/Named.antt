@@ -1,4 +1,4 @@
--- Parts of formulas with result literals, and the literals of one integer.
+-- Formula parts with result literals, and the literals of an integer's values and bounds.
 use Rattle.std.specs.Prelude.{ℕ, zero, suc, ◌+◌, ◌-◌, ◌==◌, nat_le, Bool, List, [], ◌∷◌, ◌++◌, min, take, if◌then◌else◌}
 use Rattle.ilk_cnf.specs.Literal.{Literal, positive_lit}
 use Rattle.ilk_cnf.specs.Part.{FormulaPart, empty_part, and_then}
@@ -6,12 +6,14 @@ use Rattle.ilk_ints.specs.Bits.{bit_count}
 use Rattle.ilk_ints.specs.Number.{value_lit_part}
 use Rattle.ilk_ints.specs.AtMost.{highest_bit_decides, at_most_part, at_most_lit, at_most_bits}
 
--- A part and its result literals.
+-- A formula part and its result literals.
 pub record PartWithLits : Type 0 where
   pub part : FormulaPart
   pub lits : List Literal
 
--- After n variables, one for each of j values from v on, true if and only if the integer has it.
+-- The formula part that adds, after the first `n` variables, a literal for each of `j` values from
+-- `v` on, true exactly if the integer has it. The integer is below `range`, with its bits from
+-- `first` on.
 abbrev pub value_lits_from : ℕ → ℕ → ℕ → ℕ → ℕ → PartWithLits
 value_lits_from first range v zero n = record { part = empty_part n; lits = [] }
 value_lits_from first range v (suc j) n =
@@ -20,30 +22,31 @@ value_lits_from first range v (suc j) n =
       lits = positive_lit (n + 1) ∷ (value_lits_from first range (v + 1) j (n + 1)).lits;
     }
 
--- The literals of an integer's values; for two values, those of its bit.
+-- The formula part with a literal for each value of an integer below `range`, whose bits begin at
+-- `first`. For range 2 these are the literals of its bit.
 abbrev pub value_lits_part : ℕ → ℕ → ℕ → PartWithLits
 value_lits_part first range n =
     if range == 2
     then record { part = empty_part n; lits = (record { var = first; positive = (0 == 1) }) ∷ (record { var = first; positive = (1 == 1) }) ∷ [] }
     else value_lits_from first range 0 range n
 
--- For an integer that is w: whether it is each of j values from v on.
+-- For an integer that is `w`: whether it is each of the `j` values from `v` on.
 abbrev pub one_hot_bits : ℕ → ℕ → ℕ → List Bool
 one_hot_bits w v zero = []
 one_hot_bits w v (suc j) = (w == v) ∷ one_hot_bits w (v + 1) j
 
--- The values of the new variables.
+-- The truth values of the new variables of `value_lits_part`, if the integer is `w`.
 abbrev pub one_hot_var_bits : ℕ → ℕ → List Bool
 one_hot_var_bits range w = if range == 2 then [] else one_hot_bits w 0 range
 
--- The number of bounds: at least two values lie on each side, and there are at most two variables
--- per value.
+-- The number of bounds of an integer below `range` that get a literal. At least two values lie on
+-- each side of a bound, and there are at most two variables per value.
 abbrev pub bound_count : ℕ → ℕ
 bound_count range = min (range - 3) (range - bit_count range)
 
--- A literal for each of the bounds k, k + 1, .., true if and only if the integer is at most the
--- bound. `below` says that it is below k; the list has a literal for "it is k", "it is k + 1", and
--- so on.
+-- The formula part with a literal for each of the bounds k, k + 1, .., true exactly if the integer
+-- is at most the bound. The literal `below` says that it is less than k. The list has the literals
+-- for "it is k", "it is k + 1" and so on.
 abbrev pub bound_lits_from : ℕ → ℕ → Literal → ℕ → List Literal → ℕ → PartWithLits
 bound_lits_from first range below k [] n = record { part = empty_part n; lits = [] }
 bound_lits_from first range below k (e ∷ es) n =
@@ -52,30 +55,31 @@ bound_lits_from first range below k (e ∷ es) n =
       lits = at_most_lit first range k n ∷ (bound_lits_from first range (at_most_lit first range k n) (k + 1) es (at_most_part range k below e n).vars).lits;
     }
 
--- The literals of an integer's bounds, made from those of its values.
+-- The formula part with the literals for the bounds of an integer below `range`, built from the
+-- literals of its values.
 abbrev pub bound_lits_part : ℕ → ℕ → List Literal → ℕ → PartWithLits
 bound_lits_part first range [] n = record { part = empty_part n; lits = [] }
 bound_lits_part first range (e ∷ es) n = bound_lits_from first range e 1 (take (bound_count range) es) n
 
--- The number of variables for the literals of the values.
+-- The number of variables for the literals of an integer's values, if it is below `range`.
 abbrev pub value_var_count : ℕ → ℕ
 value_var_count range = if range == 2 then 0 else range
 
--- The number of variables for j bounds from k on.
+-- The number of variables for the literals of `j` bounds from `k` on.
 abbrev pub bound_var_count : ℕ → ℕ → ℕ → ℕ
 bound_var_count range k zero = 0
 bound_var_count range k (suc j) = (if highest_bit_decides range k then 0 else 1) + bound_var_count range (k + 1) j
 
--- The number of variables for values and bounds.
+-- The number of variables for the literals of the values and bounds of an integer below `range`.
 abbrev pub value_bound_var_count : ℕ → ℕ
 value_bound_var_count range = value_var_count range + bound_var_count range 1 (bound_count range)
 
--- For an integer that is w: whether it is at most each of j values from k on.
+-- For an integer that is `w`: whether it is at most each of the `j` bounds from `k` on.
 abbrev pub bound_bits : ℕ → ℕ → ℕ → List Bool
 bound_bits w k zero = []
 bound_bits w k (suc j) = nat_le w k ∷ bound_bits w (k + 1) j
 
--- The values of the new variables.
+-- The truth values of the variables for `j` bounds from `k` on, if the integer is `w`.
 abbrev pub bound_vars_bits : ℕ → ℕ → ℕ → ℕ → List Bool
 bound_vars_bits range w k zero = []
 bound_vars_bits range w k (suc j) = at_most_bits range k w ++ bound_vars_bits range w (k + 1) j

@@ -3,22 +3,24 @@ use Rattle.std.specs.Prelude.{ℕ, suc, ◌+◌, Bool, true, false, List, [], �
 use Rattle.ilk_cnf.specs.Literal.{Literal, positive_lit, negated_lit}
 use Rattle.ilk_cnf.specs.Part.{FormulaPart, and_then}
 
--- v is true if and only if s or l is, and not both are.
+-- The clauses that say that `v` is true exactly if `s` or `l` is, and that not both are.
 abbrev pub disjoint_or_clauses : Literal → Literal → Literal → List (List Literal)
 disjoint_or_clauses s l v =
     (negated_lit l ∷ v ∷ []) ∷ (negated_lit s ∷ v ∷ []) ∷ (negated_lit v ∷ s ∷ l ∷ []) ∷ (negated_lit s ∷ negated_lit l ∷ []) ∷ []
 
--- A new variable, after n, that is true if and only if one of two literals is, and not both are.
+-- The formula part that adds a variable after the first `n`, true exactly if `s` or `l` is, and
+-- rules out both.
 abbrev pub disjoint_or_part : Literal → Literal → ℕ → FormulaPart
 disjoint_or_part s l n = record { vars = n + 1; clauses = disjoint_or_clauses s l (positive_lit (n + 1)) }
 
--- Joins the first two literals into a new one at the end, at most k times, until one is left, which
--- has to be true.
+-- The formula part that joins the first two literals into a new one at the end of the list. It
+-- repeats this at most `k` times, until one literal is left, and demands that one.
 abbrev pub join_pairs_until_one : ℕ → List Literal → ℕ → FormulaPart
 join_pairs_until_one (suc k) (s ∷ l ∷ ls) n = and_then (disjoint_or_part s l n) (join_pairs_until_one k (ls ++ positive_lit (n + 1) ∷ []))
 join_pairs_until_one k ls n = record { vars = n; clauses = ls ∷ [] }
 
--- Exactly one of the literals, after n variables. Without literals this can't be satisfied.
+-- The formula part, after the first `n` variables, that says that exactly one of the literals is
+-- true. Without literals it can't be satisfied.
 abbrev pub exactly_one_part : List Literal → ℕ → FormulaPart
 exactly_one_part ls n = join_pairs_until_one (length ls) ls n
 
@@ -33,12 +35,12 @@ exactly_one_true [] = false
 exactly_one_true (true ∷ qs) = none_true qs
 exactly_one_true (false ∷ qs) = exactly_one_true qs
 
--- The values of the new variables: the first two entries are joined into one at the end, true if at
--- least one of them is.
-abbrev pub joined_bits : ℕ → List Bool → List Bool
-joined_bits (suc k) (p ∷ q ∷ qs) = (p || q) ∷ joined_bits k (qs ++ (p || q) ∷ [])
-joined_bits k qs = []
+-- The truth values of the new variables of `join_pairs_until_one`, if the literals have these truth
+-- values.
+abbrev pub join_pairs_bits : ℕ → List Bool → List Bool
+join_pairs_bits (suc k) (p ∷ q ∷ qs) = (p || q) ∷ join_pairs_bits k (qs ++ (p || q) ∷ [])
+join_pairs_bits k qs = []
 
 -- The values of the new variables of `exactly_one_part`, if the literals have these values.
 abbrev pub exactly_one_bits : List Bool → List Bool
-exactly_one_bits qs = joined_bits (length qs) qs
+exactly_one_bits qs = join_pairs_bits (length qs) qs

@@ -1,24 +1,24 @@
 ghost use Rattle.std.specs.Prelude.{◌≡◌, ◌==◌, ℕ, ◌+◌, ◌-◌, ◌*◌, ◌<◌, ◌≤◌, ◌^◌, ◌∷◌, [], List, Bool, length, map, OnOk, IfOk, IsTrue};
-ghost use Rattle.ilk_cnf.specs.Extends.{PartExtensionsAreExactly, AreExactValues};
-ghost use Rattle.ilk_cnf.specs.Formula.{with_clauses, with_var_count, clause_unless_tautology, is_clause_over};
+ghost use Rattle.ilk_cnf.specs.Extends.{PartExtensionsAreExactly, EqualsGivenValues};
+ghost use Rattle.ilk_cnf.specs.Formula.{with_vars_and_clauses, with_var_count, clause_unless_tautology, is_clause_over};
 ghost use Rattle.ilk_cnf.specs.Literal.{negated_lit, positive_lit};
 ghost use Rattle.ilk_cnf.specs.Part.{with_part, clauses_from_lists, and_gate_clauses};
 ghost use Rattle.ilk_cnf.specs.Truth.{is_true, satisfies};
-ghost use Rattle.ilk_ints.specs.Bits.{bit_count, bits_of, bits_at, bit_pattern_lits};
+ghost use Rattle.ilk_ints.specs.Bits.{bit_count, lowest_bits_of, bits_at, bit_pattern_lits};
 ghost use Rattle.ilk_ints.specs.Number.{AreBitsInRange, non_value_clauses, number_part, value_lit_part, value_bit_lits, bits_have_value};
 
 use ilk_cnf::{Assignment, Cnf, Lit, Lits, define_and_gate, negated_lits};
 use std::alloc::{AllocError, Global};
 
 /// An integer from 0 to `range` - 1 in a formula. Its bits are the variables from `first` on,
-/// lowest bit first, as many as its greatest value needs.
+/// lowest bit first.
 #[derive(Clone, Copy)]
 pub struct Bounded {
     pub first: u64,
     pub range: u8,
 }
 
-/// Returns the number of bits that the values below `range` need.
+/// Returns the number of bits of an integer from 0 to `range` - 1.
 pub fn bit_count(range: u8) -> u64
     ensures count { result ≡ bit_count range }
     ensures enough { range ≤ 2 ^ result }
@@ -31,12 +31,10 @@ pub fn bit_count(range: u8) -> u64
     count
 }
 
-// Returns the literals that are all true if and only if the `count` variables from `first` on have
-// the bits of `value`.
 fn lits_of(alloc: Global, first: u64, count: u64, value: u64) -> Result<Lits, AllocError>
     requires from_1 { 0 < first }
     requires numbered { first + count ≤ 2 ^ 62 + 1 }
-    ensures { IfOk result (λ lits. lits ≡ bit_pattern_lits first (bits_of count value)) }
+    ensures { IfOk result (λ lits. lits ≡ bit_pattern_lits first (lowest_bits_of count value)) }
 {
     let mut lits = Lits::new(alloc);
     let mut rest = value;
@@ -47,8 +45,8 @@ fn lits_of(alloc: Global, first: u64, count: u64, value: u64) -> Result<Lits, Al
     Ok(lits)
 }
 
-/// Adds `count` variables to `cnf`.
-pub fn add_vars(cnf: &mut Cnf, count: u64) -> Result<(), AllocError>
+/// Adds `count` variables to `cnf`, and no clause.
+pub(crate) fn add_vars_to_cnf(cnf: &mut Cnf, count: u64) -> Result<(), AllocError>
     ensures { OnOk result (cnf.new ≡ with_var_count cnf.old (cnf.old.vars + count)) }
 {
     for _ in 0..count {
@@ -57,7 +55,6 @@ pub fn add_vars(cnf: &mut Cnf, count: u64) -> Result<(), AllocError>
     Ok(())
 }
 
-// Adds the clause that rules out the bits of `value`.
 fn rule_out_value(
     alloc: Global,
     cnf: &mut Cnf,
@@ -69,9 +66,9 @@ fn rule_out_value(
     requires within { first + count ≤ cnf.old.vars + 1 }
     ensures { OnOk result
         (cnf.new
-        ≡ with_clauses cnf.old cnf.old.vars
+        ≡ with_vars_and_clauses cnf.old cnf.old.vars
         (clause_unless_tautology
-        (map negated_lit (bit_pattern_lits first (bits_of count value))))) }
+        (map negated_lit (bit_pattern_lits first (lowest_bits_of count value))))) }
 {
     let _ = cnf.vars();
     let lits = lits_of(alloc, first, count, value)?;
@@ -80,7 +77,6 @@ fn rule_out_value(
     Ok(())
 }
 
-// Adds the clauses that rule out the bits of all numbers from `range` on.
 fn rule_out(
     alloc: Global,
     cnf: &mut Cnf,
@@ -93,7 +89,7 @@ fn rule_out(
     requires from_1 { 0 < first }
     requires within { first + count ≤ cnf.old.vars + 1 }
     ensures { OnOk result
-        (cnf.new ≡ with_clauses cnf.old cnf.old.vars
+        (cnf.new ≡ with_vars_and_clauses cnf.old cnf.old.vars
         (clauses_from_lists (non_value_clauses first range))) }
 {
     for value in u64::from(range)..1 << count {
@@ -102,34 +98,33 @@ fn rule_out(
     Ok(())
 }
 
-/// Adds the variables of an integer from 0 to `range` - 1, and no clause. If memory runs out, the
-/// formula may have grown; its owner drops it.
+/// Adds the variables of an integer from 0 to `range` - 1 to `cnf`, and no clause, and returns the
+/// integer. On error, `cnf` may have grown.
 pub fn reserve_number(cnf: &mut Cnf, range: u8) -> Result<Bounded, AllocError>
     ensures number { IfOk result (λ n. n ≡ record { first = cnf.old.vars + 1; range = range }) }
     ensures taken { OnOk result
         (cnf.new ≡ with_var_count cnf.old (cnf.old.vars + bit_count range)) }
 {
     let first = cnf.vars() + 1;
-    add_vars(cnf, bit_count(range))?;
+    add_vars_to_cnf(cnf, bit_count(range))?;
     Ok(Bounded { first, range })
 }
 
-/// Adds the clauses of an integer whose variables exist. If memory runs out, the formula may have
-/// grown; its owner drops it.
+/// Adds the clauses of the integer `n`, whose variables exist, to `cnf`. On error, `cnf` may have
+/// grown.
 pub fn add_number_clauses(alloc: Global, cnf: &mut Cnf, n: Bounded) -> Result<(), AllocError>
     requires from_1 { 0 < n.first }
     requires within { n.first + bit_count n.range ≤ cnf.old.vars + 1 }
     ensures { OnOk result
-        (cnf.new ≡ with_clauses cnf.old cnf.old.vars
+        (cnf.new ≡ with_vars_and_clauses cnf.old cnf.old.vars
         (clauses_from_lists (non_value_clauses n.first n.range))) }
 {
     rule_out(alloc, cnf, n.first, bit_count(n.range), n.range)?;
     Ok(())
 }
 
-/// Adds the variables and clauses of an integer from 0 to `range` - 1. An earlier assignment
-/// extends over the new variables in exactly one way per value. If memory runs out, the formula may
-/// have grown; its owner drops it.
+/// Adds an integer from 0 to `range` - 1 to `cnf`, and returns it. An earlier assignment extends
+/// over its variables in exactly one way per value. On error, `cnf` may have grown.
 pub fn number(alloc: Global, cnf: &mut Cnf, range: u8) -> Result<Bounded, AllocError>
     requires { 0 < range }
     ensures number { IfOk result (λ n. n ≡ record { first = cnf.old.vars + 1; range = range }) }
@@ -144,8 +139,8 @@ pub fn number(alloc: Global, cnf: &mut Cnf, range: u8) -> Result<Bounded, AllocE
     Ok(n)
 }
 
-/// Adds a variable and no clause, and returns its positive literal.
-pub fn reserve_lit(cnf: &mut Cnf) -> Result<Lit, AllocError>
+/// Adds a variable to `cnf`, and no clause, and returns its positive literal.
+pub fn new_var_lit(cnf: &mut Cnf) -> Result<Lit, AllocError>
     ensures lit { IfOk result (λ l. l ≡ positive_lit (cnf.old.vars + 1)) }
     ensures taken { OnOk result (cnf.new ≡ with_var_count cnf.old (cnf.old.vars + 1)) }
 {
@@ -153,9 +148,9 @@ pub fn reserve_lit(cnf: &mut Cnf) -> Result<Lit, AllocError>
     Ok(lit)
 }
 
-/// Adds the clauses that make `lit`, whose variable exists, true if and only if the integer is
-/// `value`. If memory runs out, the formula may have grown; its owner drops it.
-pub fn add_is_clauses(
+/// Adds clauses to `cnf` that make `lit`, whose variable exists, true exactly if the integer `n` is
+/// `value`. On error, `cnf` may have grown.
+pub fn add_value_lit_clauses(
     alloc: Global,
     cnf: &mut Cnf,
     n: Bounded,
@@ -167,7 +162,7 @@ pub fn add_is_clauses(
     requires lit { IsTrue (is_clause_over cnf.old.vars (lit ∷ [])) }
     ensures { OnOk result
         (cnf.new
-        ≡ with_clauses cnf.old cnf.old.vars
+        ≡ with_vars_and_clauses cnf.old cnf.old.vars
         (clauses_from_lists (and_gate_clauses lit (value_bit_lits n.first n.range value)))) }
 {
     let _ = cnf.vars();
@@ -176,8 +171,8 @@ pub fn add_is_clauses(
     Ok(())
 }
 
-/// Adds a variable that is true if and only if the integer is `value`, and returns its positive
-/// literal. If memory runs out, the formula may have grown; its owner drops it.
+/// Adds a variable to `cnf` that is true exactly if the integer `n` is `value`, and returns its
+/// positive literal. On error, `cnf` may have grown.
 pub fn is(alloc: Global, cnf: &mut Cnf, n: Bounded, value: u8) -> Result<Lit, AllocError>
     requires below { value < n.range }
     requires from_1 { 0 < n.first }
@@ -188,22 +183,21 @@ pub fn is(alloc: Global, cnf: &mut Cnf, n: Bounded, value: u8) -> Result<Lit, Al
     ensures law { OnOk result
         ((a : List Bool) → length a ≡ cnf.old.vars →
         PartExtensionsAreExactly a (value_lit_part n.first n.range value cnf.old.vars)
-        (AreExactValues (bits_have_value a n.first n.range value ∷ []))) }
+        (EqualsGivenValues (bits_have_value a n.first n.range value ∷ []))) }
 
-    // The bits are those of the value if and only if the integer is the value.
     ensures exact { OnOk result
         ((a : List Bool) (v : ℕ) → v < n.range →
-        bits_at a n.first (bit_count n.range) ≡ bits_of (bit_count n.range) v →
+        bits_at a n.first (bit_count n.range) ≡ lowest_bits_of (bit_count n.range) v →
         bits_have_value a n.first n.range value ≡ (v == value)) }
 {
     let _ = bit_count(n.range);
-    let lit = reserve_lit(cnf)?;
-    add_is_clauses(alloc, cnf, n, value, lit)?;
+    let lit = new_var_lit(cnf)?;
+    add_value_lit_clauses(alloc, cnf, n, value, lit)?;
     Ok(lit)
 }
 
-/// Returns the literal that is true if and only if an integer of range 2 is `value`. This is a
-/// literal of its only bit, so nothing is added.
+/// Returns the literal that is true exactly if the integer `n`, which has range 2, is `value`. It
+/// is a literal of the only bit, so nothing is added.
 pub fn one_bit_value_lit(n: Bounded, value: u8) -> Lit
     requires range { n.range ≡ 2 }
     requires value { value < 2 }
@@ -215,13 +209,14 @@ pub fn one_bit_value_lit(n: Bounded, value: u8) -> Lit
     Lit::new(n.first, value == 1)
 }
 
-/// Returns the value of the integer in the assignment.
+/// Returns the value of the integer `n` in the assignment `a`.
 pub fn value_of(n: Bounded, a: &Assignment) -> u8
     requires from_1 { 0 < n.first }
     requires reached { n.first + bit_count n.range ≤ length a.now + 1 }
     requires satisfied { IsTrue
         (satisfies a.now (clauses_from_lists (non_value_clauses n.first n.range))) }
-    ensures bits { bits_at a.now n.first (bit_count n.range) ≡ bits_of (bit_count n.range) result }
+    ensures bits { bits_at a.now n.first (bit_count n.range) ≡
+        lowest_bits_of (bit_count n.range) result }
     ensures below { result < n.range }
 {
     let count = bit_count(n.range);

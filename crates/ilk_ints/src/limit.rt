@@ -1,18 +1,18 @@
 ghost use Rattle.std.specs.Prelude.{◌≡◌, ◌==◌, ℕ, ◌+◌, ◌-◌, ◌<◌, ◌≤◌, ◌^◌, ◌∷◌, ◌++◌, [], List, Bool, length, nat_le, nat_lt, OnOk, IfOk, IsTrue};
-ghost use Rattle.ilk_cnf.specs.Extends.{PartExtensionsAreExactly, AreExactValues};
+ghost use Rattle.ilk_cnf.specs.Extends.{PartExtensionsAreExactly, EqualsGivenValues};
 ghost use Rattle.ilk_cnf.specs.Formula.{is_clause_over, with_var_count};
 ghost use Rattle.ilk_cnf.specs.Part.{with_part};
 ghost use Rattle.ilk_cnf.specs.Truth.{is_true};
 ghost use Rattle.ilk_ints.specs.AtMost.{at_most_part, at_most_lit, at_most_bits, highest_bit_decides};
-ghost use Rattle.ilk_ints.specs.Bits.{bit_count, bits_of, bits_at};
+ghost use Rattle.ilk_ints.specs.Bits.{bit_count, lowest_bits_of, bits_at};
 
 use crate::bounded::{Bounded, bit_count};
 use ilk_cnf::{Cnf, Lit, define_and_gate};
 use std::alloc::{AllocError, Global};
 
-/// Returns whether the highest bit of an integer of `range` is false if and only if the integer is
-/// at most `k`.
-pub fn highest_bit_decides(range: u8, k: u8) -> bool
+/// Returns whether the highest bit alone decides: an integer from 0 to `range` - 1 is at most `k`
+/// exactly if this bit is false.
+pub(crate) fn highest_bit_decides(range: u8, k: u8) -> bool
     requires { 1 < range }
     ensures says { result ≡ highest_bit_decides range k }
     ensures enough { range ≤ 2 ^ bit_count range }
@@ -22,10 +22,10 @@ pub fn highest_bit_decides(range: u8, k: u8) -> bool
     u64::from(k) + 1 == 1u64 << (count - 1)
 }
 
-/// Returns a literal that is true if and only if the integer `n` is at most `k`. It is the negated
-/// highest bit if that says so, and otherwise of the next variable after the `used` ones, which
-/// exists. `below` is true if the integer is below `k`, and `equal` if it is `k`. If memory runs
-/// out, the formula may have grown; its owner drops it.
+/// Returns a literal that is true exactly if the integer `n` is at most `k`. The literals `below`
+/// and `equal` say that it is less than `k`, or is `k`. If the highest bit decides, the result is
+/// its negation. Otherwise clauses for the next variable after the first `used` ones, which exists,
+/// are added to `cnf`, and `used` grows by 1. On error, `cnf` may have grown.
 pub fn add_bound_lit(
     alloc: Global,
     cnf: &mut Cnf,
@@ -51,13 +51,13 @@ pub fn add_bound_lit(
     // If the integer is v, and `below` and `equal` have their meaning.
     ensures law { OnOk result
         ((a : List Bool) (v : ℕ) → length a ≡ used.old → v < n.range →
-        bits_at a n.first (bit_count n.range) ≡ bits_of (bit_count n.range) v →
+        bits_at a n.first (bit_count n.range) ≡ lowest_bits_of (bit_count n.range) v →
         is_true a below ≡ nat_lt v k → is_true a equal ≡ (v == k) →
         PartExtensionsAreExactly a (at_most_part n.range k below equal used.old)
-        (AreExactValues (at_most_bits n.range k v))) }
+        (EqualsGivenValues (at_most_bits n.range k v))) }
     ensures exact { OnOk result
         ((a : List Bool) (v : ℕ) → length a ≡ used.old → v < n.range →
-        bits_at a n.first (bit_count n.range) ≡ bits_of (bit_count n.range) v →
+        bits_at a n.first (bit_count n.range) ≡ lowest_bits_of (bit_count n.range) v →
         is_true (a ++ at_most_bits n.range k v) (at_most_lit n.first n.range k used.old)
         ≡ nat_le v k) }
 {

@@ -1,6 +1,6 @@
 ghost use Rattle.std.specs.Prelude.{◌≡◌, ◌+◌, ◌*◌, ◌≤◌, ◌∷◌, ◌++◌, [], List, Bool, length, map, OnOk, IsTrue};
-ghost use Rattle.ilk_cnf.specs.Extends.{PartExtensionsAreExactly, PassesWithExactValues};
-ghost use Rattle.ilk_cnf.specs.Formula.{is_clause_over, with_clauses};
+ghost use Rattle.ilk_cnf.specs.Extends.{PartExtensionsAreExactly, PassesAndEqualsGivenValues};
+ghost use Rattle.ilk_cnf.specs.Formula.{is_clause_over, with_vars_and_clauses};
 ghost use Rattle.ilk_cnf.specs.Literal.{positive_lit};
 ghost use Rattle.ilk_cnf.specs.Part.{with_part, clauses_from_lists};
 ghost use Rattle.ilk_cnf.specs.Truth.{is_true};
@@ -9,12 +9,11 @@ ghost use Rattle.ilk_ints.specs.OneOf.{disjoint_or_clauses, disjoint_or_part, ex
 use ilk_cnf::{Clause, Cnf, Lit};
 use std::alloc::{AllocError, Global};
 
-// Adds the clauses that make `join_pairs_until_one` true if and only if `s` or `l` is, and that
-// forbid both.
+// Adds the clauses that make `joined` true exactly if `s` or `l` is, and that rule out both.
 fn add_either(cnf: &mut Cnf, s: Lit, l: Lit, joined: Lit) -> Result<(), AllocError>
     requires { IsTrue (is_clause_over cnf.old.vars (s ∷ l ∷ joined ∷ [])) }
     ensures { OnOk result
-        (cnf.new ≡ with_clauses cnf.old cnf.old.vars
+        (cnf.new ≡ with_vars_and_clauses cnf.old cnf.old.vars
         (clauses_from_lists (disjoint_or_clauses s l joined))) }
 {
     cnf.add_clause_from_lits(&[l.negated(), joined])?;
@@ -24,8 +23,6 @@ fn add_either(cnf: &mut Cnf, s: Lit, l: Lit, joined: Lit) -> Result<(), AllocErr
     Ok(())
 }
 
-// Adds a variable that is true if and only if `s` or `l` is, forbids both, and appends its literal
-// to the queue.
 fn join(cnf: &mut Cnf, queue: &mut Vec<Lit>, s: Lit, l: Lit) -> Result<(), AllocError>
     requires { IsTrue (is_clause_over cnf.old.vars (s ∷ l ∷ [])) }
     ensures made { OnOk result (cnf.new ≡ with_part cnf.old (disjoint_or_part s l cnf.old.vars)) }
@@ -56,8 +53,8 @@ fn join_all(cnf: &mut Cnf, queue: Vec<Lit>) -> Result<(), AllocError>
     Ok(())
 }
 
-/// Adds the constraint that exactly one of `lits` is true. If memory runs out, the formula may have
-/// grown; its owner drops it.
+/// Adds clauses to `cnf` that say that exactly one of `lits` is true. On error, `cnf` may have
+/// grown.
 pub fn one_of(alloc: Global, cnf: &mut Cnf, lits: &Clause) -> Result<(), AllocError>
     requires { IsTrue (is_clause_over cnf.old.vars lits.now) }
     ensures made { OnOk result
@@ -65,7 +62,7 @@ pub fn one_of(alloc: Global, cnf: &mut Cnf, lits: &Clause) -> Result<(), AllocEr
     ensures law { OnOk result
         ((a : List Bool) → length a ≡ cnf.old.vars →
         PartExtensionsAreExactly a (exactly_one_part lits.now cnf.old.vars)
-        (PassesWithExactValues (exactly_one_true (map (is_true a) lits.now))
+        (PassesAndEqualsGivenValues (exactly_one_true (map (is_true a) lits.now))
         (exactly_one_bits (map (is_true a) lits.now)))) }
     ensures few { OnOk result
         (length cnf.new.clauses ≤ length cnf.old.clauses + 4 * length lits.now + 1) }

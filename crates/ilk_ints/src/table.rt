@@ -1,20 +1,20 @@
 ghost use Rattle.std.specs.Prelude.{◌≡◌, ◌==◌, ℕ, ◌+◌, ◌-◌, ◌<◌, ◌≤◌, ◌^◌, ◌∷◌, ◌++◌, [], List, Bool, min, length, map, OnOk, IfOk, IsTrue};
-ghost use Rattle.ilk_cnf.specs.Extends.{PartExtensionsAreExactly, AreExactValues};
+ghost use Rattle.ilk_cnf.specs.Extends.{PartExtensionsAreExactly, EqualsGivenValues};
 ghost use Rattle.ilk_cnf.specs.Formula.{is_clause_over, with_var_count};
 ghost use Rattle.ilk_cnf.specs.Literal.{positive_lit};
 ghost use Rattle.ilk_cnf.specs.Part.{with_part};
 ghost use Rattle.ilk_cnf.specs.Truth.{is_true};
-ghost use Rattle.ilk_ints.specs.Bits.{bit_count, bits_at, bits_of};
+ghost use Rattle.ilk_ints.specs.Bits.{bit_count, bits_at, lowest_bits_of};
 ghost use Rattle.ilk_ints.specs.Number.{value_lit_part};
 ghost use Rattle.ilk_ints.specs.Named.{value_lits_from, value_lits_part, one_hot_bits, one_hot_var_bits, value_var_count, bound_var_count, value_bound_var_count, bound_count, bound_lits_from, bound_lits_part, bound_bits, bound_vars_bits};
 
-use crate::bounded::{Bounded, add_is_clauses, add_vars, bit_count, one_bit_value_lit};
+use crate::bounded::{
+    Bounded, add_value_lit_clauses, add_vars_to_cnf, bit_count, one_bit_value_lit,
+};
 use crate::limit::{add_bound_lit, highest_bit_decides};
 use ilk_cnf::{Cnf, Lit, Lits};
 use std::alloc::{AllocError, Global};
 
-// Adds the clauses that make the next variable after the `used` ones, which exists, true if and
-// only if the integer is `value`.
 fn next_is(
     alloc: Global,
     cnf: &mut Cnf,
@@ -35,11 +35,10 @@ fn next_is(
     let _ = cnf.vars();
     *used += 1;
     let lit = Lit::new(*used, true);
-    add_is_clauses(alloc, cnf, n, value, lit)?;
+    add_value_lit_clauses(alloc, cnf, n, value, lit)?;
     Ok(lit)
 }
 
-// Adds the clauses of a literal for each value of the integer.
 fn add_values(alloc: Global, cnf: &mut Cnf, used: &mut u64, n: Bounded) -> Result<Lits, AllocError>
     requires from_1 { 0 < n.first }
     requires within { n.first + bit_count n.range ≤ used.old + 1 }
@@ -59,9 +58,10 @@ fn add_values(alloc: Global, cnf: &mut Cnf, used: &mut u64, n: Bounded) -> Resul
     Ok(lits)
 }
 
-/// Returns a literal for each value, true if and only if the integer has it. They belong to the
-/// next variables after the `used` ones, which exist. For a range of 2 they are the literals of the
-/// bit, and nothing is added. If memory runs out, the formula may have grown; its owner drops it.
+/// Returns a literal for each value of the integer `n`, true exactly if `n` has it. The literals
+/// belong to the next variables after the first `used` ones, which exist, and `used` grows by their
+/// number. For range 2 they are the literals of the bit, and nothing is added. On error, `cnf` may
+/// have grown.
 pub fn add_value_lits(
     alloc: Global,
     cnf: &mut Cnf,
@@ -81,12 +81,12 @@ pub fn add_value_lits(
     // If the integer is w, the new variables have exactly one assignment, and the literals say w.
     ensures law { OnOk result
         ((a : List Bool) (w : ℕ) → length a ≡ used.old → w < n.range →
-        bits_at a n.first (bit_count n.range) ≡ bits_of (bit_count n.range) w →
+        bits_at a n.first (bit_count n.range) ≡ lowest_bits_of (bit_count n.range) w →
         PartExtensionsAreExactly a (value_lits_part n.first n.range used.old).part
-        (AreExactValues (one_hot_var_bits n.range w))) }
+        (EqualsGivenValues (one_hot_var_bits n.range w))) }
     ensures exact { OnOk result
         ((a c : List Bool) (w : ℕ) → length a ≡ used.old → w < n.range →
-        bits_at a n.first (bit_count n.range) ≡ bits_of (bit_count n.range) w →
+        bits_at a n.first (bit_count n.range) ≡ lowest_bits_of (bit_count n.range) w →
         map (is_true (a ++ (one_hot_var_bits n.range w ++ c)))
         (value_lits_part n.first n.range used.old).lits
         ≡ one_hot_bits w 0 n.range) }
@@ -101,7 +101,6 @@ pub fn add_value_lits(
     Ok(lits)
 }
 
-// Returns the literals of an integer of range 2.
 fn two_values(alloc: Global, n: Bounded) -> Result<Lits, AllocError>
     requires range { n.range ≡ 2 }
     requires from_1 { 0 < n.first }
@@ -117,7 +116,6 @@ fn two_values(alloc: Global, n: Bounded) -> Result<Lits, AllocError>
     Ok(lits)
 }
 
-// Returns the number of bounds that get a literal.
 fn bound_count(range: u8) -> u64
     ensures count { result ≡ bound_count range }
     ensures few { result ≤ range - 3 }
@@ -128,7 +126,6 @@ fn bound_count(range: u8) -> u64
         .min(values.saturating_sub(bit_count(range)))
 }
 
-// Returns the number of variables for the literals of the bounds.
 fn bounds_vars(range: u8) -> u64
     ensures count { result ≡ bound_var_count range 1 (bound_count range) }
     ensures few { result ≤ 256 }
@@ -144,19 +141,17 @@ fn bounds_vars(range: u8) -> u64
     count
 }
 
-/// Adds the variables for the literals of an integer's values and bounds, and no clause. If memory
-/// runs out, the formula may have grown; its owner drops it.
+/// Adds the variables for the literals of an integer's values and bounds to `cnf`, and no clause.
+/// The integer is from 0 to `range` - 1. On error, `cnf` may have grown.
 pub fn reserve_value_bound_lits(cnf: &mut Cnf, range: u8) -> Result<(), AllocError>
     ensures { OnOk result
         (cnf.new ≡ with_var_count cnf.old (cnf.old.vars + value_bound_var_count range)) }
 {
     let values = if range == 2 { 0 } else { u64::from(range) };
-    add_vars(cnf, values + bounds_vars(range))?;
+    add_vars_to_cnf(cnf, values + bounds_vars(range))?;
     Ok(())
 }
 
-// Adds the clauses for the bounds from 1 on. Each literal of `equals` says that the integer is the
-// bound.
 fn add_bounds(
     alloc: Global,
     cnf: &mut Cnf,
@@ -192,7 +187,6 @@ fn add_bounds(
     Ok(lits)
 }
 
-// The same as `add_bound_lits`.
 fn bounds_of(
     alloc: Global,
     cnf: &mut Cnf,
@@ -223,11 +217,10 @@ fn bounds_of(
     }
 }
 
-/// Returns a literal for each bound k, true if and only if the integer is at most k. The bounds run
-/// from 1 on, with at least two values of the integer on each side and at most two variables per
-/// value. Their variables are the next after the `used` ones, and exist. `values` are the literals
-/// that `add_value_lits` returns. If memory runs out, the formula may have grown; its owner drops
-/// it.
+/// Returns a literal for each bound k from 1 on, true exactly if the integer `n` is at most k. Only
+/// the bounds with at least two values on each side have one, within two variables per value in
+/// total. They belong to the next variables after the first `used` ones, which exist. `values` are
+/// the literals of the values, from `add_value_lits`. On error, `cnf` may have grown.
 pub fn add_bound_lits(
     alloc: Global,
     cnf: &mut Cnf,
@@ -252,13 +245,13 @@ pub fn add_bound_lits(
     // If the integer is w, and the literals of its values say so.
     ensures law { OnOk result
         ((a : List Bool) (w : ℕ) → length a ≡ used.old → w < n.range →
-        bits_at a n.first (bit_count n.range) ≡ bits_of (bit_count n.range) w →
+        bits_at a n.first (bit_count n.range) ≡ lowest_bits_of (bit_count n.range) w →
         map (is_true a) values.now ≡ one_hot_bits w 0 n.range →
         PartExtensionsAreExactly a (bound_lits_part n.first n.range values.now used.old).part
-        (AreExactValues (bound_vars_bits n.range w 1 (bound_count n.range)))) }
+        (EqualsGivenValues (bound_vars_bits n.range w 1 (bound_count n.range)))) }
     ensures exact { OnOk result
         ((a c : List Bool) (w : ℕ) → length a ≡ used.old → w < n.range →
-        bits_at a n.first (bit_count n.range) ≡ bits_of (bit_count n.range) w →
+        bits_at a n.first (bit_count n.range) ≡ lowest_bits_of (bit_count n.range) w →
         map (is_true a) values.now ≡ one_hot_bits w 0 n.range →
         map (is_true (a ++ (bound_vars_bits n.range w 1 (bound_count n.range) ++ c)))
         (bound_lits_part n.first n.range values.now used.old).lits

@@ -13,7 +13,7 @@ use Rattle.ilk_base.proofs.Ranges.{below_or_past, range-at, range_within}
 use Rattle.ilk_base.proofs.Tested.{list_all-slice_get, all-pass}
 use Rattle.ilk_base.proofs.Numbered.{enumerated, enumerated-at}
 use Rattle.ilk_ir.specs.Tree.{tree_holds}
-use Rattle.ilk_plant.specs.Network.{has_section}
+use Rattle.ilk_plant.specs.Network.{contains_section}
 use Rattle.ilk_plant.specs.Plant.{IsPlant, PlantLists}
 use Rattle.ilk_plant.specs.Shape.{HasShape}
 use Rattle.ilk_plant.specs.TableRules.{sections_locked_for}
@@ -21,12 +21,12 @@ use Rattle.ilk_plant.specs.declared.state.RouteState.{RouteState}
 use Rattle.ilk_plant.specs.declared.state.State.{State}
 use Rattle.ilk_plant.specs.declared.table.Route.{Route}
 use Rattle.ilk_routes.specs.Claims.{sections_outside_path}
-use Rattle.ilk_model.specs.Families.{keeps_v2}
+use Rattle.ilk_model.specs.Families.{keeps_v2_sections_held_once}
 use Rattle.ilk_model.specs.Holding.{holds_section, is_holding_state, is_unreleased_on_path, route_holds}
 use Rattle.ilk_model.proofs.Kept.{kept-on_path}
 use Rattle.ilk_layout.specs.Image.{image_of}
 use Rattle.ilk_invs.specs.declared.hold_family.TheConstants.{MAX_ORDERED_HOLDERS}
-use Rattle.ilk_invs.specs.HoldFamilies.{at_most_one_by_halves, at_most_one_in_order, at_most_one_holder, holders, may_hold, none_before_if_holding, none_holding, not_in_both, v2_tree}
+use Rattle.ilk_invs.specs.HoldFamilies.{at_most_one_by_halves, at_most_one_in_order, at_most_one_holder, possible_holders, may_hold, none_before_if_holding, none_holding, not_held_by_both_groups, v2_sections_held_once_tree}
 use Rattle.ilk_invs.proofs.PartLaws.{each_of-holds, state_of_route}
 use Rattle.ilk_invs.proofs.Sections.{sections_of_route}
 use Rattle.ilk_invs.proofs.Tests.{dropped-at}
@@ -38,13 +38,13 @@ module _ (p : PlantLists) (plant : IsPlant p) (s : State) (shape : HasShape p s)
       let route = item_at p.routes r within in
       let now = state_of_route p s shape r route.0 route.1 in
       let holds : holds_section x route.0 now.0 ≡ true = (rw (route.1, now.1) at h) in
-      rw route.1 (locked route.0 now.0 (and_parts (is_holding_state now.0) (has_section x (sections_outside_path route.0) || is_unreleased_on_path route.0 now.0 x) holds).1)
+      rw route.1 (locked route.0 now.0 (and_parts (is_holding_state now.0) (contains_section x (sections_outside_path route.0) || is_unreleased_on_path route.0 now.0 x) holds).1)
     where
-      locked : (route : Route) (now : RouteState) → (has_section x (sections_outside_path route) || is_unreleased_on_path route now x) ≡ true → has_section x (sections_locked_for route) ≡ true
+      locked : (route : Route) (now : RouteState) → (contains_section x (sections_outside_path route) || is_unreleased_on_path route now x) ≡ true → contains_section x (sections_locked_for route) ≡ true
       locked route now e =
-          sections_of_route x route ∙ elim (or_cases (has_section x (sections_outside_path route)) (is_unreleased_on_path route now x) e) [
-            | inl beside ↦ or_right (has_section x route.path) (has_section x (sections_outside_path route)) beside
-            | inr kept ↦ or_left (has_section x route.path) (has_section x (sections_outside_path route)) (kept-on_path route now x kept)
+          sections_of_route x route ∙ elim (or_cases (contains_section x (sections_outside_path route)) (is_unreleased_on_path route now x) e) [
+            | inl beside ↦ or_right (contains_section x route.path) (contains_section x (sections_outside_path route)) beside
+            | inr kept ↦ or_left (contains_section x route.path) (contains_section x (sections_outside_path route)) (kept-on_path route now x kept)
           ]
 
   two-in-order : (x : ℕ) (routes : List ℕ) → ((i q : ℕ) → slice_get routes i ≡ Some q → q < length p.routes) →
@@ -67,7 +67,7 @@ module _ (p : PlantLists) (plant : IsPlant p) (s : State) (shape : HasShape p s)
   one-of-both : (x : ℕ) (these those : List ℕ) →
       ((i q : ℕ) → slice_get these i ≡ Some q → q < length p.routes) →
       ((i q : ℕ) → slice_get those i ≡ Some q → q < length p.routes) →
-      tree_holds (image_of p s) (not_in_both p x these those) ≡ true → (i j r q : ℕ) →
+      tree_holds (image_of p s) (not_held_by_both_groups p x these those) ≡ true → (i j r q : ℕ) →
       slice_get these i ≡ Some r → slice_get those j ≡ Some q → route_holds p s r x ≡ true →
       route_holds p s q x ≡ true → ⊥
   one-of-both x these those known also_known h i j r q at also one two =
@@ -81,7 +81,7 @@ module _ (p : PlantLists) (plant : IsPlant p) (s : State) (shape : HasShape p s)
       ]
 
   of-parts : (x n : ℕ) (routes : List ℕ) → ((i q : ℕ) → slice_get routes i ≡ Some q → q < length p.routes) →
-      tree_holds (image_of p s) (not_in_both p x (take n routes) (drop n routes)) ≡ true →
+      tree_holds (image_of p s) (not_held_by_both_groups p x (take n routes) (drop n routes)) ≡ true →
       ((i j r q : ℕ) → i < j → slice_get (take n routes) i ≡ Some r → slice_get (take n routes) j ≡ Some q →
       route_holds p s r x ≡ true → route_holds p s q x ≡ true → ⊥) →
       ((i j r q : ℕ) → i < j → slice_get (drop n routes) i ≡ Some r → slice_get (drop n routes) j ≡ Some q →
@@ -116,7 +116,7 @@ module _ (p : PlantLists) (plant : IsPlant p) (s : State) (shape : HasShape p s)
       by_size : (few : Bool) →
           list_all (tree_holds (image_of p s))
           (if few then at_most_one_in_order p x routes
-          else not_in_both p x (take (length routes / 2) routes) (drop (length routes / 2) routes)
+          else not_held_by_both_groups p x (take (length routes / 2) routes) (drop (length routes / 2) routes)
           ∷ at_most_one_by_halves n p x (take (length routes / 2) routes)
           ++ at_most_one_by_halves n p x (drop (length routes / 2) routes)) ≡ true →
           (list_all (tree_holds (image_of p s)) (at_most_one_by_halves n p x (take (length routes / 2) routes))
@@ -133,7 +133,7 @@ module _ (p : PlantLists) (plant : IsPlant p) (s : State) (shape : HasShape p s)
       by_size false h early late =
           let parts = and_parts
           (tree_holds (image_of p s)
-          (not_in_both p x (take (length routes / 2) routes) (drop (length routes / 2) routes)))
+          (not_held_by_both_groups p x (take (length routes / 2) routes) (drop (length routes / 2) routes)))
           (list_all (tree_holds (image_of p s))
           (at_most_one_by_halves n p x (take (length routes / 2) routes)
           ++ at_most_one_by_halves n p x (drop (length routes / 2) routes))) h in
@@ -146,7 +146,6 @@ module _ (p : PlantLists) (plant : IsPlant p) (s : State) (shape : HasShape p s)
           (at_most_one_by_halves n p x (drop (length routes / 2) routes))) ∙ parts.1) in
           of-parts x (length routes / 2) routes known parts.0 (early halves.0) (late halves.1) i j r q less at also one two
 
-  -- If no two routes hold a section, its condition holds: in order, for two lists, and by halves.
   in-order : (x : ℕ) (routes : List ℕ) → ((i q : ℕ) → slice_get routes i ≡ Some q → q < length p.routes) →
       ((i j r q : ℕ) → i < j → slice_get routes i ≡ Some r → slice_get routes j ≡ Some q →
       route_holds p s r x ≡ true → route_holds p s q x ≡ true → ⊥) →
@@ -166,10 +165,10 @@ module _ (p : PlantLists) (plant : IsPlant p) (s : State) (shape : HasShape p s)
       ((i q : ℕ) → slice_get those i ≡ Some q → q < length p.routes) →
       ((i j r q : ℕ) → slice_get these i ≡ Some r → slice_get those j ≡ Some q → route_holds p s r x ≡ true →
       route_holds p s q x ≡ true → ⊥) →
-      tree_holds (image_of p s) (not_in_both p x these those) ≡ true
+      tree_holds (image_of p s) (not_held_by_both_groups p x these those) ≡ true
   of-both x these those known also_known never = by_first (tree_holds (image_of p s) (none_holding p x these)) refl
     where
-      by_first : (b : Bool) → tree_holds (image_of p s) (none_holding p x these) ≡ b → tree_holds (image_of p s) (not_in_both p x these those) ≡ true
+      by_first : (b : Bool) → tree_holds (image_of p s) (none_holding p x these) ≡ b → tree_holds (image_of p s) (not_held_by_both_groups p x these those) ≡ true
       by_first true e = or_left (tree_holds (image_of p s) (none_holding p x these)) (tree_holds (image_of p s) (none_holding p x those) || false) e
       by_first false e =
           or_right (tree_holds (image_of p s) (none_holding p x these)) (tree_holds (image_of p s) (none_holding p x those) || false)
@@ -195,7 +194,7 @@ module _ (p : PlantLists) (plant : IsPlant p) (s : State) (shape : HasShape p s)
       (by-halves n x (drop (length routes / 2) routes) (dropped-known p plant s shape routes (length routes / 2) known) (λ i j r q less at also one two.
       never (length routes / 2 + i) (length routes / 2 + j) r q (omega (arith, less)) (dropped-at (length routes / 2) routes i r at) (dropped-at (length routes / 2) routes j q also) one two))
     where
-      both : tree_holds (image_of p s) (not_in_both p x (take (length routes / 2) routes) (drop (length routes / 2) routes)) ≡ true
+      both : tree_holds (image_of p s) (not_held_by_both_groups p x (take (length routes / 2) routes) (drop (length routes / 2) routes)) ≡ true
       both =
           of-both x (take (length routes / 2) routes) (drop (length routes / 2) routes) (taken-known p plant s shape routes (length routes / 2) known) (dropped-known p plant s shape routes (length routes / 2) known) (λ i j r q at also one two.
           let here = taken-before (length routes / 2) routes i r at in
@@ -209,14 +208,14 @@ module _ (p : PlantLists) (plant : IsPlant p) (s : State) (shape : HasShape p s)
           ≡ true →
           list_all (tree_holds (image_of p s))
           (if few then at_most_one_in_order p x routes
-          else not_in_both p x (take (length routes / 2) routes) (drop (length routes / 2) routes)
+          else not_held_by_both_groups p x (take (length routes / 2) routes) (drop (length routes / 2) routes)
           ∷ at_most_one_by_halves n p x (take (length routes / 2) routes)
           ++ at_most_one_by_halves n p x (drop (length routes / 2) routes)) ≡ true
       by_size true here there = in-order x routes known never
       by_size false here there =
           and_from
           (tree_holds (image_of p s)
-          (not_in_both p x (take (length routes / 2) routes) (drop (length routes / 2) routes)))
+          (not_held_by_both_groups p x (take (length routes / 2) routes) (drop (length routes / 2) routes)))
           (list_all (tree_holds (image_of p s))
           (at_most_one_by_halves n p x (take (length routes / 2) routes)
           ++ at_most_one_by_halves n p x (drop (length routes / 2) routes))) both
@@ -226,14 +225,14 @@ module _ (p : PlantLists) (plant : IsPlant p) (s : State) (shape : HasShape p s)
   apart_test : ℕ → ℕ → Bool
   apart_test r q = r == q || all_below (length p.sections) (λ x. not (route_holds p s r x && route_holds p s q x))
 
-  pub v2-law : tree_holds (image_of p s) (v2_tree p) ≡ keeps_v2 p s
+  pub v2-law : tree_holds (image_of p s) (v2_sections_held_once_tree p) ≡ keeps_v2_sections_held_once p s
   unfolding apart_test
   v2-law =
       each_of-holds (image_of p s) (flat_map (at_most_one_holder p) (range_with_len 0 (length p.sections)))
       ∙ list_all-flat_map (tree_holds (image_of p s)) (at_most_one_holder p) (range_with_len 0 (length p.sections))
-      ∙ same_truth (list_all (λ x. list_all (tree_holds (image_of p s)) (at_most_one_holder p x)) (range_with_len 0 (length p.sections))) (keeps_v2 p s) forth back
+      ∙ same_truth (list_all (λ x. list_all (tree_holds (image_of p s)) (at_most_one_holder p x)) (range_with_len 0 (length p.sections))) (keeps_v2_sections_held_once p s) forth back
     where
-      forth : list_all (λ x. list_all (tree_holds (image_of p s)) (at_most_one_holder p x)) (range_with_len 0 (length p.sections)) ≡ true → keeps_v2 p s ≡ true
+      forth : list_all (λ x. list_all (tree_holds (image_of p s)) (at_most_one_holder p x)) (range_with_len 0 (length p.sections)) ≡ true → keeps_v2_sections_held_once p s ≡ true
       forth h =
           all-pass (λ r. all_below (length p.routes) (apart_test r)) (range_with_len 0 (length p.routes)) (λ i r first.
           all-pass (apart_test r) (range_with_len 0 (length p.routes)) (λ k q second.
@@ -245,11 +244,11 @@ module _ (p : PlantLists) (plant : IsPlant p) (s : State) (shape : HasShape p s)
               let first = filter-place (may_hold p x) (range_with_len 0 (length p.routes)) r r (range-at (length p.routes) r one_known) (may-hold x r one_known one) in
               let second = filter-place (may_hold p x) (range_with_len 0 (length p.routes)) q q (range-at (length p.routes) q two_known) (may-hold x q two_known two) in
               elim (below_or_past first.0 second.0) [
-                | inl less ↦ no-two (length (holders p x)) x (holders p x) (holder-known p plant s shape x) all first.0 second.0 r q less first.1 second.1 one two
+                | inl less ↦ no-two (length (possible_holders p x)) x (possible_holders p x) (holder-known p plant s shape x) all first.0 second.0 r q less first.1 second.1 one two
                 | inr past ↦
                     elim (cases_eq first.0 second.0) [
-                      | inl same ↦ apart (same_Some r q (sym first.1 ∙ ap (slice_get (holders p x)) same ∙ second.1))
-                      | inr other ↦ no-two (length (holders p x)) x (holders p x) (holder-known p plant s shape x) all second.0 first.0 q r (omega (arith, past, other)) second.1 first.1 two one
+                      | inl same ↦ apart (same_Some r q (sym first.1 ∙ ap (slice_get (possible_holders p x)) same ∙ second.1))
+                      | inr other ↦ no-two (length (possible_holders p x)) x (possible_holders p x) (holder-known p plant s shape x) all second.0 first.0 q r (omega (arith, past, other)) second.1 first.1 two one
                     ]
               ]
 
@@ -268,13 +267,13 @@ module _ (p : PlantLists) (plant : IsPlant p) (s : State) (shape : HasShape p s)
                     both x r q apart (range_within (length p.sections) i x found).1 one_known two_known (route_holds p s r x) (route_holds p s q x) refl refl))
               ]
 
-      back : keeps_v2 p s ≡ true → list_all (λ x. list_all (tree_holds (image_of p s)) (at_most_one_holder p x)) (range_with_len 0 (length p.sections)) ≡ true
+      back : keeps_v2_sections_held_once p s ≡ true → list_all (λ x. list_all (tree_holds (image_of p s)) (at_most_one_holder p x)) (range_with_len 0 (length p.sections)) ≡ true
       back h =
           all-pass (λ x. list_all (tree_holds (image_of p s)) (at_most_one_holder p x)) (range_with_len 0 (length p.sections)) (λ i x found.
-          by-halves (length (holders p x)) x (holders p x) (holder-known p plant s shape x) (λ j k r q less at also one two.
+          by-halves (length (possible_holders p x)) x (possible_holders p x) (holder-known p plant s shape x) (λ j k r q less at also one two.
           never x j k r q (range_within (length p.sections) i x found).1 less at also one two))
         where
-          never : (x j k r q : ℕ) → x < length p.sections → j < k → slice_get (holders p x) j ≡ Some r → slice_get (holders p x) k ≡ Some q → route_holds p s r x ≡ true → route_holds p s q x ≡ true → ⊥
+          never : (x j k r q : ℕ) → x < length p.sections → j < k → slice_get (possible_holders p x) j ≡ Some r → slice_get (possible_holders p x) k ≡ Some q → route_holds p s r x ≡ true → route_holds p s q x ≡ true → ⊥
           never x j k r q inside less at also one two =
               let r_known = holder-known p plant s shape x j r at in
               let q_known = holder-known p plant s shape x k q also in

@@ -1,4 +1,4 @@
--- The condition of V3 holds if and only if the state keeps V3; the routes that hold a section.
+-- The condition of V3 holds if and only if the state keeps V3.
 use Rattle.std.proofs.Common.{◌≡◌, ℕ, zero, suc, ◌+◌, ◌-◌, ◌<◌, ◌≤◌, Bool, true, false, not, ◌&&◌, ◌||◌, cond, Some, List, [], ◌∷◌, ◌++◌, drop, filter, length, map, nat_le, nat_lt, slice_get, take, inl, inr, refl, ◌∙◌, ap, arith}
 use Rattle.std.proofs.Math.Bool.{and-true}
 use Rattle.std.specs.Prelude.{if◌then◌else◌}
@@ -20,15 +20,15 @@ use Rattle.ilk_plant.specs.declared.state.RouteState.{RouteState}
 use Rattle.ilk_plant.specs.declared.state.State.{State}
 use Rattle.ilk_plant.specs.declared.table.Route.{Route}
 use Rattle.ilk_routes.specs.Claims.{sections_outside_path}
-use Rattle.ilk_model.specs.Families.{has_required_locks, keeps_v3, path_section_lock}
+use Rattle.ilk_model.specs.Families.{has_required_locks, keeps_v3_locks_match_routes, path_section_lock}
 use Rattle.ilk_model.specs.Holding.{all_path_indices_pass_test, is_holding_state, route_holds}
 use Rattle.ilk_layout.specs.Image.{image_of}
 use Rattle.ilk_layout.specs.Conditions.{lock_is}
 use Rattle.ilk_layout.proofs.ConditionValues.{lock-holds}
-use Rattle.ilk_invs.specs.Held.{section_held_by, is_holding, rel_below, seen_below}
-use Rattle.ilk_invs.specs.HoldFamilies.{holders, path_lock_matches_seen, held_sections_have_locks, may_hold, none_before_if_holding, none_holding, route_holding, v3_tree}
-use Rattle.ilk_invs.specs.Parts.{each_of, for_each_path_index, for_each_route}
-use Rattle.ilk_invs.proofs.HeldLaws.{below-next, section_held_by-holds, is_holding-holds, rel_below-holds, seen_below-holds}
+use Rattle.ilk_invs.specs.Held.{section_held_by, route_holds_sections, rel_below, seen_below}
+use Rattle.ilk_invs.specs.HoldFamilies.{possible_holders, path_lock_matches_seen, held_sections_have_locks, may_hold, none_before_if_holding, none_holding, route_holding, v3_locks_match_routes_tree}
+use Rattle.ilk_invs.specs.Parts.{each_of, conditions_of_each_path_index, conditions_of_each_route}
+use Rattle.ilk_invs.proofs.HeldLaws.{below-next, section_held_by-holds, route_holds_sections-holds, rel_below-holds, seen_below-holds}
 use Rattle.ilk_invs.proofs.PartLaws.{each-place, each-route, each_of-holds, state_of_route, where-holds}
 use Rattle.ilk_invs.proofs.Tests.{dropped-at}
 use Rattle.ilk_routes.proofs.Shape.{beside-known}
@@ -152,16 +152,17 @@ module _ (p : PlantLists) (plant : IsPlant p) (s : State) (shape : HasShape p s)
       (λ x. has_lock_state s x LockedLock) (sections_outside_path route)
       (λ i x found. lock-holds p s shape x LockedLock (beside-known p route of i x found)) in
       and-true (tree_holds (image_of p s) (held_sections_have_locks p r route))
-      ∙ where-holds (image_of p s) (is_holding r) (each_of (for_each_path_index route (path_lock_matches_seen p r) ++ map (λ x. lock_is p x LockedLock) (sections_outside_path route))) (is_holding_state now) (has_required_locks s route now)
-      (is_holding-holds p s shape r now at)
-      (each_of-holds (image_of p s) (for_each_path_index route (path_lock_matches_seen p r) ++ map (λ x. lock_is p x LockedLock) (sections_outside_path route))
-      ∙ list_all-append (tree_holds (image_of p s)) (for_each_path_index route (path_lock_matches_seen p r)) (map (λ x. lock_is p x LockedLock) (sections_outside_path route))
+      ∙ where-holds (image_of p s) (route_holds_sections r) (each_of (conditions_of_each_path_index route (path_lock_matches_seen p r) ++ map (λ x. lock_is p x LockedLock) (sections_outside_path route))) (is_holding_state now)
+      (has_required_locks s route now)
+      (route_holds_sections-holds p s shape r now at)
+      (each_of-holds (image_of p s) (conditions_of_each_path_index route (path_lock_matches_seen p r) ++ map (λ x. lock_is p x LockedLock) (sections_outside_path route))
+      ∙ list_all-append (tree_holds (image_of p s)) (conditions_of_each_path_index route (path_lock_matches_seen p r)) (map (λ x. lock_is p x LockedLock) (sections_outside_path route))
       ∙ ap (λ v. v && list_all (tree_holds (image_of p s)) (map (λ x. lock_is p x LockedLock) (sections_outside_path route))) places
       ∙ ap (λ v. all_path_indices_pass_test route (λ i x. not (nat_le now.rel i) || has_lock_state s x (path_section_lock now i)) && v) beside)
 
-  pub v3-law : tree_holds (image_of p s) (v3_tree p) ≡ keeps_v3 p s
+  pub v3-law : tree_holds (image_of p s) (v3_locks_match_routes_tree p) ≡ keeps_v3_locks_match_routes p s
   v3-law =
-      each_of-holds (image_of p s) (for_each_route p (λ r route. held_sections_have_locks p r route ∷ []))
+      each_of-holds (image_of p s) (conditions_of_each_route p (λ r route. held_sections_have_locks p r route ∷ []))
       ∙ each-route p s shape (image_of p s) (λ r route. held_sections_have_locks p r route ∷ []) (λ route now. if is_holding_state now then has_required_locks s route now else true) held_sections_have_locks-holds
 
   route_holding-holds : (x r : ℕ) → r < length p.routes → tree_holds (image_of p s) (each_of (route_holding p x r)) ≡ route_holds p s r x
@@ -190,7 +191,7 @@ module _ (p : PlantLists) (plant : IsPlant p) (s : State) (shape : HasShape p s)
   none_before_if_holding-holds x before r within known =
       where-holds (image_of p s) (each_of (route_holding p x r)) (none_holding p x before) (route_holds p s r x) (list_all (λ q. not (route_holds p s q x)) before) (route_holding-holds x r within) (none_holding-holds x before known)
 
-  pub holder-known : (x i r : ℕ) → slice_get (holders p x) i ≡ Some r → r < length p.routes
+  pub holder-known : (x i r : ℕ) → slice_get (possible_holders p x) i ≡ Some r → r < length p.routes
   holder-known x i r at = let less = passing_within (may_hold p x) 0 (length p.routes) i r at in omega (arith, less)
 
   pub taken-known : (routes : List ℕ) (n : ℕ) → ((i q : ℕ) → slice_get routes i ≡ Some q → q < length p.routes) → (i q : ℕ) → slice_get (take n routes) i ≡ Some q → q < length p.routes

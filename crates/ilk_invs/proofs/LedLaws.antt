@@ -24,12 +24,12 @@ use Rattle.ilk_model.specs.Families.{head_is_led_by_route}
 use Rattle.ilk_model.specs.Hazard.{hazard}
 use Rattle.ilk_model.specs.Holding.{is_vacant, route_runs_in_direction, any_path_index_passes_test}
 use Rattle.ilk_layout.specs.Image.{image_of}
-use Rattle.ilk_layout.specs.Occupancy.{occupancy_of}
+use Rattle.ilk_layout.specs.Occupancy.{occupancy_or_crash}
 use Rattle.ilk_layout.specs.declared.values.Occupancy.TheVariants.{Vacant, Taken, Crash}
-use Rattle.ilk_layout.specs.Conditions.{board_is, mode_is, no_train_at}
+use Rattle.ilk_layout.specs.Conditions.{is_board_aspect, mode_is, no_train_at}
 use Rattle.ilk_layout.proofs.ConditionValues.{board-holds, mode-holds, occupancy-holds}
 use Rattle.ilk_invs.specs.Held.{seen_below}
-use Rattle.ilk_invs.specs.Parts.{each_of, for_each_path_index, for_each_route, some_of}
+use Rattle.ilk_invs.specs.Parts.{each_of, conditions_of_each_path_index, conditions_of_each_route, some_of}
 use Rattle.ilk_invs.specs.TrainFamilies.{body_at, head_at, route_set_for_head_at, route_set_and_clear_past, none_seen_past}
 use Rattle.ilk_invs.proofs.HeldLaws.{below-next, seen_below-holds}
 use Rattle.ilk_invs.proofs.PartLaws.{any-if, each_of-holds, some-place, some-route, vacant-all}
@@ -37,20 +37,20 @@ use Rattle.ilk_invs.proofs.Tests.{dropped-at, list_any-never}
 use Rattle.ilk_invs.proofs.OccupancyLaws.{down-values, has_head_in, has_train_in, head-values, up-values}
 
 module _ (p : PlantLists) (plant : IsPlant p) (s : State) (shape : HasShape p s) (calm : hazard p s ≡ None) where
-  pub head_at-holds : (d : Dir) (x : ℕ) → x < length p.sections → tree_holds (image_of p s) (head_at p d x) ≡ has_head_in d (occupancy_of p s x)
+  pub head_at-holds : (d : Dir) (x : ℕ) → x < length p.sections → tree_holds (image_of p s) (head_at p d x) ≡ has_head_in d (occupancy_or_crash p s x)
   head_at-holds d x within =
       let one = occupancy-holds p s shape x (Taken d false true) within in
       let two = occupancy-holds p s shape x (Taken d true true) within in
-      rw (one, two) (head-values d (occupancy_of p s x))
+      rw (one, two) (head-values d (occupancy_or_crash p s x))
 
-  pub body_at-holds : (d : Dir) (x : ℕ) → x < length p.sections → tree_holds (image_of p s) (body_at p d x) ≡ has_train_in d (occupancy_of p s x)
+  pub body_at-holds : (d : Dir) (x : ℕ) → x < length p.sections → tree_holds (image_of p s) (body_at p d x) ≡ has_train_in d (occupancy_or_crash p s x)
   body_at-holds Up x within =
       let vacant = occupancy-holds p s shape x Vacant within in
       let one = occupancy-holds p s shape x (Taken Up false false) within in
       let two = occupancy-holds p s shape x (Taken Up false true) within in
       let three = occupancy-holds p s shape x (Taken Up true false) within in
       let four = occupancy-holds p s shape x (Taken Up true true) within in
-      rw (vacant, one, two, three, four) (up-values (occupancy_of p s x))
+      rw (vacant, one, two, three, four) (up-values (occupancy_or_crash p s x))
   body_at-holds Down x within =
       let vacant = occupancy-holds p s shape x Vacant within in
       let one = occupancy-holds p s shape x (Taken Up false false) within in
@@ -58,7 +58,7 @@ module _ (p : PlantLists) (plant : IsPlant p) (s : State) (shape : HasShape p s)
       let three = occupancy-holds p s shape x (Taken Up true false) within in
       let four = occupancy-holds p s shape x (Taken Up true true) within in
       let crash = occupancy-holds p s shape x Crash within in
-      rw (vacant, one, two, three, four, crash) (down-values (occupancy_of p s x))
+      rw (vacant, one, two, three, four, crash) (down-values (occupancy_or_crash p s x))
 
   none_seen_past-holds : (r : ℕ) (route : Route) (now : RouteState) (i : ℕ) → slice_get p.routes r ≡ Some route → slice_get s.routes r ≡ Some now → list_all (tree_holds (image_of p s)) (none_seen_past r route i) ≡ nat_le now.seen (i + 1)
   none_seen_past-holds r route now i known at = elim (cases_lt (i + 1) (length route.path)) [
@@ -87,17 +87,17 @@ module _ (p : PlantLists) (plant : IsPlant p) (s : State) (shape : HasShape p s)
       let closed = board-holds p s shape route.source Closed of.source in
       let seen = none_seen_past-holds r route now i known at in
       let vacant = vacant-all p s shape calm (drop (i + 1) route.path) (λ k x found. all-at (λ x. x < length p.sections) route.path ((i + 1) + k) x of.path (dropped-at (i + 1) route.path k x found)) in
-      each_of-holds (image_of p s) (some_of (mode_is r Occupied ∷ each_of (mode_is r Locked ∷ board_is p route.source Closed ∷ []) ∷ []) ∷ (none_seen_past r route i ++ map (no_train_at p) (drop (i + 1) route.path)))
+      each_of-holds (image_of p s) (some_of (mode_is r Occupied ∷ each_of (mode_is r Locked ∷ is_board_aspect p route.source Closed ∷ []) ∷ []) ∷ (none_seen_past r route i ++ map (no_train_at p) (drop (i + 1) route.path)))
       ∙ ap
       (λ v.
       tree_holds (image_of p s)
       (some_of
       (mode_is r Occupied
-      ∷ each_of (mode_is r Locked ∷ board_is p route.source Closed ∷ []) ∷ [])) && v)
+      ∷ each_of (mode_is r Locked ∷ is_board_aspect p route.source Closed ∷ []) ∷ [])) && v)
       (list_all-append (tree_holds (image_of p s)) (none_seen_past r route i)
       (map (no_train_at p) (drop (i + 1) route.path)))
       ∙ joined (tree_holds (image_of p s) (mode_is r Occupied)) (tree_holds (image_of p s) (mode_is r Locked))
-      (tree_holds (image_of p s) (board_is p route.source Closed))
+      (tree_holds (image_of p s) (is_board_aspect p route.source Closed))
       (list_all (tree_holds (image_of p s)) (none_seen_past r route i))
       (list_all (tree_holds (image_of p s)) (map (no_train_at p) (drop (i + 1) route.path))) _ _ _ _ _
       occupied locked closed seen vacant
@@ -134,7 +134,7 @@ module _ (p : PlantLists) (plant : IsPlant p) (s : State) (shape : HasShape p s)
 
       by_runs : (b : Bool) →
           list_any (tree_holds (image_of p s))
-          (if b then for_each_path_index route (λ i y. if y == x then route_set_and_clear_past p r route i ∷ [] else [])
+          (if b then conditions_of_each_path_index route (λ i y. if y == x then route_set_and_clear_past p r route i ∷ [] else [])
           else [])
           ≡ any_path_index_passes_test route
           (λ i y. (y == x) && b
@@ -163,7 +163,7 @@ module _ (p : PlantLists) (plant : IsPlant p) (s : State) (shape : HasShape p s)
           (enumerate_from 0 route.path) (λ place.
           parted (place.1 == x) (same_mode now.mode Occupied || (same_mode now.mode Locked && has_aspect s route.source Closed)) (nat_le now.seen (place.0 + 1)) (list_all (is_vacant s) (drop (place.0 + 1) route.path))))
 
-  pub led-holds : (d : Dir) (x : ℕ) → list_any (tree_holds (image_of p s)) (for_each_route p (route_set_for_head_at p d x)) ≡ head_is_led_by_route p s d x
+  pub led-holds : (d : Dir) (x : ℕ) → list_any (tree_holds (image_of p s)) (conditions_of_each_route p (route_set_for_head_at p d x)) ≡ head_is_led_by_route p s d x
   led-holds d x =
       some-route p s shape (image_of p s) (route_set_for_head_at p d x)
       (λ route now. any_path_index_passes_test route

@@ -21,7 +21,7 @@ use Rattle.ilk_model.specs.Holding.{all_path_indices_pass_test, all_routes_pass_
 use Rattle.ilk_layout.specs.Image.{image_of}
 use Rattle.ilk_layout.specs.Conditions.{no_train_at}
 use Rattle.ilk_layout.proofs.ConditionValues.{vacant-holds}
-use Rattle.ilk_invs.specs.Parts.{conditions_if_some, each_of, for_each_path_index, for_each_route, some_of, implication}
+use Rattle.ilk_invs.specs.Parts.{conditions_for_optional_value, each_of, conditions_of_each_path_index, conditions_of_each_route, some_of, implication}
 use Rattle.ilk_invs.proofs.Tests.{list_any-flat_map}
 
 pub then-this : (a b : Bool) → (not a || (b || false)) ≡ (if a then b else true)
@@ -44,7 +44,7 @@ any-if values t false = refl
 
 pub each-place : (values : List ℕ) (route : Route) (f : ℕ → ℕ → List Tree) (test : ℕ → ℕ → Bool) →
     ((i x : ℕ) → slice_get route.path i ≡ Some x → list_all (tree_holds values) (f i x) ≡ test i x) →
-    list_all (tree_holds values) (for_each_path_index route f) ≡ all_path_indices_pass_test route test
+    list_all (tree_holds values) (conditions_of_each_path_index route f) ≡ all_path_indices_pass_test route test
 each-place values route f test same =
     list_all-flat_map (tree_holds values) (λ place. f place.0 place.1) (enumerate_from 0 route.path)
     ∙ list_all-alike (λ place. list_all (tree_holds values) (f place.0 place.1)) (λ place. test place.0 place.1) (enumerate_from 0 route.path) (λ i place at.
@@ -54,7 +54,7 @@ each-place values route f test same =
 
 pub some-place : (values : List ℕ) (route : Route) (f : ℕ → ℕ → List Tree) (test : ℕ → ℕ → Bool) →
     ((i x : ℕ) → slice_get route.path i ≡ Some x → list_any (tree_holds values) (f i x) ≡ test i x) →
-    list_any (tree_holds values) (for_each_path_index route f) ≡ any_path_index_passes_test route test
+    list_any (tree_holds values) (conditions_of_each_path_index route f) ≡ any_path_index_passes_test route test
 some-place values route f test same =
     list_any-flat_map (tree_holds values) (λ place. f place.0 place.1) (enumerate_from 0 route.path)
     ∙ list_any-alike (λ place. list_any (tree_holds values) (f place.0 place.1)) (λ place. test place.0 place.1) (enumerate_from 0 route.path) (λ i place at.
@@ -72,12 +72,13 @@ module _ (p : PlantLists) (s : State) (shape : HasShape p s) where
   pub each-route : (values : List ℕ) (f : ℕ → Route → List Tree) (test : Route → RouteState → Bool) →
       ((r : ℕ) (route : Route) (now : RouteState) → slice_get p.routes r ≡ Some route →
       slice_get s.routes r ≡ Some now → list_all (tree_holds values) (f r route) ≡ test route now) →
-      list_all (tree_holds values) (for_each_route p f) ≡ all_routes_pass_test p s test
+      list_all (tree_holds values) (conditions_of_each_route p f) ≡ all_routes_pass_test p s test
   each-route values f test same =
-      list_all-flat_map (tree_holds values) (λ r. conditions_if_some (slice_get p.routes r) (f r)) (range_with_len 0 (length p.routes))
-      ∙ list_all-alike (λ r. list_all (tree_holds values) (conditions_if_some (slice_get p.routes r) (f r))) (λ r. route_passes_test p s r test) (range_with_len 0 (length p.routes)) (λ i r at. of_number r (range_within (length p.routes) i r at).1)
+      list_all-flat_map (tree_holds values) (λ r. conditions_for_optional_value (slice_get p.routes r) (f r)) (range_with_len 0 (length p.routes))
+      ∙ list_all-alike (λ r. list_all (tree_holds values) (conditions_for_optional_value (slice_get p.routes r) (f r))) (λ r. route_passes_test p s r test) (range_with_len 0 (length p.routes)) (λ i r at. of_number r (range_within
+      (length p.routes) i r at).1)
     where
-      of_number : (r : ℕ) → r < length p.routes → list_all (tree_holds values) (conditions_if_some (slice_get p.routes r) (f r)) ≡ route_passes_test p s r test
+      of_number : (r : ℕ) → r < length p.routes → list_all (tree_holds values) (conditions_for_optional_value (slice_get p.routes r) (f r)) ≡ route_passes_test p s r test
       of_number r within =
           let route = item_at p.routes r within in
           let now = state_of_route r route.0 route.1 in
@@ -86,12 +87,13 @@ module _ (p : PlantLists) (s : State) (shape : HasShape p s) where
   pub some-route : (values : List ℕ) (f : ℕ → Route → List Tree) (test : Route → RouteState → Bool) →
       ((r : ℕ) (route : Route) (now : RouteState) → slice_get p.routes r ≡ Some route →
       slice_get s.routes r ≡ Some now → list_any (tree_holds values) (f r route) ≡ test route now) →
-      list_any (tree_holds values) (for_each_route p f) ≡ any_route_passes_test p s test
+      list_any (tree_holds values) (conditions_of_each_route p f) ≡ any_route_passes_test p s test
   some-route values f test same =
-      list_any-flat_map (tree_holds values) (λ r. conditions_if_some (slice_get p.routes r) (f r)) (range_with_len 0 (length p.routes))
-      ∙ list_any-alike (λ r. list_any (tree_holds values) (conditions_if_some (slice_get p.routes r) (f r))) (λ r. route_passes_test p s r test) (range_with_len 0 (length p.routes)) (λ i r at. of_number r (range_within (length p.routes) i r at).1)
+      list_any-flat_map (tree_holds values) (λ r. conditions_for_optional_value (slice_get p.routes r) (f r)) (range_with_len 0 (length p.routes))
+      ∙ list_any-alike (λ r. list_any (tree_holds values) (conditions_for_optional_value (slice_get p.routes r) (f r))) (λ r. route_passes_test p s r test) (range_with_len 0 (length p.routes)) (λ i r at. of_number r (range_within
+      (length p.routes) i r at).1)
     where
-      of_number : (r : ℕ) → r < length p.routes → list_any (tree_holds values) (conditions_if_some (slice_get p.routes r) (f r)) ≡ route_passes_test p s r test
+      of_number : (r : ℕ) → r < length p.routes → list_any (tree_holds values) (conditions_for_optional_value (slice_get p.routes r) (f r)) ≡ route_passes_test p s r test
       of_number r within =
           let route = item_at p.routes r within in
           let now = state_of_route r route.0 route.1 in

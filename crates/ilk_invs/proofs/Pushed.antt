@@ -1,4 +1,3 @@
--- Lists of forms after additions.
 use Rattle.std.proofs.Common.{◌≡◌, ℕ, ◌+◌, ◌<◌, All, Bool, cond, Some, List, [], ◌∷◌, ◌++◌, filter, get_or, map, slice_get, refl, sym, ◌∙◌, ap, append_assoc, arith}
 use Rattle.std.specs.List.{flat_map, range_with_len}
 use Rattle.std.proofs.lemmas.List.{map-append}
@@ -10,7 +9,7 @@ use Rattle.ilk_ir.specs.Tree.{Tree}
 use Rattle.ilk_ir.specs.declared.form.Form.{Form}
 use Rattle.ilk_plant.specs.Plant.{PlantLists}
 use Rattle.ilk_plant.specs.declared.table.Route.{Route}
-use Rattle.ilk_invs.specs.Parts.{conditions_if_some}
+use Rattle.ilk_invs.specs.Parts.{conditions_for_optional_value}
 
 pub one_form_more : (f : ℕ → Tree) (n : ℕ) (start : List Tree) (now next : List Form) (form : Form) →
     map tree_of now ≡ start ++ map f (range_with_len 0 n) → next ≡ now ++ form ∷ [] → tree_of form ≡ f n →
@@ -24,11 +23,11 @@ one_form_more f n start now next form sofar grown is =
 pub route_more :
     (p : PlantLists) (f : ℕ → Route → List Tree) (r : ℕ) (route : Route) (start now next : List Tree) →
     slice_get p.routes r ≡ Some route →
-    now ≡ start ++ flat_map (λ q. conditions_if_some (slice_get p.routes q) (f q)) (range_with_len 0 r) →
+    now ≡ start ++ flat_map (λ q. conditions_for_optional_value (slice_get p.routes q) (f q)) (range_with_len 0 r) →
     next ≡ now ++ f r route →
-    next ≡ start ++ flat_map (λ q. conditions_if_some (slice_get p.routes q) (f q)) (range_with_len 0 (r + 1))
+    next ≡ start ++ flat_map (λ q. conditions_for_optional_value (slice_get p.routes q) (f q)) (range_with_len 0 (r + 1))
 route_more p f r route start now next at sofar grown =
-    grows_all (λ q. conditions_if_some (slice_get p.routes q) (f q)) r start now next sofar (grown ∙ ap (λ ts. now ++ ts) (sym (ap (λ o. conditions_if_some o (f r)) at)))
+    grows_all (λ q. conditions_for_optional_value (slice_get p.routes q) (f q)) r start now next sofar (grown ∙ ap (λ ts. now ++ ts) (sym (ap (λ o. conditions_for_optional_value o (f r)) at)))
 
 pub route_form_more :
     (p : PlantLists) (f : ℕ → Route → Tree) (r : ℕ) (route : Route) (start : List Tree) (now next : List Form)
@@ -36,12 +35,12 @@ pub route_form_more :
     slice_get p.routes r ≡ Some route →
     map tree_of now
     ≡ start
-    ++ flat_map (λ q. conditions_if_some (slice_get p.routes q) (λ route. f q route ∷ []))
+    ++ flat_map (λ q. conditions_for_optional_value (slice_get p.routes q) (λ route. f q route ∷ []))
     (range_with_len 0 r) →
     next ≡ now ++ form ∷ [] → tree_of form ≡ f r route →
     map tree_of next
     ≡ start
-    ++ flat_map (λ q. conditions_if_some (slice_get p.routes q) (λ route. f q route ∷ []))
+    ++ flat_map (λ q. conditions_for_optional_value (slice_get p.routes q) (λ route. f q route ∷ []))
     (range_with_len 0 (r + 1))
 route_form_more p f r route start now next form at sofar grown is =
     route_more p (λ q route. f q route ∷ []) r route start (map tree_of now) (map tree_of next) at sofar (ap (map tree_of) grown ∙ map-append tree_of now (form ∷ []) ∙ ap (λ t. map tree_of now ++ t ∷ []) is)

@@ -20,15 +20,15 @@ use Rattle.ilk_plant.specs.declared.table.Route.{Route}
 use Rattle.ilk_plant.proofs.Shapes.{seen_and_released_fit_path-counts}
 use Rattle.ilk_routes.specs.Boards.{has_aspect}
 use Rattle.ilk_routes.specs.Modes.{same_mode}
-use Rattle.ilk_model.specs.Families.{keeps_v1, keeps_v4, keeps_v5, keeps_v9}
+use Rattle.ilk_model.specs.Families.{keeps_v1_consistent_counts, keeps_v4_allocating_paths_vacant, keeps_v5_open_needs_locked, keeps_v9_protecting_boards_closed}
 use Rattle.ilk_model.specs.Hazard.{hazard}
 use Rattle.ilk_model.specs.Holding.{is_vacant, any_route_passes_test}
 use Rattle.ilk_layout.specs.Image.{image_of}
-use Rattle.ilk_layout.specs.Conditions.{board_is, mode_is, rel_is, seen_is}
+use Rattle.ilk_layout.specs.Conditions.{is_board_aspect, mode_is, is_released_count, is_seen_count}
 use Rattle.ilk_layout.proofs.ConditionValues.{board-holds, mode-holds, rel-holds, seen-holds}
 use Rattle.ilk_invs.specs.Held.{rel_below}
-use Rattle.ilk_invs.specs.Parts.{each_of, for_each_route, some_of, implication}
-use Rattle.ilk_invs.specs.RouteFamilies.{counts_are_consistent, open_only_for_route, path_vacant, v1_tree, v4_tree, v5_tree, v9_tree}
+use Rattle.ilk_invs.specs.Parts.{each_of, conditions_of_each_route, some_of, implication}
+use Rattle.ilk_invs.specs.RouteFamilies.{counts_are_consistent, open_only_for_route, path_vacant, v1_consistent_counts_tree, v4_allocating_paths_vacant_tree, v5_open_needs_locked_tree, v9_protecting_boards_closed_tree}
 use Rattle.ilk_invs.proofs.HeldLaws.{rel_below-holds}
 use Rattle.ilk_invs.proofs.PartLaws.{any-if, each-route, each_of-holds, some-route, some_of-holds, vacant-all, where-holds}
 use Rattle.ilk_invs.proofs.Tests.{asked-at}
@@ -36,10 +36,10 @@ use Rattle.ilk_invs.proofs.Tests.{asked-at}
 module _ (p : PlantLists) (plant : IsPlant p) (s : State) (shape : HasShape p s) where
   clause-holds : (r : ℕ) (now : RouteState) (k : ℕ) → slice_get s.routes r ≡ Some now →
       tree_holds (image_of p s)
-      (some_of (negation (mode_is r Occupied) ∷ negation (seen_is r k) ∷ rel_below r k ∷ []))
+      (some_of (negation (mode_is r Occupied) ∷ negation (is_seen_count r k) ∷ rel_below r k ∷ []))
       ≡ (not (same_mode now.mode Occupied) || (not (now.seen == k) || nat_lt now.rel k))
   clause-holds r now k at =
-      joined (tree_holds (image_of p s) (mode_is r Occupied)) (tree_holds (image_of p s) (seen_is r k))
+      joined (tree_holds (image_of p s) (mode_is r Occupied)) (tree_holds (image_of p s) (is_seen_count r k))
       (tree_holds (image_of p s) (rel_below r k)) (same_mode now.mode Occupied) (now.seen == k)
       (nat_lt now.rel k) (mode-holds p s shape r now Occupied at) (seen-holds p s shape r now k at)
       (rel_below-holds p s shape r now k at)
@@ -51,17 +51,17 @@ module _ (p : PlantLists) (plant : IsPlant p) (s : State) (shape : HasShape p s)
   clauses-hold : (r : ℕ) (route : Route) (now : RouteState) → slice_get p.routes r ≡ Some route →
       slice_get s.routes r ≡ Some now →
       list_all (tree_holds (image_of p s))
-      (map (λ k. some_of (negation (mode_is r Occupied) ∷ negation (seen_is r k) ∷ rel_below r k ∷ []))
+      (map (λ k. some_of (negation (mode_is r Occupied) ∷ negation (is_seen_count r k) ∷ rel_below r k ∷ []))
       (range_with_len 0 (length route.path + 1)))
       ≡ (not (same_mode now.mode Occupied) || nat_lt now.rel now.seen)
   clauses-hold r route now known at =
       let fits = seen_and_released_fit_path-counts route now (shape.counts r route now known at) in
       let few = fits.0 in
       let within : now.seen < length route.path + 1 = omega (arith, few) in
-      list_all-map (tree_holds (image_of p s)) (λ k. some_of (negation (mode_is r Occupied) ∷ negation (seen_is r k) ∷ rel_below r k ∷ [])) (range_with_len 0 (length route.path + 1))
+      list_all-map (tree_holds (image_of p s)) (λ k. some_of (negation (mode_is r Occupied) ∷ negation (is_seen_count r k) ∷ rel_below r k ∷ [])) (range_with_len 0 (length route.path + 1))
       ∙ list_all-alike
       (λ k. tree_holds (image_of p s)
-      (some_of (negation (mode_is r Occupied) ∷ negation (seen_is r k) ∷ rel_below r k ∷ [])))
+      (some_of (negation (mode_is r Occupied) ∷ negation (is_seen_count r k) ∷ rel_below r k ∷ [])))
       (λ k. not (same_mode now.mode Occupied) || (not (now.seen == k) || nat_lt now.rel k))
       (range_with_len 0 (length route.path + 1)) (λ i k found. clause-holds r now k at)
       ∙ by_mode (same_mode now.mode Occupied) within
@@ -81,17 +81,17 @@ module _ (p : PlantLists) (plant : IsPlant p) (s : State) (shape : HasShape p s)
       let few : nat_le now.seen (length route.path) ≡ true = (fits_within route now (seen_and_released_fit_path-counts route now (shape.counts r route now known at)).0) in
       and-true (tree_holds (image_of p s) (counts_are_consistent r route))
       ∙ each_of-holds (image_of p s)
-      (some_of (mode_is r Occupied ∷ seen_is r 0 ∷ []) ∷ some_of (mode_is r Occupied ∷ rel_is r 0 ∷ [])
+      (some_of (mode_is r Occupied ∷ is_seen_count r 0 ∷ []) ∷ some_of (mode_is r Occupied ∷ is_released_count r 0 ∷ [])
       ∷ map
       (λ k. some_of
-      (negation (mode_is r Occupied) ∷ negation (seen_is r k) ∷ rel_below r k ∷ []))
+      (negation (mode_is r Occupied) ∷ negation (is_seen_count r k) ∷ rel_below r k ∷ []))
       (range_with_len 0 (length route.path + 1)))
-      ∙ joined (tree_holds (image_of p s) (mode_is r Occupied)) (tree_holds (image_of p s) (seen_is r 0))
-      (tree_holds (image_of p s) (rel_is r 0))
+      ∙ joined (tree_holds (image_of p s) (mode_is r Occupied)) (tree_holds (image_of p s) (is_seen_count r 0))
+      (tree_holds (image_of p s) (is_released_count r 0))
       (list_all (tree_holds (image_of p s))
       (map
       (λ k. some_of
-      (negation (mode_is r Occupied) ∷ negation (seen_is r k) ∷ rel_below r k ∷ []))
+      (negation (mode_is r Occupied) ∷ negation (is_seen_count r k) ∷ rel_below r k ∷ []))
       (range_with_len 0 (length route.path + 1))))
       (same_mode now.mode Occupied) (now.seen == 0) (now.rel == 0) (nat_lt now.rel now.seen)
       (mode-holds p s shape r now Occupied at) (seen-holds p s shape r now 0 at)
@@ -116,22 +116,22 @@ module _ (p : PlantLists) (plant : IsPlant p) (s : State) (shape : HasShape p s)
           ∙ ap (λ v. (m2 || (a2 || false)) && ((m2 || (b2 || false)) && v)) four
           ∙ by_mode m2 a2 b2 c
 
-  pub v1-law : tree_holds (image_of p s) (v1_tree p) ≡ keeps_v1 p s
+  pub v1-law : tree_holds (image_of p s) (v1_consistent_counts_tree p) ≡ keeps_v1_consistent_counts p s
   v1-law =
-      each_of-holds (image_of p s) (for_each_route p (λ r route. counts_are_consistent r route ∷ []))
+      each_of-holds (image_of p s) (conditions_of_each_route p (λ r route. counts_are_consistent r route ∷ []))
       ∙ each-route p s shape (image_of p s) (λ r route. counts_are_consistent r route ∷ []) (λ route now. if same_mode now.mode Occupied then nat_lt now.rel now.seen && nat_le now.seen (length route.path) else now.seen == 0 && now.rel == 0) v1-of
 
   v9-of : (r : ℕ) (route : Route) (now : RouteState) → slice_get p.routes r ≡ Some route →
       slice_get s.routes r ≡ Some now →
       list_all (tree_holds (image_of p s))
-      (map (λ m. implication (mode_is r Locked) (board_is p m Closed)) route.protecting_boards)
+      (map (λ m. implication (mode_is r Locked) (is_board_aspect p m Closed)) route.protecting_boards)
       ≡
       (if same_mode now.mode Locked
       then list_all (λ m. has_aspect s m Closed) route.protecting_boards else true)
   v9-of r route now known at =
-      list_all-map (tree_holds (image_of p s)) (λ m. implication (mode_is r Locked) (board_is p m Closed)) route.protecting_boards
-      ∙ list_all-alike (λ m. tree_holds (image_of p s) (implication (mode_is r Locked) (board_is p m Closed))) (λ m. if same_mode now.mode Locked then has_aspect s m Closed else true) route.protecting_boards (λ i m found.
-      where-holds (image_of p s) (mode_is r Locked) (board_is p m Closed) (same_mode now.mode Locked)
+      list_all-map (tree_holds (image_of p s)) (λ m. implication (mode_is r Locked) (is_board_aspect p m Closed)) route.protecting_boards
+      ∙ list_all-alike (λ m. tree_holds (image_of p s) (implication (mode_is r Locked) (is_board_aspect p m Closed))) (λ m. if same_mode now.mode Locked then has_aspect s m Closed else true) route.protecting_boards (λ i m found.
+      where-holds (image_of p s) (mode_is r Locked) (is_board_aspect p m Closed) (same_mode now.mode Locked)
       (has_aspect s m Closed) (mode-holds p s shape r now Locked at)
       (board-holds p s shape m Closed
       (all-at (λ m. m < length p.boards) route.protecting_boards i m
@@ -142,11 +142,11 @@ module _ (p : PlantLists) (plant : IsPlant p) (s : State) (shape : HasShape p s)
       by_mode true = refl
       by_mode false = all-pass (λ m. true) route.protecting_boards (λ i m found. refl)
 
-  pub v9-law : tree_holds (image_of p s) (v9_tree p) ≡ keeps_v9 p s
+  pub v9-law : tree_holds (image_of p s) (v9_protecting_boards_closed_tree p) ≡ keeps_v9_protecting_boards_closed p s
   v9-law =
-      each_of-holds (image_of p s) (for_each_route p (λ r route. map (λ m. implication (mode_is r Locked) (board_is p m Closed)) route.protecting_boards))
+      each_of-holds (image_of p s) (conditions_of_each_route p (λ r route. map (λ m. implication (mode_is r Locked) (is_board_aspect p m Closed)) route.protecting_boards))
       ∙ each-route p s shape (image_of p s)
-      (λ r route. map (λ m. implication (mode_is r Locked) (board_is p m Closed)) route.protecting_boards)
+      (λ r route. map (λ m. implication (mode_is r Locked) (is_board_aspect p m Closed)) route.protecting_boards)
       (λ route now. if same_mode now.mode Locked
       then list_all (λ m. has_aspect s m Closed) route.protecting_boards else true) v9-of
 
@@ -166,9 +166,9 @@ module _ (p : PlantLists) (plant : IsPlant p) (s : State) (shape : HasShape p s)
       (mode-holds p s shape r now Allocating at)
       (each_of-holds (image_of p s) (path_vacant p route) ∙ path_vacant-holds calm r route known)
 
-  pub v4-law : hazard p s ≡ None → tree_holds (image_of p s) (v4_tree p) ≡ keeps_v4 p s
+  pub v4-law : hazard p s ≡ None → tree_holds (image_of p s) (v4_allocating_paths_vacant_tree p) ≡ keeps_v4_allocating_paths_vacant p s
   v4-law calm =
-      each_of-holds (image_of p s) (for_each_route p (λ r route. implication (mode_is r Allocating) (each_of (path_vacant p route)) ∷ []))
+      each_of-holds (image_of p s) (conditions_of_each_route p (λ r route. implication (mode_is r Allocating) (each_of (path_vacant p route)) ∷ []))
       ∙ each-route p s shape (image_of p s) (λ r route. implication (mode_is r Allocating) (each_of (path_vacant p route)) ∷ []) (λ route now. if same_mode now.mode Allocating then list_all (is_vacant s) route.path else true) (v4-of calm)
 
   ready-of : hazard p s ≡ None → (m r : ℕ) (route : Route) (now : RouteState) →
@@ -201,8 +201,8 @@ module _ (p : PlantLists) (plant : IsPlant p) (s : State) (shape : HasShape p s)
       (λ r route. if route.source == m then each_of (mode_is r Locked ∷ path_vacant p route) ∷ [] else [])
       (λ route now. (route.source == m) && same_mode now.mode Locked && list_all (is_vacant s) route.path)
       (ready-of calm m) in
-      some_of-holds (image_of p s) (negation (board_is p m Open) ∷ for_each_route p (λ r route. if route.source == m then each_of (mode_is r Locked ∷ path_vacant p route) ∷ [] else []))
-      ∙ ap (λ b. not b || list_any (tree_holds (image_of p s)) (for_each_route p (λ r route. if route.source == m then each_of (mode_is r Locked ∷ path_vacant p route) ∷ [] else []))) open_now
+      some_of-holds (image_of p s) (negation (is_board_aspect p m Open) ∷ conditions_of_each_route p (λ r route. if route.source == m then each_of (mode_is r Locked ∷ path_vacant p route) ∷ [] else []))
+      ∙ ap (λ b. not b || list_any (tree_holds (image_of p s)) (conditions_of_each_route p (λ r route. if route.source == m then each_of (mode_is r Locked ∷ path_vacant p route) ∷ [] else []))) open_now
       ∙ ap (λ b. not (has_aspect s m Open) || b) ready
       ∙ by_aspect (has_aspect s m Open) (any_route_passes_test p s (λ route now. (route.source == m) && same_mode now.mode Locked && list_all (is_vacant s) route.path))
     where
@@ -210,7 +210,7 @@ module _ (p : PlantLists) (plant : IsPlant p) (s : State) (shape : HasShape p s)
       by_aspect true b = refl
       by_aspect false b = refl
 
-  pub v5-law : hazard p s ≡ None → tree_holds (image_of p s) (v5_tree p) ≡ keeps_v5 p s
+  pub v5-law : hazard p s ≡ None → tree_holds (image_of p s) (v5_open_needs_locked_tree p) ≡ keeps_v5_open_needs_locked p s
   v5-law calm =
       each_of-holds (image_of p s) (map (open_only_for_route p) (range_with_len 0 (length p.boards)))
       ∙ list_all-map (tree_holds (image_of p s)) (open_only_for_route p) (range_with_len 0 (length p.boards))

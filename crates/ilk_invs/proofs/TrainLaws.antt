@@ -13,7 +13,7 @@ use Rattle.ilk_base.proofs.ListTests.{list_all-alike, list_all-flat_map}
 use Rattle.ilk_base.proofs.Ranges.{range-at, range_within}
 use Rattle.ilk_base.proofs.Tested.{list_all-slice_get, all-pass}
 use Rattle.ilk_ir.specs.Tree.{Tree, negation, tree_holds}
-use Rattle.ilk_plant.specs.Network.{has_section}
+use Rattle.ilk_plant.specs.Network.{contains_section}
 use Rattle.ilk_plant.specs.Plant.{IsPlant, PlantLists}
 use Rattle.ilk_plant.specs.Shape.{HasShape}
 use Rattle.ilk_plant.specs.Sound.{IsAcyclic}
@@ -24,18 +24,18 @@ use Rattle.ilk_plant.specs.declared.state.RouteState.{RouteState}
 use Rattle.ilk_plant.specs.declared.state.State.{State}
 use Rattle.ilk_plant.specs.declared.state.Train.{Train}
 use Rattle.ilk_plant.specs.declared.table.Route.{Route}
-use Rattle.ilk_model.specs.Families.{is_unreleased_on_some_route, head_is_led_by_route, keeps_v7, keeps_v8}
+use Rattle.ilk_model.specs.Families.{is_unreleased_on_some_route, head_is_led_by_route, keeps_v7_heads_have_routes, keeps_v8_bodies_have_routes}
 use Rattle.ilk_model.specs.Hazard.{hazard}
 use Rattle.ilk_model.specs.Holding.{is_unreleased_on_path, is_locked_or_occupied, continues_without_board, route_runs_in_direction}
 use Rattle.ilk_layout.specs.Image.{image_of}
-use Rattle.ilk_layout.specs.Occupancy.{occupancy_of}
+use Rattle.ilk_layout.specs.Occupancy.{occupancy_or_crash}
 use Rattle.ilk_layout.specs.declared.values.Occupancy.TheVariants.{Taken}
 use Rattle.ilk_layout.proofs.Calm.{body-of, occupancy-in, taken-in}
 use Rattle.ilk_layout.proofs.Plants.{body-known}
-use Rattle.ilk_invs.specs.Held.{unreleased_on_path, route_locked_or_occupied}
-use Rattle.ilk_invs.specs.Parts.{each_of, for_each_route, some_of}
-use Rattle.ilk_invs.specs.TrainFamilies.{body_at, head_at, route_retains_at, body_has_route_set_at, route_set_for_head_at, head_has_route_set_at, v7_tree, v8_tree}
-use Rattle.ilk_invs.proofs.HeldLaws.{unreleased_on_path-holds, route_locked_or_occupied-holds}
+use Rattle.ilk_invs.specs.Held.{section_unreleased_on_path, route_locked_or_occupied}
+use Rattle.ilk_invs.specs.Parts.{each_of, conditions_of_each_route, some_of}
+use Rattle.ilk_invs.specs.TrainFamilies.{body_at, head_at, route_retains_at, body_has_route_set_at, route_set_for_head_at, head_has_route_set_at, v7_heads_have_routes_tree, v8_bodies_have_routes_tree}
+use Rattle.ilk_invs.proofs.HeldLaws.{section_unreleased_on_path-holds, route_locked_or_occupied-holds}
 use Rattle.ilk_invs.proofs.PartLaws.{any-if, each_of-holds, some-route, some_of-holds}
 use Rattle.ilk_invs.proofs.PointLaws.{not-kept}
 use Rattle.ilk_invs.proofs.LedLaws.{body_at-holds, head_at-holds, led-holds}
@@ -47,10 +47,11 @@ module _ (p : PlantLists) (plant : IsPlant p) (s : State) (shape : HasShape p s)
       list_any (tree_holds (image_of p s)) (route_retains_at p d x r route)
       ≡ (route_runs_in_direction p d route && is_locked_or_occupied now && is_unreleased_on_path route now x)
   route_retains_at-holds d x r route now known at =
-      any-if (image_of p s) (each_of (route_locked_or_occupied r ∷ unreleased_on_path r route x ∷ [])) (route_runs_in_direction p d route && has_section x route.path)
-      ∙ ap (λ v. (route_runs_in_direction p d route && has_section x route.path) && (v && (tree_holds (image_of p s) (unreleased_on_path r route x) && true))) (route_locked_or_occupied-holds p s shape r now at)
-      ∙ ap (λ v. (route_runs_in_direction p d route && has_section x route.path) && (is_locked_or_occupied now && v)) (and-true (tree_holds (image_of p s) (unreleased_on_path r route x)) ∙ unreleased_on_path-holds p s shape r route now x known at)
-      ∙ by_path (has_section x route.path) refl
+      any-if (image_of p s) (each_of (route_locked_or_occupied r ∷ section_unreleased_on_path r route x ∷ [])) (route_runs_in_direction p d route && contains_section x route.path)
+      ∙ ap (λ v. (route_runs_in_direction p d route && contains_section x route.path) && (v && (tree_holds (image_of p s) (section_unreleased_on_path r route x) && true))) (route_locked_or_occupied-holds p s shape r now at)
+      ∙ ap (λ v. (route_runs_in_direction p d route && contains_section x route.path) && (is_locked_or_occupied now && v)) (and-true (tree_holds (image_of p s) (section_unreleased_on_path r route x)) ∙
+      section_unreleased_on_path-holds p s shape r route now x known at)
+      ∙ by_path (contains_section x route.path) refl
     where
       with_path : (a b c : Bool) → ((a && true) && (b && c)) ≡ (a && b && c)
       with_path true true c = refl
@@ -62,8 +63,8 @@ module _ (p : PlantLists) (plant : IsPlant p) (s : State) (shape : HasShape p s)
       without true false = refl
       without false b = refl
 
-      by_path : (b : Bool) → has_section x route.path ≡ b →
-          ((route_runs_in_direction p d route && has_section x route.path)
+      by_path : (b : Bool) → contains_section x route.path ≡ b →
+          ((route_runs_in_direction p d route && contains_section x route.path)
           && (is_locked_or_occupied now && is_unreleased_on_path route now x))
           ≡ (route_runs_in_direction p d route && is_locked_or_occupied now && is_unreleased_on_path route now x)
       by_path true e =
@@ -75,7 +76,7 @@ module _ (p : PlantLists) (plant : IsPlant p) (s : State) (shape : HasShape p s)
           ∙ without (route_runs_in_direction p d route) (is_locked_or_occupied now)
           ∙ ap (λ v. route_runs_in_direction p d route && is_locked_or_occupied now && v) (sym none)
 
-  kept-holds : (d : Dir) (x : ℕ) → list_any (tree_holds (image_of p s)) (for_each_route p (route_retains_at p d x)) ≡ is_unreleased_on_some_route p s d x
+  kept-holds : (d : Dir) (x : ℕ) → list_any (tree_holds (image_of p s)) (conditions_of_each_route p (route_retains_at p d x)) ≡ is_unreleased_on_some_route p s d x
   kept-holds d x =
       some-route p s shape (image_of p s) (route_retains_at p d x) (λ route now. route_runs_in_direction p d route && is_locked_or_occupied now && is_unreleased_on_path route now x)
       (λ r route now known at. route_retains_at-holds d x r route now known at)
@@ -89,15 +90,15 @@ module _ (p : PlantLists) (plant : IsPlant p) (s : State) (shape : HasShape p s)
   instance-holds t ts a b false one two = refl
 
   head_has_route_set_at-holds : (d : Dir) (x : ℕ) → x < length p.sections → list_all (tree_holds (image_of p s)) (head_has_route_set_at p d x)
-      ≡ (if continues_without_board p d x then not (has_head_in d (occupancy_of p s x)) || head_is_led_by_route p s d x else true)
+      ≡ (if continues_without_board p d x then not (has_head_in d (occupancy_or_crash p s x)) || head_is_led_by_route p s d x else true)
   head_has_route_set_at-holds d x within =
-      instance-holds (head_at p d x) (for_each_route p (route_set_for_head_at p d x)) (has_head_in d (occupancy_of p s x)) (head_is_led_by_route p s d x) (continues_without_board p d x) (head_at-holds p plant s shape calm d x within)
+      instance-holds (head_at p d x) (conditions_of_each_route p (route_set_for_head_at p d x)) (has_head_in d (occupancy_or_crash p s x)) (head_is_led_by_route p s d x) (continues_without_board p d x) (head_at-holds p plant s shape calm d x within)
       (led-holds p plant s shape calm d x)
 
   body_has_route_set_at-holds : (d : Dir) (x : ℕ) → x < length p.sections → list_all (tree_holds (image_of p s)) (body_has_route_set_at p d x)
-      ≡ (if continues_without_board p d x then not (has_train_in d (occupancy_of p s x)) || is_unreleased_on_some_route p s d x else true)
+      ≡ (if continues_without_board p d x then not (has_train_in d (occupancy_or_crash p s x)) || is_unreleased_on_some_route p s d x else true)
   body_has_route_set_at-holds d x within =
-      instance-holds (body_at p d x) (for_each_route p (route_retains_at p d x)) (has_train_in d (occupancy_of p s x)) (is_unreleased_on_some_route p s d x) (continues_without_board p d x)
+      instance-holds (body_at p d x) (conditions_of_each_route p (route_retains_at p d x)) (has_train_in d (occupancy_or_crash p s x)) (is_unreleased_on_some_route p s d x) (continues_without_board p d x)
       (body_at-holds p plant s shape calm d x within) (kept-holds d x)
 
   all-sections : (f : Dir → ℕ → List Tree) (test : Dir → ℕ → Bool) →
@@ -123,17 +124,17 @@ module _ (p : PlantLists) (plant : IsPlant p) (s : State) (shape : HasShape p s)
       let within = (range_within (length p.sections) i x at).1 in and_from (test Up x) (test Down x) (each Up x within) (each Down x within))
 
   led_test : Dir → ℕ → Bool
-  led_test d x = if continues_without_board p d x then not (has_head_in d (occupancy_of p s x)) || head_is_led_by_route p s d x else true
+  led_test d x = if continues_without_board p d x then not (has_head_in d (occupancy_or_crash p s x)) || head_is_led_by_route p s d x else true
 
   kept_test : Dir → ℕ → Bool
-  kept_test d x = if continues_without_board p d x then not (has_train_in d (occupancy_of p s x)) || is_unreleased_on_some_route p s d x else true
+  kept_test d x = if continues_without_board p d x then not (has_train_in d (occupancy_or_crash p s x)) || is_unreleased_on_some_route p s d x else true
 
-  pub v7-law : IsAcyclic p → tree_holds (image_of p s) (v7_tree p) ≡ keeps_v7 p s
+  pub v7-law : IsAcyclic p → tree_holds (image_of p s) (v7_heads_have_routes_tree p) ≡ keeps_v7_heads_have_routes p s
   unfolding led_test
   v7-law never =
       each_of-holds (image_of p s) (flat_map (λ x. head_has_route_set_at p Up x ++ head_has_route_set_at p Down x) (range_with_len 0 (length p.sections)))
       ∙ all-sections (head_has_route_set_at p) led_test head_has_route_set_at-holds
-      ∙ same_truth (list_all (λ x. led_test Up x && led_test Down x) (range_with_len 0 (length p.sections))) (keeps_v7 p s) forth back
+      ∙ same_truth (list_all (λ x. led_test Up x && led_test Down x) (range_with_len 0 (length p.sections))) (keeps_v7_heads_have_routes p s) forth back
     where
       of_train : Train → Bool
       of_train train = is_some_and (last_or None train.body) (λ x. if continues_without_board p train.dir x then head_is_led_by_route p s train.dir x else true)
@@ -147,21 +148,21 @@ module _ (p : PlantLists) (plant : IsPlant p) (s : State) (shape : HasShape p s)
           let within = body-known p t place.0 last.0 plant body place.1 in
           let taken = occupancy-in p plant never s shape calm i place.0 last.0 t at place.1 in
           let head : (place.0 + 1 == length t.body) ≡ true = eq-eqb (place.0 + 1) (length t.body) place.2 in
-          let here : has_head_in t.dir (occupancy_of p s last.0) ≡ true = ap (has_head_in t.dir) (taken ∙ ap (Taken t.dir (place.0 == 0)) head) ∙ own-head t.dir (place.0 == 0) in
+          let here : has_head_in t.dir (occupancy_or_crash p s last.0) ≡ true = ap (has_head_in t.dir) (taken ∙ ap (Taken t.dir (place.0 == 0)) head) ∙ own-head t.dir (place.0 == 0) in
           let passes = in_direction led_test t.dir last.0 within h in
           ap (λ o. is_some_and o (λ x. if continues_without_board p t.dir x then head_is_led_by_route p s t.dir x else true)) last.1
           ∙ passes-if (continues_without_board p t.dir last.0) (head_is_led_by_route p s t.dir last.0)
-          (λ plain. then-passes (has_head_in t.dir (occupancy_of p s last.0)) (head_is_led_by_route p s t.dir last.0)
+          (λ plain. then-passes (has_head_in t.dir (occupancy_or_crash p s last.0)) (head_is_led_by_route p s t.dir last.0)
           (if-passes (continues_without_board p t.dir last.0)
-          (not (has_head_in t.dir (occupancy_of p s last.0)) || head_is_led_by_route p s t.dir last.0) passes
+          (not (has_head_in t.dir (occupancy_or_crash p s last.0)) || head_is_led_by_route p s t.dir last.0) passes
           plain) here))
 
       back : list_all of_train s.trains ≡ true → list_all (λ x. led_test Up x && led_test Down x) (range_with_len 0 (length p.sections)) ≡ true
       back h =
           from_directions led_test (λ d x within.
-          passes-if (continues_without_board p d x) (not (has_head_in d (occupancy_of p s x)) || head_is_led_by_route p s d x) (λ plain.
-          passes-then (has_head_in d (occupancy_of p s x)) (head_is_led_by_route p s d x) (λ head.
-          let taken = taken-head d (occupancy_of p s x) head in
+          passes-if (continues_without_board p d x) (not (has_head_in d (occupancy_or_crash p s x)) || head_is_led_by_route p s d x) (λ plain.
+          passes-then (has_head_in d (occupancy_or_crash p s x)) (head_is_led_by_route p s d x) (λ head.
+          let taken = taken-head d (occupancy_or_crash p s x) head in
           let train = taken-in p plant never s shape calm x d taken.0 true taken.1 in
           let t = train.1 in
           let there = occupancy-in p plant never s shape calm train.0 train.2 x t train.3 train.4 in
@@ -171,12 +172,12 @@ module _ (p : PlantLists) (plant : IsPlant p) (s : State) (shape : HasShape p s)
           ap (λ o. is_some_and o (λ x. if continues_without_board p t.dir x then head_is_led_by_route p s t.dir x else true)) (sym last) ∙ list_all-slice_get of_train s.trains train.0 t h train.3 in
           if-passes (continues_without_board p d x) (head_is_led_by_route p s d x) (ap (λ e. if continues_without_board p e x then head_is_led_by_route p s e x else true) same.0 ∙ passes) plain)))
 
-  pub v8-law : IsAcyclic p → tree_holds (image_of p s) (v8_tree p) ≡ keeps_v8 p s
+  pub v8-law : IsAcyclic p → tree_holds (image_of p s) (v8_bodies_have_routes_tree p) ≡ keeps_v8_bodies_have_routes p s
   unfolding kept_test
   v8-law never =
       each_of-holds (image_of p s) (flat_map (λ x. body_has_route_set_at p Up x ++ body_has_route_set_at p Down x) (range_with_len 0 (length p.sections)))
       ∙ all-sections (body_has_route_set_at p) kept_test body_has_route_set_at-holds
-      ∙ same_truth (list_all (λ x. kept_test Up x && kept_test Down x) (range_with_len 0 (length p.sections))) (keeps_v8 p s) forth back
+      ∙ same_truth (list_all (λ x. kept_test Up x && kept_test Down x) (range_with_len 0 (length p.sections))) (keeps_v8_bodies_have_routes p s) forth back
     where
       of_train : Train → Bool
       of_train train = list_all (λ x. if continues_without_board p train.dir x then is_unreleased_on_some_route p s train.dir x else true) train.body
@@ -188,20 +189,20 @@ module _ (p : PlantLists) (plant : IsPlant p) (s : State) (shape : HasShape p s)
           let body = body-of p plant never s shape calm i t at in
           let within = body-known p t k x plant body place in
           let taken = occupancy-in p plant never s shape calm i k x t at place in
-          let here : has_train_in t.dir (occupancy_of p s x) ≡ true = ap (has_train_in t.dir) taken ∙ own-train t.dir (k == 0) (k + 1 == length t.body) in
+          let here : has_train_in t.dir (occupancy_or_crash p s x) ≡ true = ap (has_train_in t.dir) taken ∙ own-train t.dir (k == 0) (k + 1 == length t.body) in
           let passes = in_direction kept_test t.dir x within h in
           passes-if (continues_without_board p t.dir x) (is_unreleased_on_some_route p s t.dir x)
-          (λ plain. then-passes (has_train_in t.dir (occupancy_of p s x)) (is_unreleased_on_some_route p s t.dir x)
+          (λ plain. then-passes (has_train_in t.dir (occupancy_or_crash p s x)) (is_unreleased_on_some_route p s t.dir x)
           (if-passes (continues_without_board p t.dir x)
-          (not (has_train_in t.dir (occupancy_of p s x)) || is_unreleased_on_some_route p s t.dir x) passes
+          (not (has_train_in t.dir (occupancy_or_crash p s x)) || is_unreleased_on_some_route p s t.dir x) passes
           plain) here)))
 
       back : list_all of_train s.trains ≡ true → list_all (λ x. kept_test Up x && kept_test Down x) (range_with_len 0 (length p.sections)) ≡ true
       back h =
           from_directions kept_test (λ d x within.
-          passes-if (continues_without_board p d x) (not (has_train_in d (occupancy_of p s x)) || is_unreleased_on_some_route p s d x) (λ plain.
-          passes-then (has_train_in d (occupancy_of p s x)) (is_unreleased_on_some_route p s d x) (λ train_in.
-          let taken = taken-train d (occupancy_of p s x) train_in in
+          passes-if (continues_without_board p d x) (not (has_train_in d (occupancy_or_crash p s x)) || is_unreleased_on_some_route p s d x) (λ plain.
+          passes-then (has_train_in d (occupancy_or_crash p s x)) (is_unreleased_on_some_route p s d x) (λ train_in.
+          let taken = taken-train d (occupancy_or_crash p s x) train_in in
           let train = taken-in p plant never s shape calm x d taken.0 taken.1 taken.2 in
           let t = train.1 in
           let there = occupancy-in p plant never s shape calm train.0 train.2 x t train.3 train.4 in

@@ -1,4 +1,3 @@
--- The parts of conditions are valid over the ranges of the plant.
 use Rattle.std.proofs.Common.{◌≡◌, ℕ, ◌+◌, ◌-◌, ◌<◌, ◌≤◌, Bool, true, false, Option, Some, None, List, [], ◌∷◌, ◌++◌, drop, length, map, slice_get, refl, ◌∙◌, ap, arith, if◌then◌else◌}
 use Rattle.std.specs.List.{enumerate_from, flat_map, list_all, range_with_len}
 use Rattle.std.proofs.lemmas.List.Folds.{list_all-append, list_all-map}
@@ -9,16 +8,16 @@ use Rattle.ilk_base.proofs.Tested.{all-pass}
 use Rattle.ilk_base.proofs.Numbered.{enumerated}
 use Rattle.ilk_ir.specs.Tree.{Tree, tree_valid}
 use Rattle.ilk_ir.proofs.Trees.{all_of-valid, any_of-valid}
-use Rattle.ilk_plant.specs.Network.{has_section}
+use Rattle.ilk_plant.specs.Network.{contains_section}
 use Rattle.ilk_plant.specs.Plant.{IsPlant, PlantLists}
 use Rattle.ilk_plant.specs.declared.state.Mode.TheVariants.{Allocating, Free, Marked}
 use Rattle.ilk_plant.specs.declared.table.Route.{Route}
 use Rattle.ilk_routes.specs.Claims.{sections_outside_path}
 use Rattle.ilk_layout.specs.Variables.{ranges_of_plant}
-use Rattle.ilk_layout.specs.Conditions.{mode_is, no_train_at, rel_is, seen_is}
-use Rattle.ilk_layout.proofs.Valid.{mode_is-valid, no_train_at-valid, rel_is-valid, seen_is-valid}
-use Rattle.ilk_invs.specs.Held.{section_held_by, is_holding, unreleased_on_path, route_locked_or_occupied, rel_below, seen_below}
-use Rattle.ilk_invs.specs.Parts.{conditions_if_some, each_of, for_each_path_index, for_each_route, some_of, implication}
+use Rattle.ilk_layout.specs.Conditions.{mode_is, no_train_at, is_released_count, is_seen_count}
+use Rattle.ilk_layout.proofs.Valid.{mode_is-valid, no_train_at-valid, is_released_count-valid, is_seen_count-valid}
+use Rattle.ilk_invs.specs.Held.{section_held_by, route_holds_sections, section_unreleased_on_path, route_locked_or_occupied, rel_below, seen_below}
+use Rattle.ilk_invs.specs.Parts.{conditions_for_optional_value, each_of, conditions_of_each_path_index, conditions_of_each_route, some_of, implication}
 use Rattle.ilk_invs.specs.RouteFamilies.{path_vacant}
 
 module _ (p : PlantLists) (plant : IsPlant p) where
@@ -58,15 +57,18 @@ module _ (p : PlantLists) (plant : IsPlant p) where
   flat_map-valid f xs each =
       list_all-flat_map (tree_valid (ranges_of_plant p)) f xs ∙ all-pass (λ x. list_all (tree_valid (ranges_of_plant p)) (f x)) xs each
 
-  pub conditions_if_some-valid : {X : Type 0} (o : Option X) (f : X → List Tree) → ((x : X) → o ≡ Some x → list_all (tree_valid (ranges_of_plant p)) (f x) ≡ true) → list_all (tree_valid (ranges_of_plant p)) (conditions_if_some o f) ≡ true
-  conditions_if_some-valid None f each = refl
-  conditions_if_some-valid (Some x) f each = each x refl
+  pub conditions_for_optional_value-valid : {X : Type 0} (o : Option X) (f : X → List Tree) → ((x : X) → o ≡ Some x → list_all (tree_valid (ranges_of_plant p)) (f x) ≡ true) → list_all (tree_valid (ranges_of_plant p))
+      (conditions_for_optional_value o f) ≡ true
+  conditions_for_optional_value-valid None f each = refl
+  conditions_for_optional_value-valid (Some x) f each = each x refl
 
-  pub routes-valid : (f : ℕ → Route → List Tree) → ((r : ℕ) (route : Route) → slice_get p.routes r ≡ Some route → list_all (tree_valid (ranges_of_plant p)) (f r route) ≡ true) → list_all (tree_valid (ranges_of_plant p)) (for_each_route p f) ≡ true
+  pub routes-valid : (f : ℕ → Route → List Tree) → ((r : ℕ) (route : Route) → slice_get p.routes r ≡ Some route → list_all (tree_valid (ranges_of_plant p)) (f r route) ≡ true) → list_all (tree_valid (ranges_of_plant p))
+      (conditions_of_each_route p f) ≡ true
   routes-valid f each =
-      flat_map-valid (λ r. conditions_if_some (slice_get p.routes r) (f r)) (range_with_len 0 (length p.routes)) (λ i r at. conditions_if_some-valid (slice_get p.routes r) (f r) (each r))
+      flat_map-valid (λ r. conditions_for_optional_value (slice_get p.routes r) (f r)) (range_with_len 0 (length p.routes)) (λ i r at. conditions_for_optional_value-valid (slice_get p.routes r) (f r) (each r))
 
-  pub places-valid : (route : Route) (f : ℕ → ℕ → List Tree) → ((i x : ℕ) → slice_get route.path i ≡ Some x → list_all (tree_valid (ranges_of_plant p)) (f i x) ≡ true) → list_all (tree_valid (ranges_of_plant p)) (for_each_path_index route f) ≡ true
+  pub places-valid : (route : Route) (f : ℕ → ℕ → List Tree) → ((i x : ℕ) → slice_get route.path i ≡ Some x → list_all (tree_valid (ranges_of_plant p)) (f i x) ≡ true) → list_all (tree_valid (ranges_of_plant p))
+      (conditions_of_each_path_index route f) ≡ true
   places-valid route f each =
       flat_map-valid (λ place. f place.0 place.1) (enumerate_from 0 route.path) (λ i place at.
       let it = enumerated 0 route.path i place at in
@@ -75,23 +77,23 @@ module _ (p : PlantLists) (plant : IsPlant p) where
 
   pub seen_below-valid : (r k : ℕ) (route : Route) → slice_get p.routes r ≡ Some route → k ≤ length route.path + 1 → tree_valid (ranges_of_plant p) (seen_below r k) ≡ true
   seen_below-valid r k route known few =
-      some_of-valid (map (seen_is r) (range_with_len 0 k)) (map-valid (seen_is r) (range_with_len 0 k) (λ i c at.
-      let below = (range_within k i c at).1 in seen_is-valid p r c route known (omega (arith, below, few))))
+      some_of-valid (map (is_seen_count r) (range_with_len 0 k)) (map-valid (is_seen_count r) (range_with_len 0 k) (λ i c at.
+      let below = (range_within k i c at).1 in is_seen_count-valid p r c route known (omega (arith, below, few))))
 
   pub rel_below-valid : (r k : ℕ) (route : Route) → slice_get p.routes r ≡ Some route → k ≤ length route.path + 1 → tree_valid (ranges_of_plant p) (rel_below r k) ≡ true
   rel_below-valid r k route known few =
-      some_of-valid (map (rel_is r) (range_with_len 0 k)) (map-valid (rel_is r) (range_with_len 0 k) (λ i c at.
-      let below = (range_within k i c at).1 in rel_is-valid p r c route known (omega (arith, below, few))))
+      some_of-valid (map (is_released_count r) (range_with_len 0 k)) (map-valid (is_released_count r) (range_with_len 0 k) (λ i c at.
+      let below = (range_within k i c at).1 in is_released_count-valid p r c route known (omega (arith, below, few))))
 
-  unreleased_on_path-valid : (r : ℕ) (route : Route) (x : ℕ) → slice_get p.routes r ≡ Some route → tree_valid (ranges_of_plant p) (unreleased_on_path r route x) ≡ true
-  unreleased_on_path-valid r route x known =
+  section_unreleased_on_path-valid : (r : ℕ) (route : Route) (x : ℕ) → slice_get p.routes r ≡ Some route → tree_valid (ranges_of_plant p) (section_unreleased_on_path r route x) ≡ true
+  section_unreleased_on_path-valid r route x known =
       some_of-valid
-      (flat_map (λ c. if has_section x (drop c route.path) then rel_is r c ∷ [] else [])
+      (flat_map (λ c. if contains_section x (drop c route.path) then is_released_count r c ∷ [] else [])
       (range_with_len 0 (length route.path + 1))) (flat_map-valid
-      (λ c. if has_section x (drop c route.path) then rel_is r c ∷ [] else [])
+      (λ c. if contains_section x (drop c route.path) then is_released_count r c ∷ [] else [])
       (range_with_len 0 (length route.path + 1)) (λ i c at.
       let below = (range_within (length route.path + 1) i c at).1 in
-      if-valid (has_section x (drop c route.path)) (rel_is r c ∷ []) (one-valid (rel_is r c) (rel_is-valid p r c route known (omega (arith, below))))))
+      if-valid (contains_section x (drop c route.path)) (is_released_count r c ∷ []) (one-valid (is_released_count r c) (is_released_count-valid p r c route known (omega (arith, below))))))
 
   route_locked_or_occupied-valid : (r : ℕ) → r < length p.routes → tree_valid (ranges_of_plant p) (route_locked_or_occupied r) ≡ true
   route_locked_or_occupied-valid r within =
@@ -100,22 +102,23 @@ module _ (p : PlantLists) (plant : IsPlant p) where
       (mode_is-valid p r Free within) (mode_is-valid p r Marked within)
       (mode_is-valid p r Allocating within))
 
-  pub is_holding-valid : (r : ℕ) → r < length p.routes → tree_valid (ranges_of_plant p) (is_holding r) ≡ true
-  is_holding-valid r within =
+  pub route_holds_sections-valid : (r : ℕ) → r < length p.routes → tree_valid (ranges_of_plant p) (route_holds_sections r) ≡ true
+  route_holds_sections-valid r within =
       some_of-valid (mode_is r Free ∷ mode_is r Marked ∷ []) (two-valid (mode_is r Free) (mode_is r Marked) (mode_is-valid p r Free within) (mode_is-valid p r Marked within))
 
-  pub is_kept-valid : (r : ℕ) (route : Route) (x : ℕ) → slice_get p.routes r ≡ Some route → tree_valid (ranges_of_plant p) (each_of (route_locked_or_occupied r ∷ unreleased_on_path r route x ∷ [])) ≡ true
+  pub is_kept-valid : (r : ℕ) (route : Route) (x : ℕ) → slice_get p.routes r ≡ Some route → tree_valid (ranges_of_plant p) (each_of (route_locked_or_occupied r ∷ section_unreleased_on_path r route x ∷ [])) ≡ true
   is_kept-valid r route x known =
-      each_of-valid (route_locked_or_occupied r ∷ unreleased_on_path r route x ∷ []) (two-valid (route_locked_or_occupied r) (unreleased_on_path r route x) (route_locked_or_occupied-valid r (slice_get_within p.routes r route known))
-      (unreleased_on_path-valid r route x known))
+      each_of-valid (route_locked_or_occupied r ∷ section_unreleased_on_path r route x ∷ []) (two-valid (route_locked_or_occupied r) (section_unreleased_on_path r route x) (route_locked_or_occupied-valid r (slice_get_within p.routes r route known))
+      (section_unreleased_on_path-valid r route x known))
 
   pub section_held_by-valid : (r : ℕ) (route : Route) (x : ℕ) → slice_get p.routes r ≡ Some route → tree_valid (ranges_of_plant p) (section_held_by r route x) ≡ true
-  section_held_by-valid r route x known = by_test (has_section x (sections_outside_path route))
+  section_held_by-valid r route x known = by_test (contains_section x (sections_outside_path route))
     where
-      by_test : (b : Bool) → tree_valid (ranges_of_plant p) (if b then is_holding r else each_of (is_holding r ∷ unreleased_on_path r route x ∷ [])) ≡ true
-      by_test true = is_holding-valid r (slice_get_within p.routes r route known)
+      by_test : (b : Bool) → tree_valid (ranges_of_plant p) (if b then route_holds_sections r else each_of (route_holds_sections r ∷ section_unreleased_on_path r route x ∷ [])) ≡ true
+      by_test true = route_holds_sections-valid r (slice_get_within p.routes r route known)
       by_test false =
-          each_of-valid (is_holding r ∷ unreleased_on_path r route x ∷ []) (two-valid (is_holding r) (unreleased_on_path r route x) (is_holding-valid r (slice_get_within p.routes r route known)) (unreleased_on_path-valid r route x known))
+          each_of-valid (route_holds_sections r ∷ section_unreleased_on_path r route x ∷ []) (two-valid (route_holds_sections r) (section_unreleased_on_path r route x) (route_holds_sections-valid r (slice_get_within
+          p.routes r route known)) (section_unreleased_on_path-valid r route x known))
 
   pub path_known : (r : ℕ) (route : Route) (i x : ℕ) → slice_get p.routes r ≡ Some route → slice_get route.path i ≡ Some x → x < length p.sections
   path_known r route i x known at = all-at (λ x. x < length p.sections) route.path i x (plant.routes_known r route known).path at

@@ -1,4 +1,3 @@
--- The conditions of V1 to V6 are valid over the ranges of the plant.
 use Rattle.std.proofs.Common.{◌≡◌, ℕ, zero, suc, ◌+◌, ◌-◌, ◌/◌, ◌<◌, ◌≤◌, ◌==◌, Bool, true, false, Some, List, [], ◌∷◌, ◌++◌, drop, length, map, nat_le, slice_get, take, refl, ◌∙◌, arith, if◌then◌else◌}
 use Rattle.std.specs.List.{enumerate_from, flat_map, list_all, range_with_len}
 use Rattle.std.proofs.lemmas.List.Folds.{list_all-map}
@@ -13,22 +12,22 @@ use Rattle.ilk_plant.specs.declared.table.Listed.{Listed}
 use Rattle.ilk_plant.specs.declared.table.Route.{Route}
 use Rattle.ilk_routes.specs.Claims.{sections_outside_path}
 use Rattle.ilk_layout.specs.Variables.{ranges_of_plant}
-use Rattle.ilk_layout.specs.Conditions.{board_is, listed_is_commanded, listed_is_detected, lock_is, mode_is, rel_is, seen_is}
-use Rattle.ilk_layout.proofs.Listed.{listed_is_commanded-valid}
-use Rattle.ilk_layout.proofs.Valid.{board_is-valid, listed_is_detected-valid, lock_is-valid, mode_is-valid, rel_is-valid, seen_is-valid}
-use Rattle.ilk_invs.specs.Held.{section_held_by, is_holding, unreleased_on_path, route_locked_or_occupied, rel_below, seen_below}
+use Rattle.ilk_layout.specs.Conditions.{is_board_aspect, is_listed_point_commanded, is_listed_point_detected, lock_is, mode_is, is_released_count, is_seen_count}
+use Rattle.ilk_layout.proofs.Listed.{is_listed_point_commanded-valid}
+use Rattle.ilk_layout.proofs.Valid.{is_board_aspect-valid, is_listed_point_detected-valid, lock_is-valid, mode_is-valid, is_released_count-valid, is_seen_count-valid}
+use Rattle.ilk_invs.specs.Held.{section_held_by, route_holds_sections, section_unreleased_on_path, route_locked_or_occupied, rel_below, seen_below}
 use Rattle.ilk_invs.specs.declared.hold_family.TheConstants.{MAX_ORDERED_HOLDERS}
-use Rattle.ilk_invs.specs.HoldFamilies.{at_most_one_by_halves, at_most_one_in_order, at_most_one_holder, holders, path_lock_matches_seen, held_sections_have_locks, none_before_if_holding, none_holding, not_in_both, route_holding, v2_tree, v3_tree}
-use Rattle.ilk_invs.specs.Parts.{each_of, for_each_path_index, for_each_route, some_of, implication}
-use Rattle.ilk_invs.specs.PointFamily.{points_of_path, point_matches_route_mode, v6_tree}
-use Rattle.ilk_invs.specs.RouteFamilies.{counts_are_consistent, open_only_for_route, path_vacant, v1_tree, v4_tree, v5_tree}
+use Rattle.ilk_invs.specs.HoldFamilies.{at_most_one_by_halves, at_most_one_in_order, at_most_one_holder, possible_holders, path_lock_matches_seen, held_sections_have_locks, none_before_if_holding, none_holding, not_held_by_both_groups, route_holding, v2_sections_held_once_tree, v3_locks_match_routes_tree}
+use Rattle.ilk_invs.specs.Parts.{each_of, conditions_of_each_path_index, conditions_of_each_route, some_of, implication}
+use Rattle.ilk_invs.specs.PointFamily.{listed_points_on_path, point_matches_route_mode, v6_route_points_set_tree}
+use Rattle.ilk_invs.specs.RouteFamilies.{counts_are_consistent, open_only_for_route, path_vacant, v1_consistent_counts_tree, v4_allocating_paths_vacant_tree, v5_open_needs_locked_tree}
 use Rattle.ilk_routes.proofs.Shape.{beside-known}
-use Rattle.ilk_invs.proofs.ValidParts.{conditions_if_some-valid, each_of-valid, flat_map-valid, section_held_by-valid, if-valid, is_holding-valid, is_kept-valid, joined-valid, map-valid, more-valid, one-valid, path_known, path_vacant-valid, places-valid, rel_below-valid, routes-valid, seen_below-valid, some_of-valid, three-valid, two-valid, implication-valid}
+use Rattle.ilk_invs.proofs.ValidParts.{conditions_for_optional_value-valid, each_of-valid, flat_map-valid, section_held_by-valid, if-valid, route_holds_sections-valid, is_kept-valid, joined-valid, map-valid, more-valid, one-valid, path_known, path_vacant-valid, places-valid, rel_below-valid, routes-valid, seen_below-valid, some_of-valid, three-valid, two-valid, implication-valid}
 
 module _ (p : PlantLists) (plant : IsPlant p) where
-  pub v1-valid : tree_valid (ranges_of_plant p) (v1_tree p) ≡ true
+  pub v1-valid : tree_valid (ranges_of_plant p) (v1_consistent_counts_tree p) ≡ true
   v1-valid =
-      each_of-valid p plant (for_each_route p (λ r route. counts_are_consistent r route ∷ []))
+      each_of-valid p plant (conditions_of_each_route p (λ r route. counts_are_consistent r route ∷ []))
       (routes-valid p plant (λ r route. counts_are_consistent r route ∷ [])
       (λ r route known. one-valid p plant (counts_are_consistent r route)
       (of_route r route known (slice_get_within p.routes r route known))))
@@ -36,41 +35,42 @@ module _ (p : PlantLists) (plant : IsPlant p) where
       of_count : (r : ℕ) (route : Route) (k : ℕ) → slice_get p.routes r ≡ Some route → r < length p.routes →
           k ≤ length route.path →
           tree_valid (ranges_of_plant p)
-          (some_of (negation (mode_is r Occupied) ∷ negation (seen_is r k) ∷ rel_below r k ∷ [])) ≡ true
+          (some_of (negation (mode_is r Occupied) ∷ negation (is_seen_count r k) ∷ rel_below r k ∷ [])) ≡ true
       of_count r route k known within few =
-          some_of-valid p plant (negation (mode_is r Occupied) ∷ negation (seen_is r k) ∷ rel_below r k ∷ [])
-          (three-valid p plant (negation (mode_is r Occupied)) (negation (seen_is r k)) (rel_below r k)
-          (mode_is-valid p r Occupied within) (seen_is-valid p r k route known few)
+          some_of-valid p plant (negation (mode_is r Occupied) ∷ negation (is_seen_count r k) ∷ rel_below r k ∷ [])
+          (three-valid p plant (negation (mode_is r Occupied)) (negation (is_seen_count r k)) (rel_below r k)
+          (mode_is-valid p r Occupied within) (is_seen_count-valid p r k route known few)
           (rel_below-valid p plant r k route known (omega (arith, few))))
 
       of_route : (r : ℕ) (route : Route) → slice_get p.routes r ≡ Some route → r < length p.routes → tree_valid (ranges_of_plant p) (counts_are_consistent r route) ≡ true
       of_route r route known within =
           each_of-valid p plant
-          (some_of (mode_is r Occupied ∷ seen_is r 0 ∷ [])
-          ∷ some_of (mode_is r Occupied ∷ rel_is r 0 ∷ [])
+          (some_of (mode_is r Occupied ∷ is_seen_count r 0 ∷ [])
+          ∷ some_of (mode_is r Occupied ∷ is_released_count r 0 ∷ [])
           ∷ map
           (λ k. some_of
-          (negation (mode_is r Occupied) ∷ negation (seen_is r k) ∷ rel_below r k ∷ []))
+          (negation (mode_is r Occupied) ∷ negation (is_seen_count r k) ∷ rel_below r k ∷ []))
           (range_with_len 0 (length route.path + 1)))
-          (more-valid p plant (some_of (mode_is r Occupied ∷ seen_is r 0 ∷ []))
-          (some_of (mode_is r Occupied ∷ rel_is r 0 ∷ [])
+          (more-valid p plant (some_of (mode_is r Occupied ∷ is_seen_count r 0 ∷ []))
+          (some_of (mode_is r Occupied ∷ is_released_count r 0 ∷ [])
           ∷ map
           (λ k. some_of
-          (negation (mode_is r Occupied) ∷ negation (seen_is r k) ∷ rel_below r k ∷ []))
+          (negation (mode_is r Occupied) ∷ negation (is_seen_count r k) ∷ rel_below r k ∷ []))
           (range_with_len 0 (length route.path + 1)))
-          (some_of-valid p plant (mode_is r Occupied ∷ seen_is r 0 ∷ []) (two-valid p plant (mode_is r Occupied) (seen_is r 0) (mode_is-valid p r Occupied within) (seen_is-valid p r 0 route known (omega arith))))
-          (more-valid p plant (some_of (mode_is r Occupied ∷ rel_is r 0 ∷ [])) (map (λ k. some_of (negation (mode_is r Occupied) ∷ negation (seen_is r k) ∷ rel_below r k ∷ [])) (range_with_len 0 (length route.path + 1)))
-          (some_of-valid p plant (mode_is r Occupied ∷ rel_is r 0 ∷ []) (two-valid p plant (mode_is r Occupied) (rel_is r 0) (mode_is-valid p r Occupied within) (rel_is-valid p r 0 route known (omega arith))))
-          (map-valid p plant (λ k. some_of (negation (mode_is r Occupied) ∷ negation (seen_is r k) ∷ rel_below r k ∷ [])) (range_with_len 0 (length route.path + 1)) (λ i k at.
+          (some_of-valid p plant (mode_is r Occupied ∷ is_seen_count r 0 ∷ []) (two-valid p plant (mode_is r Occupied) (is_seen_count r 0) (mode_is-valid p r Occupied within) (is_seen_count-valid p r 0 route known (omega arith))))
+          (more-valid p plant (some_of (mode_is r Occupied ∷ is_released_count r 0 ∷ [])) (map (λ k. some_of (negation (mode_is r Occupied) ∷ negation (is_seen_count r k) ∷ rel_below r k ∷ [])) (range_with_len 0 (length route.path + 1)))
+          (some_of-valid p plant (mode_is r Occupied ∷ is_released_count r 0 ∷ []) (two-valid p plant (mode_is r Occupied) (is_released_count r 0) (mode_is-valid p r Occupied within) (is_released_count-valid p r 0 route known (omega arith))))
+          (map-valid p plant (λ k. some_of (negation (mode_is r Occupied) ∷ negation (is_seen_count r k) ∷ rel_below r k ∷ [])) (range_with_len 0 (length route.path + 1)) (λ i k at.
           let below = (range_within (length route.path + 1) i k at).1 in of_count r route k known within (omega (arith, below))))))
 
-  pub v2-valid : tree_valid (ranges_of_plant p) (v2_tree p) ≡ true
+  pub v2-valid : tree_valid (ranges_of_plant p) (v2_sections_held_once_tree p) ≡ true
   v2-valid =
-      each_of-valid p plant (flat_map (at_most_one_holder p) (range_with_len 0 (length p.sections))) (flat_map-valid p plant (at_most_one_holder p) (range_with_len 0 (length p.sections)) (λ i x at. by_halves (length (holders p x)) x (holders p x)))
+      each_of-valid p plant (flat_map (at_most_one_holder p) (range_with_len 0 (length p.sections))) (flat_map-valid p plant (at_most_one_holder p) (range_with_len 0 (length p.sections)) (λ i x at. by_halves (length
+      (possible_holders p x)) x (possible_holders p x)))
     where
       holding : (x r : ℕ) → list_all (tree_valid (ranges_of_plant p)) (route_holding p x r) ≡ true
       holding x r =
-          conditions_if_some-valid p plant (slice_get p.routes r) (λ route. section_held_by r route x ∷ []) (λ route known. one-valid p plant (section_held_by r route x) (section_held_by-valid p plant r route x known))
+          conditions_for_optional_value-valid p plant (slice_get p.routes r) (λ route. section_held_by r route x ∷ []) (λ route known. one-valid p plant (section_held_by r route x) (section_held_by-valid p plant r route x known))
 
       none : (x : ℕ) (routes : List ℕ) → tree_valid (ranges_of_plant p) (none_holding p x routes) ≡ true
       none x routes =
@@ -95,13 +95,14 @@ module _ (p : PlantLists) (plant : IsPlant p) where
               (at_most_one_by_halves n p x (drop (length routes / 2) routes)) ≡ true →
               list_all (tree_valid (ranges_of_plant p))
               (if few then at_most_one_in_order p x routes
-              else not_in_both p x (take (length routes / 2) routes)
+              else not_held_by_both_groups p x (take (length routes / 2) routes)
               (drop (length routes / 2) routes)
               ∷ at_most_one_by_halves n p x (take (length routes / 2) routes)
               ++ at_most_one_by_halves n p x (drop (length routes / 2) routes)) ≡ true
           by_size true here there = in_order x routes
           by_size false here there =
-              more-valid p plant (not_in_both p x (take (length routes / 2) routes) (drop (length routes / 2) routes)) (at_most_one_by_halves n p x (take (length routes / 2) routes) ++ at_most_one_by_halves n p x (drop (length routes / 2) routes))
+              more-valid p plant (not_held_by_both_groups p x (take (length routes / 2) routes) (drop (length routes / 2) routes)) (at_most_one_by_halves n p x (take (length routes / 2) routes) ++
+              at_most_one_by_halves n p x (drop (length routes / 2) routes))
               (some_of-valid p plant
               (none_holding p x (take (length routes / 2) routes)
               ∷ none_holding p x (drop (length routes / 2) routes) ∷ [])
@@ -110,18 +111,18 @@ module _ (p : PlantLists) (plant : IsPlant p) where
               (none x (take (length routes / 2) routes)) (none x (drop (length routes / 2) routes))))
               (joined-valid p plant (at_most_one_by_halves n p x (take (length routes / 2) routes)) (at_most_one_by_halves n p x (drop (length routes / 2) routes)) here there)
 
-  pub v3-valid : tree_valid (ranges_of_plant p) (v3_tree p) ≡ true
+  pub v3-valid : tree_valid (ranges_of_plant p) (v3_locks_match_routes_tree p) ≡ true
   v3-valid =
-      each_of-valid p plant (for_each_route p (λ r route. held_sections_have_locks p r route ∷ [])) (routes-valid p plant (λ r route. held_sections_have_locks p r route ∷ []) (λ r route known.
-      one-valid p plant (held_sections_have_locks p r route) (implication-valid p plant (is_holding r)
+      each_of-valid p plant (conditions_of_each_route p (λ r route. held_sections_have_locks p r route ∷ [])) (routes-valid p plant (λ r route. held_sections_have_locks p r route ∷ []) (λ r route known.
+      one-valid p plant (held_sections_have_locks p r route) (implication-valid p plant (route_holds_sections r)
       (each_of
-      (for_each_path_index route (path_lock_matches_seen p r)
+      (conditions_of_each_path_index route (path_lock_matches_seen p r)
       ++ map (λ x. lock_is p x LockedLock) (sections_outside_path route)))
-      (is_holding-valid p plant r (slice_get_within p.routes r route known))
+      (route_holds_sections-valid p plant r (slice_get_within p.routes r route known))
       (each_of-valid p plant
-      (for_each_path_index route (path_lock_matches_seen p r)
+      (conditions_of_each_path_index route (path_lock_matches_seen p r)
       ++ map (λ x. lock_is p x LockedLock) (sections_outside_path route)) (joined-valid p plant
-      (for_each_path_index route (path_lock_matches_seen p r))
+      (conditions_of_each_path_index route (path_lock_matches_seen p r))
       (map (λ x. lock_is p x LockedLock) (sections_outside_path route))
       (places-valid p plant route (path_lock_matches_seen p r) (λ i x at. of_place r route i x known at (slice_get_within route.path i x at)))
       (map-valid p plant (λ x. lock_is p x LockedLock) (sections_outside_path route) (λ i x at. lock_is-valid p x LockedLock (beside-known p route (plant.routes_known r route known) i x at))))))))
@@ -142,10 +143,10 @@ module _ (p : PlantLists) (plant : IsPlant p) where
           (three-valid p plant (negation (rel_below r (i + 1))) (seen_below r (i + 1))
           (lock_is p x UsedLock) rel seen (lock_is-valid p x UsedLock inside)))
 
-  pub v4-valid : tree_valid (ranges_of_plant p) (v4_tree p) ≡ true
+  pub v4-valid : tree_valid (ranges_of_plant p) (v4_allocating_paths_vacant_tree p) ≡ true
   v4-valid =
       each_of-valid p plant
-      (for_each_route p
+      (conditions_of_each_route p
       (λ r route. implication (mode_is r Allocating) (each_of (path_vacant p route)) ∷ []))
       (routes-valid p plant
       (λ r route. implication (mode_is r Allocating) (each_of (path_vacant p route)) ∷ []) (λ r route
@@ -155,11 +156,12 @@ module _ (p : PlantLists) (plant : IsPlant p) where
       (mode_is-valid p r Allocating (slice_get_within p.routes r route known))
       (each_of-valid p plant (path_vacant p route) (path_vacant-valid p plant r route known)))))
 
-  pub v5-valid : tree_valid (ranges_of_plant p) (v5_tree p) ≡ true
+  pub v5-valid : tree_valid (ranges_of_plant p) (v5_open_needs_locked_tree p) ≡ true
   v5-valid =
       each_of-valid p plant (map (open_only_for_route p) (range_with_len 0 (length p.boards))) (map-valid p plant (open_only_for_route p) (range_with_len 0 (length p.boards)) (λ i m at.
-      some_of-valid p plant (negation (board_is p m Open) ∷ for_each_route p (λ r route. if route.source == m then each_of (mode_is r Locked ∷ path_vacant p route) ∷ [] else []))
-      (more-valid p plant (negation (board_is p m Open)) (for_each_route p (λ r route. if route.source == m then each_of (mode_is r Locked ∷ path_vacant p route) ∷ [] else [])) (board_is-valid p m Open (range_within (length p.boards) i m at).1)
+      some_of-valid p plant (negation (is_board_aspect p m Open) ∷ conditions_of_each_route p (λ r route. if route.source == m then each_of (mode_is r Locked ∷ path_vacant p route) ∷ [] else []))
+      (more-valid p plant (negation (is_board_aspect p m Open)) (conditions_of_each_route p (λ r route. if route.source == m then each_of (mode_is r Locked ∷ path_vacant p route) ∷ [] else [])) (is_board_aspect-valid p m Open (range_within
+      (length p.boards) i m at).1)
       (routes-valid p plant (λ r route. if route.source == m then each_of (mode_is r Locked ∷ path_vacant p route) ∷ [] else []) (λ r route known.
       if-valid p plant (route.source == m) (each_of (mode_is r Locked ∷ path_vacant p route) ∷ [])
       (one-valid p plant (each_of (mode_is r Locked ∷ path_vacant p route))
@@ -168,22 +170,24 @@ module _ (p : PlantLists) (plant : IsPlant p) where
       (mode_is-valid p r Locked (slice_get_within p.routes r route known))
       (path_vacant-valid p plant r route known)))))))))
 
-  pub v6-valid : tree_valid (ranges_of_plant p) (v6_tree p) ≡ true
+  pub v6-valid : tree_valid (ranges_of_plant p) (v6_route_points_set_tree p) ≡ true
   v6-valid =
-      each_of-valid p plant (for_each_route p (λ r route. map (point_matches_route_mode p r route) (points_of_path route))) (routes-valid p plant (λ r route. map (point_matches_route_mode p r route) (points_of_path route)) (λ r route known.
-      map-valid p plant (point_matches_route_mode p r route) (points_of_path route) (λ i listed at. of_point r route listed known)))
+      each_of-valid p plant (conditions_of_each_route p (λ r route. map (point_matches_route_mode p r route) (listed_points_on_path route))) (routes-valid p plant (λ r route. map (point_matches_route_mode p r route)
+      (listed_points_on_path route)) (λ r route known.
+      map-valid p plant (point_matches_route_mode p r route) (listed_points_on_path route) (λ i listed at. of_point r route listed known)))
     where
       of_point : (r : ℕ) (route : Route) (listed : Listed) → slice_get p.routes r ≡ Some route → tree_valid (ranges_of_plant p) (point_matches_route_mode p r route listed) ≡ true
       of_point r route listed known =
-          let commanded = listed_is_commanded-valid p listed in
-          let set = each_of-valid p plant (listed_is_commanded p listed ∷ listed_is_detected p listed ∷ []) (two-valid p plant (listed_is_commanded p listed) (listed_is_detected p listed) commanded (listed_is_detected-valid p listed)) in
+          let commanded = is_listed_point_commanded-valid p listed in
+          let set = each_of-valid p plant (is_listed_point_commanded p listed ∷ is_listed_point_detected p listed ∷ []) (two-valid p plant (is_listed_point_commanded p listed) (is_listed_point_detected p listed) commanded
+          (is_listed_point_detected-valid p listed)) in
           each_of-valid p plant
-          (implication (mode_is r Allocating) (listed_is_commanded p listed)
-          ∷ implication (each_of (route_locked_or_occupied r ∷ unreleased_on_path r route listed.point ∷ []))
-          (each_of (listed_is_commanded p listed ∷ listed_is_detected p listed ∷ [])) ∷ [])
-          (two-valid p plant (implication (mode_is r Allocating) (listed_is_commanded p listed))
-          (implication (each_of (route_locked_or_occupied r ∷ unreleased_on_path r route listed.point ∷ []))
-          (each_of (listed_is_commanded p listed ∷ listed_is_detected p listed ∷ [])))
-          (implication-valid p plant (mode_is r Allocating) (listed_is_commanded p listed) (mode_is-valid p r Allocating (slice_get_within p.routes r route known)) commanded)
-          (implication-valid p plant (each_of (route_locked_or_occupied r ∷ unreleased_on_path r route listed.point ∷ [])) (each_of (listed_is_commanded p listed ∷ listed_is_detected p listed ∷ []))
+          (implication (mode_is r Allocating) (is_listed_point_commanded p listed)
+          ∷ implication (each_of (route_locked_or_occupied r ∷ section_unreleased_on_path r route listed.point ∷ []))
+          (each_of (is_listed_point_commanded p listed ∷ is_listed_point_detected p listed ∷ [])) ∷ [])
+          (two-valid p plant (implication (mode_is r Allocating) (is_listed_point_commanded p listed))
+          (implication (each_of (route_locked_or_occupied r ∷ section_unreleased_on_path r route listed.point ∷ []))
+          (each_of (is_listed_point_commanded p listed ∷ is_listed_point_detected p listed ∷ [])))
+          (implication-valid p plant (mode_is r Allocating) (is_listed_point_commanded p listed) (mode_is-valid p r Allocating (slice_get_within p.routes r route known)) commanded)
+          (implication-valid p plant (each_of (route_locked_or_occupied r ∷ section_unreleased_on_path r route listed.point ∷ [])) (each_of (is_listed_point_commanded p listed ∷ is_listed_point_detected p listed ∷ []))
           (is_kept-valid p plant r route listed.point known) set))

@@ -1,4 +1,3 @@
--- The conditions of all families are valid over the ranges of the plant.
 use Rattle.std.proofs.Common.{◌≡◌, ℕ, ◌+◌, ◌-◌, ◌<◌, ◌==◌, true, false, ◌&&◌, Option, Some, None, List, [], ◌∷◌, ◌++◌, drop, length, map, nat_lt, slice_get, unwrap_or, refl, ◌∙◌, ap, arith, if◌then◌else◌}
 use Rattle.std.specs.List.{flat_map, list_all, range_with_len}
 use Rattle.std.proofs.lemmas.Option.{slice_get_within}
@@ -6,7 +5,7 @@ use Rattle.ilk_base.proofs.ListTests.{all-at}
 use Rattle.ilk_base.proofs.Ranges.{range_within}
 use Rattle.ilk_base.proofs.Tested.{list_all-slice_get}
 use Rattle.ilk_ir.specs.Tree.{Tree, negation, no, tree_valid}
-use Rattle.ilk_plant.specs.Network.{has_section}
+use Rattle.ilk_plant.specs.Network.{contains_section}
 use Rattle.ilk_plant.specs.Plant.{IsPlant, PlantLists}
 use Rattle.ilk_plant.specs.declared.network.Dir.{Dir}
 use Rattle.ilk_plant.specs.declared.network.Dir.TheVariants.{Up, Down}
@@ -17,15 +16,15 @@ use Rattle.ilk_model.specs.Holding.{continues_without_board, route_runs_in_direc
 use Rattle.ilk_layout.specs.Variables.{ranges_of_plant}
 use Rattle.ilk_layout.specs.declared.values.Occupancy.{Occupancy}
 use Rattle.ilk_layout.specs.declared.values.Occupancy.TheVariants.{Vacant, Taken, Crash}
-use Rattle.ilk_layout.specs.Conditions.{board_is, mode_is, no_train_at, occupancy_is, train_at}
-use Rattle.ilk_layout.proofs.Valid.{board_is-valid, mode_is-valid, no_train_at-valid, occupancy_is-valid}
+use Rattle.ilk_layout.specs.Conditions.{is_board_aspect, mode_is, no_train_at, occupancy_is, train_at}
+use Rattle.ilk_layout.proofs.Valid.{is_board_aspect-valid, mode_is-valid, no_train_at-valid, occupancy_is-valid}
 use Rattle.ilk_invs.specs.FamilyTrees.{family_tree, family_trees}
-use Rattle.ilk_invs.specs.Held.{unreleased_on_path, route_locked_or_occupied, seen_below}
-use Rattle.ilk_invs.specs.HoldFamilies.{v2_tree, v3_tree}
-use Rattle.ilk_invs.specs.Parts.{each_of, for_each_path_index, for_each_route, some_of, implication}
-use Rattle.ilk_invs.specs.PointFamily.{v6_tree}
-use Rattle.ilk_invs.specs.RouteFamilies.{v1_tree, v4_tree, v5_tree, v9_tree}
-use Rattle.ilk_invs.specs.TrainFamilies.{body_at, head_at, route_retains_at, body_has_route_set_at, route_set_for_head_at, route_set_and_clear_past, head_has_route_set_at, none_seen_past, v7_tree, v8_tree, vacant_or_up}
+use Rattle.ilk_invs.specs.Held.{section_unreleased_on_path, route_locked_or_occupied, seen_below}
+use Rattle.ilk_invs.specs.HoldFamilies.{v2_sections_held_once_tree, v3_locks_match_routes_tree}
+use Rattle.ilk_invs.specs.Parts.{each_of, conditions_of_each_path_index, conditions_of_each_route, some_of, implication}
+use Rattle.ilk_invs.specs.PointFamily.{v6_route_points_set_tree}
+use Rattle.ilk_invs.specs.RouteFamilies.{v1_consistent_counts_tree, v4_allocating_paths_vacant_tree, v5_open_needs_locked_tree, v9_protecting_boards_closed_tree}
+use Rattle.ilk_invs.specs.TrainFamilies.{body_at, head_at, route_retains_at, body_has_route_set_at, route_set_for_head_at, route_set_and_clear_past, head_has_route_set_at, none_seen_past, v7_heads_have_routes_tree, v8_bodies_have_routes_tree, vacant_or_up}
 use Rattle.ilk_invs.proofs.Tests.{dropped-at}
 use Rattle.ilk_invs.proofs.ValidParts.{each_of-valid, flat_map-valid, if-valid, is_kept-valid, joined-valid, map-valid, more-valid, one-valid, path_known, places-valid, routes-valid, seen_below-valid, some_of-valid, two-valid, implication-valid}
 use Rattle.ilk_invs.proofs.ValidRouteTrees.{v1-valid, v2-valid, v3-valid, v4-valid, v5-valid, v6-valid}
@@ -57,15 +56,15 @@ module _ (p : PlantLists) (plant : IsPlant p) where
   route_set_and_clear_past-valid r route i x known at =
       let within = slice_get_within p.routes r route known in
       let less = slice_get_within route.path i x at in
-      let closed = each_of-valid p plant (mode_is r Locked ∷ board_is p route.source Closed ∷ [])
-      (two-valid p plant (mode_is r Locked) (board_is p route.source Closed) (mode_is-valid p r Locked within)
-      (board_is-valid p route.source Closed (plant.routes_known r route known).source)) in
+      let closed = each_of-valid p plant (mode_is r Locked ∷ is_board_aspect p route.source Closed ∷ [])
+      (two-valid p plant (mode_is r Locked) (is_board_aspect p route.source Closed) (mode_is-valid p r Locked within)
+      (is_board_aspect-valid p route.source Closed (plant.routes_known r route known).source)) in
       let may = some_of-valid p plant
-      (mode_is r Occupied ∷ each_of (mode_is r Locked ∷ board_is p route.source Closed ∷ []) ∷ [])
-      (two-valid p plant (mode_is r Occupied) (each_of (mode_is r Locked ∷ board_is p route.source Closed ∷ []))
+      (mode_is r Occupied ∷ each_of (mode_is r Locked ∷ is_board_aspect p route.source Closed ∷ []) ∷ [])
+      (two-valid p plant (mode_is r Occupied) (each_of (mode_is r Locked ∷ is_board_aspect p route.source Closed ∷ []))
       (mode_is-valid p r Occupied within) closed) in
-      each_of-valid p plant (some_of (mode_is r Occupied ∷ each_of (mode_is r Locked ∷ board_is p route.source Closed ∷ []) ∷ []) ∷ (none_seen_past r route i ++ map (no_train_at p) (drop (i + 1) route.path)))
-      (more-valid p plant (some_of (mode_is r Occupied ∷ each_of (mode_is r Locked ∷ board_is p route.source Closed ∷ []) ∷ [])) (none_seen_past r route i ++ map (no_train_at p) (drop (i + 1) route.path)) may
+      each_of-valid p plant (some_of (mode_is r Occupied ∷ each_of (mode_is r Locked ∷ is_board_aspect p route.source Closed ∷ []) ∷ []) ∷ (none_seen_past r route i ++ map (no_train_at p) (drop (i + 1) route.path)))
+      (more-valid p plant (some_of (mode_is r Occupied ∷ each_of (mode_is r Locked ∷ is_board_aspect p route.source Closed ∷ []) ∷ [])) (none_seen_past r route i ++ map (no_train_at p) (drop (i + 1) route.path)) may
       (joined-valid p plant (none_seen_past r route i) (map (no_train_at p) (drop (i + 1) route.path)) (none_seen_past-valid r route i known less)
       (map-valid p plant (no_train_at p) (drop (i + 1) route.path) (λ k y there. no_train_at-valid p y (path_known p plant r route ((i + 1) + k) y known (dropped-at (i + 1) route.path k y there))))))
 
@@ -77,60 +76,63 @@ module _ (p : PlantLists) (plant : IsPlant p) where
       each_of-valid p plant (flat_map (λ x. f Up x ++ f Down x) (range_with_len 0 (length p.sections))) (flat_map-valid p plant (λ x. f Up x ++ f Down x) (range_with_len 0 (length p.sections)) (λ i x at.
       let within = (range_within (length p.sections) i x at).1 in joined-valid p plant (f Up x) (f Down x) (each Up x within) (each Down x within)))
 
-  v7-valid : tree_valid (ranges_of_plant p) (v7_tree p) ≡ true
+  v7-valid : tree_valid (ranges_of_plant p) (v7_heads_have_routes_tree p) ≡ true
   v7-valid =
       instances-valid (head_has_route_set_at p) (λ d x within.
-      if-valid p plant (continues_without_board p d x) (some_of (negation (head_at p d x) ∷ for_each_route p (route_set_for_head_at p d x)) ∷ []) (one-valid p plant (some_of (negation (head_at p d x) ∷ for_each_route p (route_set_for_head_at p d x)))
-      (some_of-valid p plant (negation (head_at p d x) ∷ for_each_route p (route_set_for_head_at p d x)) (more-valid p plant (negation (head_at p d x)) (for_each_route p (route_set_for_head_at p d x)) (head_at-valid d x within)
+      if-valid p plant (continues_without_board p d x) (some_of (negation (head_at p d x) ∷ conditions_of_each_route p (route_set_for_head_at p d x)) ∷ []) (one-valid p plant (some_of (negation (head_at p d x) ∷ conditions_of_each_route p
+      (route_set_for_head_at p d x)))
+      (some_of-valid p plant (negation (head_at p d x) ∷ conditions_of_each_route p (route_set_for_head_at p d x)) (more-valid p plant (negation (head_at p d x)) (conditions_of_each_route p (route_set_for_head_at p d x)) (head_at-valid d x within)
       (routes-valid p plant (route_set_for_head_at p d x) (λ r route known.
-      if-valid p plant (route_runs_in_direction p d route) (for_each_path_index route (λ i y. if y == x then route_set_and_clear_past p r route i ∷ [] else []))
+      if-valid p plant (route_runs_in_direction p d route) (conditions_of_each_path_index route (λ i y. if y == x then route_set_and_clear_past p r route i ∷ [] else []))
       (places-valid p plant route (λ i y. if y == x then route_set_and_clear_past p r route i ∷ [] else []) (λ i y at.
       if-valid p plant (y == x) (route_set_and_clear_past p r route i ∷ []) (one-valid p plant (route_set_and_clear_past p r route i) (route_set_and_clear_past-valid r route i y known at))))))))))
 
-  v8-valid : tree_valid (ranges_of_plant p) (v8_tree p) ≡ true
+  v8-valid : tree_valid (ranges_of_plant p) (v8_bodies_have_routes_tree p) ≡ true
   v8-valid =
       instances-valid (body_has_route_set_at p) (λ d x within.
-      if-valid p plant (continues_without_board p d x) (some_of (negation (body_at p d x) ∷ for_each_route p (route_retains_at p d x)) ∷ []) (one-valid p plant (some_of (negation (body_at p d x) ∷ for_each_route p (route_retains_at p d x)))
-      (some_of-valid p plant (negation (body_at p d x) ∷ for_each_route p (route_retains_at p d x)) (more-valid p plant (negation (body_at p d x)) (for_each_route p (route_retains_at p d x)) (body_at-valid d x within)
+      if-valid p plant (continues_without_board p d x) (some_of (negation (body_at p d x) ∷ conditions_of_each_route p (route_retains_at p d x)) ∷ []) (one-valid p plant (some_of (negation (body_at p d x) ∷ conditions_of_each_route p
+      (route_retains_at p d x)))
+      (some_of-valid p plant (negation (body_at p d x) ∷ conditions_of_each_route p (route_retains_at p d x)) (more-valid p plant (negation (body_at p d x)) (conditions_of_each_route p (route_retains_at p d x)) (body_at-valid d x within)
       (routes-valid p plant (route_retains_at p d x) (λ r route known.
-      if-valid p plant (route_runs_in_direction p d route && has_section x route.path)
-      (each_of (route_locked_or_occupied r ∷ unreleased_on_path r route x ∷ []) ∷ [])
-      (one-valid p plant (each_of (route_locked_or_occupied r ∷ unreleased_on_path r route x ∷ []))
+      if-valid p plant (route_runs_in_direction p d route && contains_section x route.path)
+      (each_of (route_locked_or_occupied r ∷ section_unreleased_on_path r route x ∷ []) ∷ [])
+      (one-valid p plant (each_of (route_locked_or_occupied r ∷ section_unreleased_on_path r route x ∷ []))
       (is_kept-valid p plant r route x known))))))))
 
-  v9-valid : tree_valid (ranges_of_plant p) (v9_tree p) ≡ true
+  v9-valid : tree_valid (ranges_of_plant p) (v9_protecting_boards_closed_tree p) ≡ true
   v9-valid =
       each_of-valid p plant
-      (for_each_route p
-      (λ r route. map (λ m. implication (mode_is r Locked) (board_is p m Closed))
+      (conditions_of_each_route p
+      (λ r route. map (λ m. implication (mode_is r Locked) (is_board_aspect p m Closed))
       route.protecting_boards)) (routes-valid p plant
-      (λ r route. map (λ m. implication (mode_is r Locked) (board_is p m Closed)) route.protecting_boards)
+      (λ r route. map (λ m. implication (mode_is r Locked) (is_board_aspect p m Closed)) route.protecting_boards)
       (λ r route known.
-      map-valid p plant (λ m. implication (mode_is r Locked) (board_is p m Closed)) route.protecting_boards (λ i m at.
-      implication-valid p plant (mode_is r Locked) (board_is p m Closed)
+      map-valid p plant (λ m. implication (mode_is r Locked) (is_board_aspect p m Closed)) route.protecting_boards (λ i m at.
+      implication-valid p plant (mode_is r Locked) (is_board_aspect p m Closed)
       (mode_is-valid p r Locked (slice_get_within p.routes r route known))
-      (board_is-valid p m Closed
+      (is_board_aspect-valid p m Closed
       (all-at (λ m. m < length p.boards) route.protecting_boards i m
       (plant.routes_known r route known).protecting_boards at)))))
 
   pub families-valid : list_all (tree_valid (ranges_of_plant p)) (family_trees p) ≡ true
   families-valid =
-      more-valid p plant (v1_tree p)
-      (v2_tree p ∷ v3_tree p ∷ v4_tree p ∷ v5_tree p ∷ v6_tree p ∷ v7_tree p ∷ v8_tree p ∷ v9_tree p ∷ [])
+      more-valid p plant (v1_consistent_counts_tree p)
+      (v2_sections_held_once_tree p ∷ v3_locks_match_routes_tree p ∷ v4_allocating_paths_vacant_tree p ∷ v5_open_needs_locked_tree p ∷ v6_route_points_set_tree p ∷ v7_heads_have_routes_tree p ∷ v8_bodies_have_routes_tree p ∷
+      v9_protecting_boards_closed_tree p ∷ [])
       (v1-valid p plant)
-      (more-valid p plant (v2_tree p)
-      (v3_tree p ∷ v4_tree p ∷ v5_tree p ∷ v6_tree p ∷ v7_tree p ∷ v8_tree p ∷ v9_tree p ∷ [])
+      (more-valid p plant (v2_sections_held_once_tree p)
+      (v3_locks_match_routes_tree p ∷ v4_allocating_paths_vacant_tree p ∷ v5_open_needs_locked_tree p ∷ v6_route_points_set_tree p ∷ v7_heads_have_routes_tree p ∷ v8_bodies_have_routes_tree p ∷ v9_protecting_boards_closed_tree p ∷ [])
       (v2-valid p plant)
-      (more-valid p plant (v3_tree p)
-      (v4_tree p ∷ v5_tree p ∷ v6_tree p ∷ v7_tree p ∷ v8_tree p ∷ v9_tree p ∷ []) (v3-valid p plant)
-      (more-valid p plant (v4_tree p) (v5_tree p ∷ v6_tree p ∷ v7_tree p ∷ v8_tree p ∷ v9_tree p ∷ [])
+      (more-valid p plant (v3_locks_match_routes_tree p)
+      (v4_allocating_paths_vacant_tree p ∷ v5_open_needs_locked_tree p ∷ v6_route_points_set_tree p ∷ v7_heads_have_routes_tree p ∷ v8_bodies_have_routes_tree p ∷ v9_protecting_boards_closed_tree p ∷ []) (v3-valid p plant)
+      (more-valid p plant (v4_allocating_paths_vacant_tree p) (v5_open_needs_locked_tree p ∷ v6_route_points_set_tree p ∷ v7_heads_have_routes_tree p ∷ v8_bodies_have_routes_tree p ∷ v9_protecting_boards_closed_tree p ∷ [])
       (v4-valid p plant)
-      (more-valid p plant (v5_tree p) (v6_tree p ∷ v7_tree p ∷ v8_tree p ∷ v9_tree p ∷ [])
+      (more-valid p plant (v5_open_needs_locked_tree p) (v6_route_points_set_tree p ∷ v7_heads_have_routes_tree p ∷ v8_bodies_have_routes_tree p ∷ v9_protecting_boards_closed_tree p ∷ [])
       (v5-valid p plant)
-      (more-valid p plant (v6_tree p) (v7_tree p ∷ v8_tree p ∷ v9_tree p ∷ []) (v6-valid p plant)
-      (more-valid p plant (v7_tree p) (v8_tree p ∷ v9_tree p ∷ []) v7-valid
-      (more-valid p plant (v8_tree p) (v9_tree p ∷ []) v8-valid
-      (one-valid p plant (v9_tree p) v9-valid))))))))
+      (more-valid p plant (v6_route_points_set_tree p) (v7_heads_have_routes_tree p ∷ v8_bodies_have_routes_tree p ∷ v9_protecting_boards_closed_tree p ∷ []) (v6-valid p plant)
+      (more-valid p plant (v7_heads_have_routes_tree p) (v8_bodies_have_routes_tree p ∷ v9_protecting_boards_closed_tree p ∷ []) v7-valid
+      (more-valid p plant (v8_bodies_have_routes_tree p) (v9_protecting_boards_closed_tree p ∷ []) v8-valid
+      (one-valid p plant (v9_protecting_boards_closed_tree p) v9-valid))))))))
 
   pub family-valid : (j : ℕ) → tree_valid (ranges_of_plant p) (family_tree p j) ≡ true
   family-valid j = by_option (slice_get (family_trees p) (j - 1)) refl

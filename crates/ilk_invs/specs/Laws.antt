@@ -1,4 +1,3 @@
--- Theorems about the families as conditions.
 use Rattle.std.specs.Prelude.{◌≡◌, ℕ}
 use Rattle.ilk_ir.specs.Tree.{Tree, tree_holds}
 use Rattle.ilk_plant.specs.Plant.{PlantLists}
@@ -7,7 +6,7 @@ use Rattle.ilk_model.specs.Meets.{keeps_family}
 use Rattle.ilk_layout.specs.Image.{image_of}
 use Rattle.ilk_layout.specs.Laws.{IsWellFormedAndSafe}
 
--- For the image of each well-formed state without hazard, the condition holds if and only if the
--- state keeps family V`j`.
+-- Holds if condition `t` is true of the image of each well-formed state without hazard exactly if
+-- the state keeps family V`j`.
 abbrev pub TreeMeansFamily : PlantLists → ℕ → Tree → Type 0
 TreeMeansFamily p j t = (s : State) → IsWellFormedAndSafe p s → tree_holds (image_of p s) t ≡ keeps_family p s j

@@ -1,9 +1,9 @@
--- V7 and V8, about trains, as conditions on the values of a plant's variables. Trains are
--- represented by the occupancies of their sections.
+-- Families V7 and V8, about trains, as conditions on the values of a plant's variables. The
+-- occupancies of sections represent the trains.
 use Rattle.std.specs.Prelude.{ℕ, ◌+◌, ◌==◌, ◌&&◌, true, false, List, [], ◌∷◌, ◌++◌, drop, flat_map, length, map, nat_lt, if◌then◌else◌}
 use Rattle.std.specs.List.{range_with_len}
 use Rattle.ilk_ir.specs.Tree.{Tree, negation}
-use Rattle.ilk_plant.specs.Network.{has_section}
+use Rattle.ilk_plant.specs.Network.{contains_section}
 use Rattle.ilk_plant.specs.Plant.{PlantLists}
 use Rattle.ilk_plant.specs.declared.network.Dir.{Dir}
 use Rattle.ilk_plant.specs.declared.network.Dir.TheVariants.{Up, Down}
@@ -12,65 +12,70 @@ use Rattle.ilk_plant.specs.declared.state.Mode.TheVariants.{Locked, Occupied}
 use Rattle.ilk_plant.specs.declared.table.Route.{Route}
 use Rattle.ilk_layout.specs.declared.values.Occupancy.TheVariants.{Vacant, Taken, Crash}
 use Rattle.ilk_model.specs.Holding.{continues_without_board, route_runs_in_direction}
-use Rattle.ilk_layout.specs.Conditions.{board_is, mode_is, no_train_at, occupancy_is, train_at}
-use Rattle.ilk_invs.specs.Held.{unreleased_on_path, route_locked_or_occupied, seen_below}
-use Rattle.ilk_invs.specs.Parts.{each_of, for_each_path_index, for_each_route, some_of}
+use Rattle.ilk_layout.specs.Conditions.{is_board_aspect, mode_is, no_train_at, occupancy_is, train_at}
+use Rattle.ilk_invs.specs.Held.{section_unreleased_on_path, route_locked_or_occupied, seen_below}
+use Rattle.ilk_invs.specs.Parts.{each_of, conditions_of_each_path_index, conditions_of_each_route, some_of}
 
--- A train in direction `d` has its head at `x`.
+-- The condition that a train in direction `d` has its head at section `x`.
 abbrev pub head_at : PlantLists → Dir → ℕ → Tree
 head_at p d x = some_of (map (λ tail. occupancy_is p x (Taken d tail true)) (false ∷ true ∷ []))
 
--- `x` is vacant or has an up train: a range of occupancies from 0, which a formula encodes as one
--- literal.
+-- The condition that section `x` is vacant or has an up train. These occupancies are a range from
+-- 0, which a formula encodes as one literal.
 abbrev pub vacant_or_up : PlantLists → ℕ → Tree
 vacant_or_up p x =
     some_of (map (occupancy_is p x) (Vacant ∷ Taken Up false false ∷ Taken Up false true ∷ Taken Up true false ∷ Taken Up true true ∷ []))
 
--- A train in direction `d` has `x` in its body. For up, `x` is not vacant, but vacant or with an up
--- train. For down, `x` is neither vacant nor with an up train, and has no crash.
+-- The condition that a train in direction `d` has section `x` in its body. For up, `x` is not
+-- vacant, but `vacant_or_up`. For down, it is neither `vacant_or_up` nor a crash.
 abbrev pub body_at : PlantLists → Dir → ℕ → Tree
 body_at p Up x = each_of (train_at p x ∷ vacant_or_up p x ∷ [])
 body_at p Down x = each_of (negation (vacant_or_up p x) ∷ negation (occupancy_is p x Crash) ∷ [])
 
--- No path section of route `r` after index `i` is seen: at most i + 1 are. This is trivial, and
--- left out, if the path ends there.
+-- The condition that no path section of route `r` after index `i` is seen, or none if the path ends
+-- there.
 abbrev pub none_seen_past : ℕ → Route → ℕ → List Tree
 none_seen_past r route i = if nat_lt (i + 1) (length route.path) then seen_below r (i + 2) ∷ [] else []
 
--- Route `r` is set for a train with its head at path[`i`]. The route is Occupied, or Locked with
--- its source Closed. No later path section is seen, and all of them are vacant.
+-- The condition that route `r` is set for a train with its head at path[`i`]. The route is
+-- Occupied, or Locked with its source Closed. All later path sections are not seen, and are vacant.
 abbrev pub route_set_and_clear_past : PlantLists → ℕ → Route → ℕ → Tree
 route_set_and_clear_past p r route i =
-    each_of (some_of (mode_is r Occupied ∷ each_of (mode_is r Locked ∷ board_is p route.source Closed ∷ []) ∷ [])
+    each_of (some_of (mode_is r Occupied ∷ each_of (mode_is r Locked ∷ is_board_aspect p route.source Closed ∷ []) ∷ [])
     ∷ (none_seen_past r route i ++ map (no_train_at p) (drop (i + 1) route.path)))
 
--- Route `r`, if it runs in direction `d`, leads a train with its head at `x`.
+-- The conditions that route `r` is set for a train with its head at section `x`, one for each index
+-- of `x` on its path. There is none unless the route runs in direction `d`.
 abbrev pub route_set_for_head_at : PlantLists → Dir → ℕ → ℕ → Route → List Tree
 route_set_for_head_at p d x r route =
-    if route_runs_in_direction p d route then for_each_path_index route (λ i y. if y == x then route_set_and_clear_past p r route i ∷ [] else []) else []
+    if route_runs_in_direction p d route then conditions_of_each_path_index route (λ i y. if y == x then route_set_and_clear_past p r route i ∷ [] else []) else []
 
--- V7 for `x` and direction `d`, if `x` is plain for `d`: no train has its head there, or some route
--- leads it.
+-- Family V7 for section `x` and direction `d`, if `x` has a neighbour there but no board: if a
+-- train has its head at `x`, some route is set for it.
 abbrev pub head_has_route_set_at : PlantLists → Dir → ℕ → List Tree
 head_has_route_set_at p d x =
-    if continues_without_board p d x then some_of (negation (head_at p d x) ∷ for_each_route p (route_set_for_head_at p d x)) ∷ [] else []
+    if continues_without_board p d x then some_of (negation (head_at p d x) ∷ conditions_of_each_route p (route_set_for_head_at p d x)) ∷ [] else []
 
-abbrev pub v7_tree : PlantLists → Tree
-v7_tree p = each_of (flat_map (λ x. head_has_route_set_at p Up x ++ head_has_route_set_at p Down x) (range_with_len 0 (length p.sections)))
+-- Family V7: some route is set for each train whose head is at a section with a neighbour ahead but
+-- no board.
+abbrev pub v7_heads_have_routes_tree : PlantLists → Tree
+v7_heads_have_routes_tree p = each_of (flat_map (λ x. head_has_route_set_at p Up x ++ head_has_route_set_at p Down x) (range_with_len 0 (length p.sections)))
 
--- Route `r`, if it runs in direction `d` and has `x` in its path, is Locked or Occupied and keeps
--- `x`.
+-- The condition that route `r` is Locked or Occupied and has not released section `x`. There is
+-- none unless it runs in direction `d` and has `x` in its path.
 abbrev pub route_retains_at : PlantLists → Dir → ℕ → ℕ → Route → List Tree
 route_retains_at p d x r route =
-    if route_runs_in_direction p d route && has_section x route.path
-    then each_of (route_locked_or_occupied r ∷ unreleased_on_path r route x ∷ []) ∷ []
+    if route_runs_in_direction p d route && contains_section x route.path
+    then each_of (route_locked_or_occupied r ∷ section_unreleased_on_path r route x ∷ []) ∷ []
     else []
 
--- V8 for `x` and direction `d`, if `x` is plain for `d`: no train has it in its body, or some route
--- keeps it.
+-- Family V8 for section `x` and direction `d`, if `x` has a neighbour there but no board: if a
+-- train has `x` in its body, some route retains `x` (`route_retains_at`).
 abbrev pub body_has_route_set_at : PlantLists → Dir → ℕ → List Tree
 body_has_route_set_at p d x =
-    if continues_without_board p d x then some_of (negation (body_at p d x) ∷ for_each_route p (route_retains_at p d x)) ∷ [] else []
+    if continues_without_board p d x then some_of (negation (body_at p d x) ∷ conditions_of_each_route p (route_retains_at p d x)) ∷ [] else []
 
-abbrev pub v8_tree : PlantLists → Tree
-v8_tree p = each_of (flat_map (λ x. body_has_route_set_at p Up x ++ body_has_route_set_at p Down x) (range_with_len 0 (length p.sections)))
+-- Family V8: if a section of a train's body has a neighbour ahead but no board, some Locked or
+-- Occupied route in the train's direction has it on its path, not released.
+abbrev pub v8_bodies_have_routes_tree : PlantLists → Tree
+v8_bodies_have_routes_tree p = each_of (flat_map (λ x. body_has_route_set_at p Up x ++ body_has_route_set_at p Down x) (range_with_len 0 (length p.sections)))

@@ -5,12 +5,15 @@ ghost use Rattle.ilk_layout.specs.Variables.{ranges_of_plant};
 ghost use Rattle.ilk_invs.specs.FamilyTrees as definitions;
 ghost use Rattle.ilk_invs.specs.Laws.{TreeMeansFamily};
 
-use crate::hold_family::v2_form;
-use crate::kept_family::v8_form;
-use crate::lock_family::v3_form;
-use crate::point_family::v6_form;
-use crate::route_families::{v1_form, v4_form, v5_form, v9_form};
-use crate::train_families::v7_form;
+use crate::hold_family::v2_sections_held_once_form;
+use crate::kept_family::v8_bodies_have_routes_form;
+use crate::lock_family::v3_locks_match_routes_form;
+use crate::point_family::v6_route_points_set_form;
+use crate::route_families::{
+    v1_consistent_counts_form, v4_allocating_paths_vacant_form, v5_open_needs_locked_form,
+    v9_protecting_boards_closed_form,
+};
+use crate::train_families::v7_heads_have_routes_form;
 use ilk_ir::{Form, Forms};
 use ilk_plant::{Plant, Row};
 use std::alloc::{AllocError, Global};
@@ -21,38 +24,37 @@ fn form_of(alloc: Global, plant: &Plant, j: u8) -> Result<Form, AllocError>
     ensures { IfOk result (λ form. tree_of form ≡ definitions.family_tree plant.now j) }
 {
     match j {
-        1 => v1_form(alloc, plant),
-        2 => v2_form(alloc, plant),
-        3 => v3_form(alloc, plant),
-        4 => v4_form(alloc, plant),
-        5 => v5_form(alloc, plant),
-        6 => v6_form(alloc, plant),
-        7 => v7_form(alloc, plant),
-        8 => v8_form(alloc, plant),
-        _ => v9_form(alloc, plant),
+        1 => v1_consistent_counts_form(alloc, plant),
+        2 => v2_sections_held_once_form(alloc, plant),
+        3 => v3_locks_match_routes_form(alloc, plant),
+        4 => v4_allocating_paths_vacant_form(alloc, plant),
+        5 => v5_open_needs_locked_form(alloc, plant),
+        6 => v6_route_points_set_form(alloc, plant),
+        7 => v7_heads_have_routes_form(alloc, plant),
+        8 => v8_bodies_have_routes_form(alloc, plant),
+        _ => v9_protecting_boards_closed_form(alloc, plant),
     }
 }
 
-/// Returns family V`j` of the invariant as a form, for `j` from 1 to 9. Fails only if memory runs
+/// Returns the form of family V`j` of the invariant, for `j` from 1 to 9. Fails only if memory runs
 /// out.
 pub fn family_form(alloc: Global, plant: &Plant, j: u8) -> Result<Form, AllocError>
     requires first { 1 ≤ j }
     requires last { j ≤ 9 }
     ensures tree { IfOk result (λ form. tree_of form ≡ definitions.family_tree plant.now j) }
 
-    // For the image of a well-formed state without hazard, it holds if and only if the state keeps
-    // V`j`.
     ensures kept { IfOk result (λ form. TreeMeansFamily plant.now j (tree_of form)) }
     ensures valid { IfOk result
         (λ form. tree_valid (ranges_of_plant plant.now) (tree_of form) ≡ true) }
 {
     plant.prove_is_plant();
-    plant.prove_from_drafts();
+    plant.prove_sound_acyclic_drafts();
     let form = form_of(alloc, plant, j)?;
     Ok(form)
 }
 
-/// Returns all nine families as forms, in order. Fails only if memory runs out.
+/// Returns the forms of all nine families of the invariant, in order. Fails only if memory runs
+/// out.
 pub fn family_forms(alloc: Global, plant: &Plant) -> Result<Forms, AllocError>
     ensures { IfOk result (λ forms. map tree_of forms ≡ definitions.family_trees plant.now) }
 {

@@ -1,7 +1,7 @@
 ghost use Rattle.std.specs.Prelude.{◌≡◌, ◌<◌, ◌+◌, ◌==◌, ◌++◌, ◌∷◌, [], length, map, if◌then◌else◌, IfOk, OnOk};
 ghost use Rattle.std.specs.List.{list_any};
 ghost use Rattle.ilk_ir.specs.Form.{tree_of};
-ghost use Rattle.ilk_plant.specs.Network.{has_section};
+ghost use Rattle.ilk_plant.specs.Network.{contains_section};
 ghost use Rattle.ilk_plant.specs.Plant.{IsValidRouteOf};
 ghost use Rattle.ilk_routes.specs.Claims.{sections_outside_path};
 ghost use Rattle.ilk_layout.specs.Conditions as conditions;
@@ -9,36 +9,40 @@ ghost use Rattle.ilk_invs.specs.Held as definitions;
 
 use ilk_base::has_number;
 use ilk_ir::Form;
-use ilk_layout::{mode_is, negated, rel_is, seen_is};
-use ilk_plant::{Listed, Mode, Plant, Route, Row, has_section};
+use ilk_layout::{is_released_count, is_seen_count, mode_is, negated};
+use ilk_plant::{Listed, Mode, Plant, Route, Row, contains_section};
 use std::alloc::{AllocError, Global};
 
 /// Returns the condition that fewer than `k` path sections of route `r` are seen.
-pub fn seen_below(alloc: Global, plant: &Plant, r: u32, k: u8) -> Result<Form, AllocError>
+pub(crate) fn seen_below(alloc: Global, plant: &Plant, r: u32, k: u8) -> Result<Form, AllocError>
     requires { r < length plant.now.routes }
     ensures { IfOk result (λ form. tree_of form ≡ definitions.seen_below r k) }
 {
     let mut forms = Vec::new(alloc);
     for count in 0..k {
-        forms.push(seen_is(plant, r, count))?;
+        forms.push(is_seen_count(plant, r, count))?;
     }
     Ok(Form::Or(forms))
 }
 
 /// Returns the condition that fewer than `k` path sections of route `r` are released.
-pub fn rel_below(alloc: Global, plant: &Plant, r: u32, k: u8) -> Result<Form, AllocError>
+pub(crate) fn rel_below(alloc: Global, plant: &Plant, r: u32, k: u8) -> Result<Form, AllocError>
     requires { r < length plant.now.routes }
     ensures { IfOk result (λ form. tree_of form ≡ definitions.rel_below r k) }
 {
     let mut forms = Vec::new(alloc);
     for count in 0..k {
-        forms.push(rel_is(plant, r, count))?;
+        forms.push(is_released_count(plant, r, count))?;
     }
     Ok(Form::Or(forms))
 }
 
-/// Returns the condition that route `r` is not Free, Marked or Allocating, so Locked or Occupied.
-pub fn route_locked_or_occupied(alloc: Global, plant: &Plant, r: u32) -> Result<Form, AllocError>
+/// Returns the condition that route `r` is Locked or Occupied.
+pub(crate) fn route_locked_or_occupied(
+    alloc: Global,
+    plant: &Plant,
+    r: u32,
+) -> Result<Form, AllocError>
     requires { r < length plant.now.routes }
     ensures { IfOk result (λ form. tree_of form ≡ definitions.route_locked_or_occupied r) }
 {
@@ -49,10 +53,10 @@ pub fn route_locked_or_occupied(alloc: Global, plant: &Plant, r: u32) -> Result<
     negated(alloc, Form::Or(forms))
 }
 
-/// Returns the condition that route `r` is neither Free nor Marked, so it holds sections.
-pub fn is_holding(alloc: Global, plant: &Plant, r: u32) -> Result<Form, AllocError>
+/// Returns the condition that route `r` holds sections: it is neither Free nor Marked.
+pub(crate) fn route_holds_sections(alloc: Global, plant: &Plant, r: u32) -> Result<Form, AllocError>
     requires { r < length plant.now.routes }
-    ensures { IfOk result (λ form. tree_of form ≡ definitions.is_holding r) }
+    ensures { IfOk result (λ form. tree_of form ≡ definitions.route_holds_sections r) }
 {
     let mut forms = Vec::new(alloc);
     forms.push(mode_is(plant, r, Mode::Free))?;
@@ -60,7 +64,6 @@ pub fn is_holding(alloc: Global, plant: &Plant, r: u32) -> Result<Form, AllocErr
     negated(alloc, Form::Or(forms))
 }
 
-// Adds the condition that route `r` has released `count` sections, if `is_set_and_unreleased`.
 fn push_if_kept(
     forms: &mut Vec<Form>,
     plant: &Plant,
@@ -72,16 +75,17 @@ fn push_if_kept(
     ensures { OnOk result
         (map tree_of forms.new.items
         ≡ map tree_of forms.old.items
-        ++ (if is_kept then conditions.rel_is r count ∷ [] else [])) }
+        ++ (if is_kept then conditions.is_released_count r count ∷ [] else [])) }
 {
     if is_kept {
-        forms.push(rel_is(plant, r, count))?;
+        forms.push(is_released_count(plant, r, count))?;
     }
     Ok(())
 }
 
-/// Returns the condition that section `x` is on the part of route `r`'s path that is not released.
-pub fn unreleased_on_path(
+/// Returns the condition that section `x` is on the path of `route`, which is number `r`, and not
+/// released.
+pub(crate) fn section_unreleased_on_path(
     alloc: Global,
     plant: &Plant,
     r: u32,
@@ -90,7 +94,8 @@ pub fn unreleased_on_path(
 ) -> Result<Form, AllocError>
     requires known { r < length plant.now.routes }
     requires route { IsValidRouteOf plant.now route.now }
-    ensures { IfOk result (λ form. tree_of form ≡ definitions.unreleased_on_path r route.now x) }
+    ensures { IfOk result (λ form. tree_of form ≡
+        definitions.section_unreleased_on_path r route.now x) }
 {
     let path = route.path.as_slice();
     let mut forms = Vec::new(alloc);
@@ -112,16 +117,16 @@ fn has_point(points: &Row<Listed>, x: u32) -> bool
     points.as_slice().iter().any(|listed| listed.point == x)
 }
 
-/// Returns whether section `x` is in the route's overlap or has one of its protecting points.
+/// Returns whether section `x` is in the overlap of `route` or has one of its protecting points.
 #[tactic(auto, using(crate::proofs::Sections::beside_route))]
-pub fn is_in_overlap_or_protecting(route: &Route, x: u32) -> bool
-    ensures { result ≡ has_section x (sections_outside_path route.now) }
+pub(crate) fn is_in_overlap_or_protecting(route: &Route, x: u32) -> bool
+    ensures { result ≡ contains_section x (sections_outside_path route.now) }
 {
-    has_section(&route.overlap, x) || has_point(&route.protecting_points, x)
+    contains_section(&route.overlap, x) || has_point(&route.protecting_points, x)
 }
 
-/// Returns the condition that route `r` holds section `x`.
-pub fn section_held_by(
+/// Returns the condition that `route`, which is number `r`, holds section `x`.
+pub(crate) fn section_held_by(
     alloc: Global,
     plant: &Plant,
     r: u32,
@@ -132,12 +137,12 @@ pub fn section_held_by(
     requires route { IsValidRouteOf plant.now route.now }
     ensures { IfOk result (λ form. tree_of form ≡ definitions.section_held_by r route.now x) }
 {
-    let holding = is_holding(alloc, plant, r)?;
+    let holding = route_holds_sections(alloc, plant, r)?;
     if is_in_overlap_or_protecting(route, x) {
         return Ok(holding);
     }
     let mut forms = Vec::new(alloc);
     forms.push(holding)?;
-    forms.push(unreleased_on_path(alloc, plant, r, route, x)?)?;
+    forms.push(section_unreleased_on_path(alloc, plant, r, route, x)?)?;
     Ok(Form::And(forms))
 }

@@ -8,27 +8,26 @@ use crate::held::{is_in_overlap_or_protecting, section_held_by};
 use crate::parts::implication;
 use ilk_ir::Form;
 use ilk_layout::negated;
-use ilk_plant::{Plant, Row, has_section};
+use ilk_plant::{Plant, Row, contains_section};
 use std::alloc::{AllocError, Global};
 
-/// The maximum number of possible holders of a section that are compared in order; larger lists are
-/// halved.
-pub const MAX_ORDERED_HOLDERS: usize = 16;
+/// The greatest number of routes that family V2 compares in order for one section. A longer list is
+/// split into halves.
+pub(crate) const MAX_ORDERED_HOLDERS: usize = 16;
 
-// Returns whether section `x` is in the path, overlap or protecting points of route `r`.
 #[tactic(auto, using(crate::proofs::Sections::sections_of_route))]
 fn may_hold(plant: &Plant, x: u32, r: u32) -> bool
     requires { r < length plant.now.routes }
     ensures { result ≡ definitions.may_hold plant.now x r }
 {
     let route = plant.route(r);
-    has_section(&route.path, x) || is_in_overlap_or_protecting(route, x)
+    contains_section(&route.path, x) || is_in_overlap_or_protecting(route, x)
 }
 
-// Returns the routes that may hold section `x`, in order.
 #[tactic(auto, using(crate::proofs::Pushed::all_passing))]
-fn holders(alloc: Global, plant: &Plant, x: u32) -> Result<Row<u32>, AllocError>
-    ensures holders { IfOk result (λ routes. routes ≡ definitions.holders plant.now x) }
+fn possible_holders(alloc: Global, plant: &Plant, x: u32) -> Result<Row<u32>, AllocError>
+    ensures possible_holders { IfOk result (λ routes. routes ≡
+        definitions.possible_holders plant.now x) }
     ensures known { IfOk result (λ routes. All (λ r. r < length plant.now.routes) routes) }
 {
     let mut routes = Row::new(alloc);
@@ -65,7 +64,6 @@ fn push_not_holding(
     Ok(())
 }
 
-// Returns the condition that none of these routes holds section `x`.
 fn none_holding(alloc: Global, plant: &Plant, x: u32, routes: &[u32]) -> Result<Form, AllocError>
     requires { All (λ r. r < length plant.now.routes) routes.now }
     ensures { IfOk result (λ form. tree_of form ≡ definitions.none_holding plant.now x routes.now) }
@@ -75,7 +73,6 @@ fn none_holding(alloc: Global, plant: &Plant, x: u32, routes: &[u32]) -> Result<
     Ok(Form::And(forms))
 }
 
-// Returns the condition: if route `r` holds section `x`, none of those before does.
 fn none_before_if_holding(
     alloc: Global,
     plant: &Plant,
@@ -94,7 +91,6 @@ fn none_before_if_holding(
     implication(alloc, Form::And(held), none)
 }
 
-// Adds, for each of these routes except the first, the condition of `none_before_if_holding`.
 fn push_held_in_order(
     alloc: Global,
     forms: &mut Vec<Form>,
@@ -113,8 +109,7 @@ fn push_held_in_order(
     Ok(())
 }
 
-// Returns the condition that `x` is not held both by one of `these` and by one of `those`.
-fn not_in_both(
+fn not_held_by_both_groups(
     alloc: Global,
     plant: &Plant,
     x: u32,
@@ -124,7 +119,8 @@ fn not_in_both(
     requires these { All (λ r. r < length plant.now.routes) these.now }
     requires those { All (λ r. r < length plant.now.routes) those.now }
     ensures { IfOk result
-        (λ form. tree_of form ≡ definitions.not_in_both plant.now x these.now those.now) }
+        (λ form. tree_of form ≡
+        definitions.not_held_by_both_groups plant.now x these.now those.now) }
 {
     let mut forms = Vec::new(alloc);
     forms.push(none_holding(alloc, plant, x, these)?)?;
@@ -132,8 +128,6 @@ fn not_in_both(
     Ok(Form::Or(forms))
 }
 
-// Adds the condition that no two of these routes hold section `x`. Long lists are halved, up to `n`
-// times.
 fn push_held_by_halves(
     alloc: Global,
     forms: &mut Vec<Form>,
@@ -152,7 +146,7 @@ fn push_held_by_halves(
         return push_held_in_order(alloc, forms, plant, x, routes);
     }
     let (first, second) = routes.split_at(routes.len() / 2);
-    forms.push(not_in_both(alloc, plant, x, first, second)?)?;
+    forms.push(not_held_by_both_groups(alloc, plant, x, first, second)?)?;
     push_held_by_halves(alloc, forms, plant, x, first, n - 1)?;
     push_held_by_halves(alloc, forms, plant, x, second, n - 1)?;
     Ok(())
@@ -168,14 +162,15 @@ fn push_held_once(
         (map tree_of forms.new.items
         ≡ map tree_of forms.old.items ++ definitions.at_most_one_holder plant.now x) }
 {
-    let routes = holders(alloc, plant, x)?;
+    let routes = possible_holders(alloc, plant, x)?;
     let routes = routes.as_slice();
     push_held_by_halves(alloc, forms, plant, x, routes, routes.len())
 }
 
-/// Returns family V2 as a form: no two routes hold one section.
-pub fn v2_form(alloc: Global, plant: &Plant) -> Result<Form, AllocError>
-    ensures { IfOk result (λ form. tree_of form ≡ definitions.v2_tree plant.now) }
+/// Returns the form of family V2: no two routes hold the same section.
+pub(crate) fn v2_sections_held_once_form(alloc: Global, plant: &Plant) -> Result<Form, AllocError>
+    ensures { IfOk result (λ form. tree_of form ≡
+        definitions.v2_sections_held_once_tree plant.now) }
 {
     let mut forms = Vec::new(alloc);
     for x in 0..plant.sections() {

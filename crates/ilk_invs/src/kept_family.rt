@@ -9,11 +9,9 @@ use crate::point_family::is_set_and_unreleased;
 use crate::train_families::{body_at, continues_without_board, route_runs_in_direction};
 use ilk_ir::Form;
 use ilk_layout::negated;
-use ilk_plant::{Dir, Plant, has_section};
+use ilk_plant::{Dir, Plant, contains_section};
 use std::alloc::{AllocError, Global};
 
-// Adds the condition that route `r` keeps section `x`, if it runs in direction `d` and has `x` in
-// its path.
 fn push_keeps_at(
     alloc: Global,
     forms: &mut Vec<Form>,
@@ -26,25 +24,23 @@ fn push_keeps_at(
     ensures { OnOk result
         (map tree_of forms.new.items
         ≡ map tree_of forms.old.items
-        ++ parts.conditions_if_some (slice_get plant.now.routes r)
+        ++ parts.conditions_for_optional_value (slice_get plant.now.routes r)
         (definitions.route_retains_at plant.now d x r)) }
 {
     let route = plant.route(r);
-    if route_runs_in_direction(plant, d, route) && has_section(&route.path, x) {
+    if route_runs_in_direction(plant, d, route) && contains_section(&route.path, x) {
         forms.push(is_set_and_unreleased(alloc, plant, r, route, x)?)?;
     }
     Ok(())
 }
 
-// Returns the condition: if a train in direction `d` has section `x` in its body, some route keeps
-// `x`.
 fn is_kept_by_some(alloc: Global, plant: &Plant, d: Dir, x: u32) -> Result<Form, AllocError>
     requires { x < length plant.now.sections }
     ensures { IfOk result
         (λ form. tree_of form
         ≡ parts.some_of
         (negation (definitions.body_at plant.now d x)
-        ∷ parts.for_each_route plant.now (definitions.route_retains_at plant.now d x))) }
+        ∷ parts.conditions_of_each_route plant.now (definitions.route_retains_at plant.now d x))) }
 {
     let body = body_at(alloc, plant, d, x)?;
     let mut forms = Vec::new(alloc);
@@ -85,10 +81,11 @@ fn push_kept(alloc: Global, forms: &mut Vec<Form>, plant: &Plant, x: u32) -> Res
     push_kept_at(alloc, forms, plant, Dir::Down, x)
 }
 
-/// Returns family V8 as a form: a Locked or Occupied route keeps each plain section of a train's
-/// body.
-pub fn v8_form(alloc: Global, plant: &Plant) -> Result<Form, AllocError>
-    ensures { IfOk result (λ form. tree_of form ≡ definitions.v8_tree plant.now) }
+/// Returns the form of family V8: if a section of a train's body has a neighbour ahead but no
+/// board, some Locked or Occupied route in the train's direction has not released it.
+pub(crate) fn v8_bodies_have_routes_form(alloc: Global, plant: &Plant) -> Result<Form, AllocError>
+    ensures { IfOk result (λ form. tree_of form ≡
+        definitions.v8_bodies_have_routes_tree plant.now) }
 {
     let mut forms = Vec::new(alloc);
     for x in 0..plant.sections() {

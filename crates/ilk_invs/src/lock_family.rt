@@ -10,15 +10,13 @@ ghost use Rattle.ilk_invs.specs.Held as held;
 ghost use Rattle.ilk_invs.specs.Parts as parts;
 ghost use Rattle.ilk_invs.specs.HoldFamilies as definitions;
 
-use crate::held::{is_holding, rel_below, seen_below};
+use crate::held::{rel_below, route_holds_sections, seen_below};
 use crate::parts::implication;
 use ilk_ir::Form;
 use ilk_layout::{lock_is, negated};
 use ilk_plant::{Hold, Listed, Plant, Route};
 use std::alloc::{AllocError, Global};
 
-// Returns the condition: if route `r` keeps the section `x` at index `i` of its path, and at most
-// `i` are seen, `x` has lock Locked.
 fn locked_ahead(alloc: Global, plant: &Plant, r: u32, i: u8, x: u32) -> Result<Form, AllocError>
     requires known { r < length plant.now.routes }
     requires section { x < length plant.now.sections }
@@ -36,8 +34,6 @@ fn locked_ahead(alloc: Global, plant: &Plant, r: u32, i: u8, x: u32) -> Result<F
     Ok(Form::Or(forms))
 }
 
-// Returns the condition: if route `r` keeps the section `x` at index `i` of its path, and more than
-// `i` are seen, `x` has lock Used.
 fn used_behind(alloc: Global, plant: &Plant, r: u32, i: u8, x: u32) -> Result<Form, AllocError>
     requires known { r < length plant.now.routes }
     requires section { x < length plant.now.sections }
@@ -55,7 +51,6 @@ fn used_behind(alloc: Global, plant: &Plant, r: u32, i: u8, x: u32) -> Result<Fo
     Ok(Form::Or(forms))
 }
 
-// Adds the conditions on the locks of the path sections that route `r` keeps.
 fn push_locks_on_path(
     alloc: Global,
     forms: &mut Vec<Form>,
@@ -68,7 +63,8 @@ fn push_locks_on_path(
     ensures { OnOk result
         (map tree_of forms.new.items
         ≡ map tree_of forms.old.items
-        ++ parts.for_each_path_index route.now (definitions.path_lock_matches_seen plant.now r)) }
+        ++ parts.conditions_of_each_path_index route.now (definitions.path_lock_matches_seen
+        plant.now r)) }
 {
     let path = route.path.as_slice();
     for i in 0..path.len() {
@@ -109,13 +105,13 @@ fn push_points_locked(
     Ok(())
 }
 
-// Returns the conditions on the locks of route `r`'s sections.
 fn locks_for(alloc: Global, plant: &Plant, r: u32, route: &Route) -> Result<Vec<Form>, AllocError>
     requires known { r < length plant.now.routes }
     requires route { IsValidRouteOf plant.now route.now }
     ensures { IfOk result
         (λ forms. map tree_of forms.items
-        ≡ parts.for_each_path_index route.now (definitions.path_lock_matches_seen plant.now r)
+        ≡ parts.conditions_of_each_path_index route.now (definitions.path_lock_matches_seen
+        plant.now r)
         ++ map (λ x. conditions.lock_is plant.now x LockedLock)
         (sections_outside_path route.now)) }
 {
@@ -133,13 +129,18 @@ fn locked_for(alloc: Global, plant: &Plant, r: u32, route: &Route) -> Result<For
         ≡ definitions.held_sections_have_locks plant.now r route.now) }
 {
     let forms = locks_for(alloc, plant, r, route)?;
-    implication(alloc, is_holding(alloc, plant, r)?, Form::And(forms))
+    implication(
+        alloc,
+        route_holds_sections(alloc, plant, r)?,
+        Form::And(forms),
+    )
 }
 
-/// Returns family V3 as a form: a path section that was passed is Used, and every other held
-/// section is Locked.
-pub fn v3_form(alloc: Global, plant: &Plant) -> Result<Form, AllocError>
-    ensures { IfOk result (λ form. tree_of form ≡ definitions.v3_tree plant.now) }
+/// Returns the form of family V3: a section that a route holds on its path has lock Used if the
+/// route has seen it. Every other held section has lock Locked.
+pub(crate) fn v3_locks_match_routes_form(alloc: Global, plant: &Plant) -> Result<Form, AllocError>
+    ensures { IfOk result (λ form. tree_of form ≡
+        definitions.v3_locks_match_routes_tree plant.now) }
 {
     let mut forms = Vec::new(alloc);
     for r in 0..plant.routes() {

@@ -6,8 +6,12 @@ use ilk_ir::Form;
 use ilk_layout::negated;
 use std::alloc::{AllocError, Global};
 
-/// Returns the implication from `condition` to `then_this`.
-pub fn implication(alloc: Global, condition: Form, then_this: Form) -> Result<Form, AllocError>
+/// Returns the condition that `then_this` holds if `condition` does.
+pub(crate) fn implication(
+    alloc: Global,
+    condition: Form,
+    then_this: Form,
+) -> Result<Form, AllocError>
     ensures { IfOk result
         (λ form. tree_of form ≡ parts.implication (tree_of condition) (tree_of then_this)) }
 {

@@ -1,21 +1,22 @@
 ghost use Rattle.std.specs.Prelude.{◌≡◌, ◌<◌, ◌++◌, ◌∷◌, [], if◌then◌else◌, length, map, IfOk, OnOk};
 ghost use Rattle.ilk_ir.specs.Form.{tree_of};
-ghost use Rattle.ilk_plant.specs.Network.{has_section};
+ghost use Rattle.ilk_plant.specs.Network.{contains_section};
 ghost use Rattle.ilk_plant.specs.Plant.{IsValidRouteOf};
 ghost use Rattle.ilk_layout.specs.Conditions as conditions;
 ghost use Rattle.ilk_invs.specs.Held as held;
 ghost use Rattle.ilk_invs.specs.Parts as parts;
 ghost use Rattle.ilk_invs.specs.PointFamily as definitions;
 
-use crate::held::{route_locked_or_occupied, unreleased_on_path};
+use crate::held::{route_locked_or_occupied, section_unreleased_on_path};
 use crate::parts::implication;
 use ilk_ir::Form;
-use ilk_layout::{listed_is_commanded, listed_is_detected, mode_is};
-use ilk_plant::{Listed, Mode, Plant, Route, has_section};
+use ilk_layout::{is_listed_point_commanded, is_listed_point_detected, mode_is};
+use ilk_plant::{Listed, Mode, Plant, Route, contains_section};
 use std::alloc::{AllocError, Global};
 
-/// Returns the condition that route `r` is Locked or Occupied and keeps section `x` on its path.
-pub fn is_set_and_unreleased(
+/// Returns the condition that `route`, which is number `r`, is Locked or Occupied, and section `x`
+/// is on its path and not released.
+pub(crate) fn is_set_and_unreleased(
     alloc: Global,
     plant: &Plant,
     r: u32,
@@ -26,26 +27,26 @@ pub fn is_set_and_unreleased(
     requires route { IsValidRouteOf plant.now route.now }
     ensures { IfOk result
         (λ form. tree_of form
-        ≡ parts.each_of (held.route_locked_or_occupied r ∷ held.unreleased_on_path r route.now x
+        ≡ parts.each_of (held.route_locked_or_occupied r ∷ held.section_unreleased_on_path r
+        route.now x
         ∷ [])) }
 {
     let mut forms = Vec::new(alloc);
     forms.push(route_locked_or_occupied(alloc, plant, r)?)?;
-    forms.push(unreleased_on_path(alloc, plant, r, route, x)?)?;
+    forms.push(section_unreleased_on_path(alloc, plant, r, route, x)?)?;
     Ok(Form::And(forms))
 }
 
-// Returns the condition that a listed point is commanded to its position and detected there.
 fn is_set(alloc: Global, plant: &Plant, listed: &Listed) -> Result<Form, AllocError>
     ensures { IfOk result
         (λ form. tree_of form
         ≡ parts.each_of
-        (conditions.listed_is_commanded plant.now listed.now
-        ∷ conditions.listed_is_detected plant.now listed.now ∷ [])) }
+        (conditions.is_listed_point_commanded plant.now listed.now
+        ∷ conditions.is_listed_point_detected plant.now listed.now ∷ [])) }
 {
     let mut forms = Vec::new(alloc);
-    forms.push(listed_is_commanded(plant, listed))?;
-    forms.push(listed_is_detected(plant, listed))?;
+    forms.push(is_listed_point_commanded(plant, listed))?;
+    forms.push(is_listed_point_detected(plant, listed))?;
     Ok(Form::And(forms))
 }
 
@@ -65,7 +66,7 @@ fn set_for(
     let allocating = mode_is(plant, r, Mode::Allocating);
     let kept = is_set_and_unreleased(alloc, plant, r, route, listed.point)?;
     let mut forms = Vec::new(alloc);
-    forms.push(implication(alloc, allocating, listed_is_commanded(plant, listed))?)?;
+    forms.push(implication(alloc, allocating, is_listed_point_commanded(plant, listed))?)?;
     forms.push(implication(alloc, kept, is_set(alloc, plant, listed)?)?)?;
     Ok(Form::And(forms))
 }
@@ -84,10 +85,10 @@ fn push_set_for(
         (map tree_of forms.new.items
         ≡ map tree_of forms.old.items
         ++
-        (if has_section listed.now.point route.now.path
+        (if contains_section listed.now.point route.now.path
         then definitions.point_matches_route_mode plant.now r route.now listed.now ∷ [] else [])) }
 {
-    if has_section(&route.path, listed.point) {
+    if contains_section(&route.path, listed.point) {
         forms.push(set_for(alloc, plant, r, route, listed)?)?;
     }
     Ok(())
@@ -106,7 +107,7 @@ fn push_points_set(
         (map tree_of forms.new.items
         ≡ map tree_of forms.old.items
         ++ map (definitions.point_matches_route_mode plant.now r route.now)
-        (definitions.points_of_path route.now)) }
+        (definitions.listed_points_on_path route.now)) }
 {
     for listed in route.points.as_slice() {
         push_set_for(alloc, forms, plant, r, route, listed)?;
@@ -114,10 +115,11 @@ fn push_points_set(
     Ok(())
 }
 
-/// Returns family V6 as a form: the listed points of a set route's path are commanded and in
-/// position.
-pub fn v6_form(alloc: Global, plant: &Plant) -> Result<Form, AllocError>
-    ensures { IfOk result (λ form. tree_of form ≡ definitions.v6_tree plant.now) }
+/// Returns the form of family V6: the listed points on a path are commanded to their positions if
+/// the route is Allocating. If it is Locked or Occupied, those not released are also detected
+/// there.
+pub(crate) fn v6_route_points_set_form(alloc: Global, plant: &Plant) -> Result<Form, AllocError>
+    ensures { IfOk result (λ form. tree_of form ≡ definitions.v6_route_points_set_tree plant.now) }
 {
     let mut forms = Vec::new(alloc);
     for r in 0..plant.routes() {

@@ -13,28 +13,27 @@ ghost use Rattle.ilk_invs.specs.RouteFamilies as definitions;
 use crate::held::rel_below;
 use crate::parts::implication;
 use ilk_ir::Form;
-use ilk_layout::{board_is, mode_is, negated, no_train_at, rel_is, seen_is};
+use ilk_layout::{
+    is_board_aspect, is_released_count, is_seen_count, mode_is, negated, no_train_at,
+};
 use ilk_plant::{Aspect, Mode, Plant, Route};
 use std::alloc::{AllocError, Global};
 
-// Returns the condition: if route `r` is Occupied with `k` path sections seen, fewer than `k` are
-// released.
 fn fewer_released(alloc: Global, plant: &Plant, r: u32, k: u8) -> Result<Form, AllocError>
     requires { r < length plant.now.routes }
     ensures { IfOk result
         (λ form. tree_of form
         ≡ parts.some_of
-        (negation (conditions.mode_is r Occupied) ∷ negation (conditions.seen_is r k)
+        (negation (conditions.mode_is r Occupied) ∷ negation (conditions.is_seen_count r k)
         ∷ held.rel_below r k ∷ [])) }
 {
     let mut forms = Vec::new(alloc);
     forms.push(negated(alloc, mode_is(plant, r, Mode::Occupied))?)?;
-    forms.push(negated(alloc, seen_is(plant, r, k))?)?;
+    forms.push(negated(alloc, is_seen_count(plant, r, k))?)?;
     forms.push(rel_below(alloc, plant, r, k)?)?;
     Ok(Form::Or(forms))
 }
 
-// Adds this condition for each count below `n`.
 fn push_fewer_released(
     alloc: Global,
     forms: &mut Vec<Form>,
@@ -49,7 +48,7 @@ fn push_fewer_released(
         ++ map
         (λ k. parts.some_of
         (negation (conditions.mode_is r Occupied)
-        ∷ negation (conditions.seen_is r k) ∷ held.rel_below r k ∷ []))
+        ∷ negation (conditions.is_seen_count r k) ∷ held.rel_below r k ∷ []))
         (range_with_len 0 n)) }
 {
     for k in 0..n {
@@ -76,16 +75,16 @@ fn counts_of(alloc: Global, plant: &Plant, r: u32, route: &Route) -> Result<Form
     ensures { IfOk result (λ form. tree_of form ≡ definitions.counts_are_consistent r route.now) }
 {
     let mut forms = Vec::new(alloc);
-    forms.push(occupied_or(alloc, plant, r, seen_is(plant, r, 0))?)?;
-    forms.push(occupied_or(alloc, plant, r, rel_is(plant, r, 0))?)?;
+    forms.push(occupied_or(alloc, plant, r, is_seen_count(plant, r, 0))?)?;
+    forms.push(occupied_or(alloc, plant, r, is_released_count(plant, r, 0))?)?;
     push_fewer_released(alloc, &mut forms, plant, r, route.path.len() as u8 + 1)?;
     Ok(Form::And(forms))
 }
 
-/// Returns family V1 as a form: a route that is not Occupied has both counts 0, and an Occupied one
-/// released fewer sections than it has seen, which are at most those of its path.
-pub fn v1_form(alloc: Global, plant: &Plant) -> Result<Form, AllocError>
-    ensures { IfOk result (λ form. tree_of form ≡ definitions.v1_tree plant.now) }
+/// Returns the form of family V1: an Occupied route has released fewer sections than it has seen,
+/// and has seen at most its path. Any other route has both counts 0.
+pub(crate) fn v1_consistent_counts_form(alloc: Global, plant: &Plant) -> Result<Form, AllocError>
+    ensures { IfOk result (λ form. tree_of form ≡ definitions.v1_consistent_counts_tree plant.now) }
 {
     let mut forms = Vec::new(alloc);
     for r in 0..plant.routes() {
@@ -94,8 +93,12 @@ pub fn v1_form(alloc: Global, plant: &Plant) -> Result<Form, AllocError>
     Ok(Form::And(forms))
 }
 
-/// Adds the condition that each of the sections is vacant.
-pub fn push_vacant(forms: &mut Vec<Form>, plant: &Plant, sections: &[u32]) -> Result<(), AllocError>
+/// Adds to `forms`, for each of `sections`, the condition that it is vacant.
+pub(crate) fn push_each_section_vacant(
+    forms: &mut Vec<Form>,
+    plant: &Plant,
+    sections: &[u32],
+) -> Result<(), AllocError>
     requires { All (λ x. x < length plant.now.sections) sections.now }
     ensures { OnOk result
         (map tree_of forms.new.items
@@ -121,13 +124,17 @@ fn vacant_while_allocating(
         (parts.each_of (definitions.path_vacant plant.now route.now))) }
 {
     let mut forms = Vec::new(alloc);
-    push_vacant(&mut forms, plant, route.path.as_slice())?;
+    push_each_section_vacant(&mut forms, plant, route.path.as_slice())?;
     implication(alloc, mode_is(plant, r, Mode::Allocating), Form::And(forms))
 }
 
-/// Returns family V4 as a form: every path section of an Allocating route is vacant.
-pub fn v4_form(alloc: Global, plant: &Plant) -> Result<Form, AllocError>
-    ensures { IfOk result (λ form. tree_of form ≡ definitions.v4_tree plant.now) }
+/// Returns the form of family V4: every path section of an Allocating route is vacant.
+pub(crate) fn v4_allocating_paths_vacant_form(
+    alloc: Global,
+    plant: &Plant,
+) -> Result<Form, AllocError>
+    ensures { IfOk result (λ form. tree_of form ≡
+        definitions.v4_allocating_paths_vacant_tree plant.now) }
 {
     let mut forms = Vec::new(alloc);
     for r in 0..plant.routes() {
@@ -136,7 +143,6 @@ pub fn v4_form(alloc: Global, plant: &Plant) -> Result<Form, AllocError>
     Ok(Form::And(forms))
 }
 
-// Returns the condition that route `r` is Locked and its path is vacant.
 fn is_ready(alloc: Global, plant: &Plant, r: u32, route: &Route) -> Result<Form, AllocError>
     requires known { r < length plant.now.routes }
     requires route { IsValidRouteOf plant.now route.now }
@@ -147,11 +153,10 @@ fn is_ready(alloc: Global, plant: &Plant, r: u32, route: &Route) -> Result<Form,
 {
     let mut forms = Vec::new(alloc);
     forms.push(mode_is(plant, r, Mode::Locked))?;
-    push_vacant(&mut forms, plant, route.path.as_slice())?;
+    push_each_section_vacant(&mut forms, plant, route.path.as_slice())?;
     Ok(Form::And(forms))
 }
 
-// Adds this condition if board `m` is the source of route `r`.
 fn push_ready_from(
     alloc: Global,
     forms: &mut Vec<Form>,
@@ -163,7 +168,7 @@ fn push_ready_from(
     ensures { OnOk result
         (map tree_of forms.new.items
         ≡ map tree_of forms.old.items
-        ++ parts.conditions_if_some (slice_get plant.now.routes r)
+        ++ parts.conditions_for_optional_value (slice_get plant.now.routes r)
         (λ route. if route.source == m
         then parts.each_of
         (conditions.mode_is r Locked
@@ -181,16 +186,17 @@ fn opened_for(alloc: Global, plant: &Plant, m: u32) -> Result<Form, AllocError>
     ensures { IfOk result (λ form. tree_of form ≡ definitions.open_only_for_route plant.now m) }
 {
     let mut forms = Vec::new(alloc);
-    forms.push(negated(alloc, board_is(plant, m, Aspect::Open))?)?;
+    forms.push(negated(alloc, is_board_aspect(plant, m, Aspect::Open))?)?;
     for r in 0..plant.routes() {
         push_ready_from(alloc, &mut forms, plant, m, r)?;
     }
     Ok(Form::Or(forms))
 }
 
-/// Returns family V5 as a form: each Open board is the source of a Locked route with a vacant path.
-pub fn v5_form(alloc: Global, plant: &Plant) -> Result<Form, AllocError>
-    ensures { IfOk result (λ form. tree_of form ≡ definitions.v5_tree plant.now) }
+/// Returns the form of family V5: each Open board is the source of a Locked route with a vacant
+/// path.
+pub(crate) fn v5_open_needs_locked_form(alloc: Global, plant: &Plant) -> Result<Form, AllocError>
+    ensures { IfOk result (λ form. tree_of form ≡ definitions.v5_open_needs_locked_tree plant.now) }
 {
     let mut forms = Vec::new(alloc);
     for m in 0..plant.boards() {
@@ -213,18 +219,22 @@ fn push_closed_while_locked(
         ≡ map tree_of forms.old.items
         ++ map
         (λ m. parts.implication (conditions.mode_is r Locked)
-        (conditions.board_is plant.now m Closed)) boards.now) }
+        (conditions.is_board_aspect plant.now m Closed)) boards.now) }
 {
     for m in boards {
         let locked = mode_is(plant, r, Mode::Locked);
-        forms.push(implication(alloc, locked, board_is(plant, *m, Aspect::Closed))?)?;
+        forms.push(implication(alloc, locked, is_board_aspect(plant, *m, Aspect::Closed))?)?;
     }
     Ok(())
 }
 
-/// Returns family V9 as a form: each protecting board of a Locked route is Closed.
-pub fn v9_form(alloc: Global, plant: &Plant) -> Result<Form, AllocError>
-    ensures { IfOk result (λ form. tree_of form ≡ definitions.v9_tree plant.now) }
+/// Returns the form of family V9: each protecting board of a Locked route is Closed.
+pub(crate) fn v9_protecting_boards_closed_form(
+    alloc: Global,
+    plant: &Plant,
+) -> Result<Form, AllocError>
+    ensures { IfOk result (λ form. tree_of form ≡
+        definitions.v9_protecting_boards_closed_tree plant.now) }
 {
     let mut forms = Vec::new(alloc);
     for r in 0..plant.routes() {

@@ -12,23 +12,24 @@ ghost use Rattle.ilk_invs.specs.Parts as parts;
 ghost use Rattle.ilk_invs.specs.TrainFamilies as definitions;
 
 use crate::held::seen_below;
-use crate::route_families::push_vacant;
+use crate::route_families::push_each_section_vacant;
 use ilk_ir::Form;
-use ilk_layout::{Occupancy, board_is, mode_is, negated, no_train_at, occupancy_is, train_at};
+use ilk_layout::{
+    Occupancy, is_board_aspect, mode_is, negated, no_train_at, occupancy_is, train_at,
+};
 use ilk_plant::{Aspect, Dir, Mode, Plant, Route};
 use std::alloc::{AllocError, Global};
 
-/// Returns whether section `x` is plain for direction `d`: it has no board and at least one
-/// neighbour there.
-pub fn continues_without_board(plant: &Plant, d: Dir, x: u32) -> bool
+/// Returns whether section `x` has at least one neighbour in direction `d`, but no board for `d`.
+pub(crate) fn continues_without_board(plant: &Plant, d: Dir, x: u32) -> bool
     requires { x < length plant.now.sections }
     ensures { result ≡ continues_without_board plant.now d x }
 {
     plant.board_of(x, d).is_none() && plant.neighbour(x, d, 0).is_some()
 }
 
-/// Returns whether `route` runs in direction `d`.
-pub fn route_runs_in_direction(plant: &Plant, d: Dir, route: &Route) -> bool
+/// Returns whether the source of `route`, and so the route, has direction `d`.
+pub(crate) fn route_runs_in_direction(plant: &Plant, d: Dir, route: &Route) -> bool
     requires { IsValidRouteOf plant.now route.now }
     ensures { result ≡ route_runs_in_direction plant.now d route.now }
 {
@@ -53,7 +54,6 @@ fn head_at(alloc: Global, plant: &Plant, d: Dir, x: u32) -> Result<Form, AllocEr
     Ok(Form::Or(forms))
 }
 
-// Returns the condition that section `x` is vacant or has an up train.
 fn vacant_or_up(alloc: Global, plant: &Plant, x: u32) -> Result<Form, AllocError>
     requires { x < length plant.now.sections }
     ensures { IfOk result (λ form. tree_of form ≡ definitions.vacant_or_up plant.now x) }
@@ -68,7 +68,7 @@ fn vacant_or_up(alloc: Global, plant: &Plant, x: u32) -> Result<Form, AllocError
 }
 
 /// Returns the condition that a train in direction `d` has section `x` in its body.
-pub fn body_at(alloc: Global, plant: &Plant, d: Dir, x: u32) -> Result<Form, AllocError>
+pub(crate) fn body_at(alloc: Global, plant: &Plant, d: Dir, x: u32) -> Result<Form, AllocError>
     requires { x < length plant.now.sections }
     ensures { IfOk result (λ form. tree_of form ≡ definitions.body_at plant.now d x) }
 {
@@ -87,7 +87,6 @@ pub fn body_at(alloc: Global, plant: &Plant, d: Dir, x: u32) -> Result<Form, All
     Ok(Form::And(forms))
 }
 
-// Returns the condition that route `r` is Occupied, or Locked with its source Closed.
 fn may_lead(alloc: Global, plant: &Plant, r: u32, route: &Route) -> Result<Form, AllocError>
     requires known { r < length plant.now.routes }
     requires route { IsValidRouteOf plant.now route.now }
@@ -97,18 +96,17 @@ fn may_lead(alloc: Global, plant: &Plant, r: u32, route: &Route) -> Result<Form,
         (conditions.mode_is r Occupied
         ∷ parts.each_of
         (conditions.mode_is r Locked
-        ∷ conditions.board_is plant.now route.now.source Closed ∷ []) ∷ [])) }
+        ∷ conditions.is_board_aspect plant.now route.now.source Closed ∷ []) ∷ [])) }
 {
     let mut closed = Vec::new(alloc);
     closed.push(mode_is(plant, r, Mode::Locked))?;
-    closed.push(board_is(plant, route.source, Aspect::Closed))?;
+    closed.push(is_board_aspect(plant, route.source, Aspect::Closed))?;
     let mut forms = Vec::new(alloc);
     forms.push(mode_is(plant, r, Mode::Occupied))?;
     forms.push(Form::And(closed))?;
     Ok(Form::Or(forms))
 }
 
-// Adds the condition that no path section of route `r` after index `i` is seen, if there is one.
 fn push_none_seen_past(
     alloc: Global,
     forms: &mut Vec<Form>,
@@ -130,7 +128,6 @@ fn push_none_seen_past(
     Ok(())
 }
 
-// Returns the condition that route `r` leads a train with its head at index `i` of its path.
 fn leads_from(
     alloc: Global,
     plant: &Plant,
@@ -147,7 +144,7 @@ fn leads_from(
     let mut forms = Vec::new(alloc);
     forms.push(may_lead(alloc, plant, r, route)?)?;
     push_none_seen_past(alloc, &mut forms, plant, r, route, i)?;
-    push_vacant(&mut forms, plant, &route.path.as_slice()[i + 1..])?;
+    push_each_section_vacant(&mut forms, plant, &route.path.as_slice()[i + 1..])?;
     Ok(Form::And(forms))
 }
 
@@ -175,7 +172,6 @@ fn push_leads_if(
     Ok(())
 }
 
-// Adds this condition for each index at which route `r` has section `x`.
 fn push_leads_on_path(
     alloc: Global,
     forms: &mut Vec<Form>,
@@ -189,7 +185,7 @@ fn push_leads_on_path(
     ensures { OnOk result
         (map tree_of forms.new.items
         ≡ map tree_of forms.old.items
-        ++ parts.for_each_path_index route.now
+        ++ parts.conditions_of_each_path_index route.now
         (λ i y. if y == x then definitions.route_set_and_clear_past plant.now r route.now i ∷ []
         else [])) }
 {
@@ -212,7 +208,7 @@ fn push_leads_at(
     ensures { OnOk result
         (map tree_of forms.new.items
         ≡ map tree_of forms.old.items
-        ++ parts.conditions_if_some (slice_get plant.now.routes r)
+        ++ parts.conditions_for_optional_value (slice_get plant.now.routes r)
         (definitions.route_set_for_head_at plant.now d x r)) }
 {
     let route = plant.route(r);
@@ -222,15 +218,14 @@ fn push_leads_at(
     Ok(())
 }
 
-// Returns the condition: if a train in direction `d` has its head at section `x`, some route leads
-// it.
 fn is_led(alloc: Global, plant: &Plant, d: Dir, x: u32) -> Result<Form, AllocError>
     requires { x < length plant.now.sections }
     ensures { IfOk result
         (λ form. tree_of form
         ≡ parts.some_of
         (negation (definitions.head_at plant.now d x)
-        ∷ parts.for_each_route plant.now (definitions.route_set_for_head_at plant.now d x))) }
+        ∷ parts.conditions_of_each_route plant.now (definitions.route_set_for_head_at plant.now d
+        x))) }
 {
     let head = head_at(alloc, plant, d, x)?;
     let mut forms = Vec::new(alloc);
@@ -271,10 +266,10 @@ fn push_led(alloc: Global, forms: &mut Vec<Form>, plant: &Plant, x: u32) -> Resu
     push_led_at(alloc, forms, plant, Dir::Down, x)
 }
 
-/// Returns family V7 as a form: a train's head at a plain section is on the path of a route that is
-/// set for it, with nothing ahead.
-pub fn v7_form(alloc: Global, plant: &Plant) -> Result<Form, AllocError>
-    ensures { IfOk result (λ form. tree_of form ≡ definitions.v7_tree plant.now) }
+/// Returns the form of family V7: if a train's head is at a section with a neighbour ahead but no
+/// board, some route is set for the train. The route's path ahead is vacant and not seen.
+pub(crate) fn v7_heads_have_routes_form(alloc: Global, plant: &Plant) -> Result<Form, AllocError>
+    ensures { IfOk result (λ form. tree_of form ≡ definitions.v7_heads_have_routes_tree plant.now) }
 {
     let mut forms = Vec::new(alloc);
     for x in 0..plant.sections() {

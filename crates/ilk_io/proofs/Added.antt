@@ -14,7 +14,6 @@ Adds-then None b c xs ys p q = q ∙ ap (option_map (λ all. all ++ ys)) p
 Adds-then (Some x) b c xs ys p q =
     q ∙ ap (option_map (λ all. all ++ ys)) p ∙ ap Some (append_assoc x xs ys)
 
--- Holds if the text is the bytes written so far and the rest.
 pub record Written (old new : Option (List ℕ)) (text rest : List ℕ) : Type 0 where
   pub done : List ℕ
   pub split : text ≡ done ++ rest

@@ -10,8 +10,8 @@ pub record WriterSink (W : Type 0) : Type 0 where
   pub writer : W
   pub faults : ℕ
 
--- A source or a sink over a file, which is none until it is opened.
-pub record NamedFile (F : Type 0) : Type 0 where
+-- A source or sink over the file `name`. `file` is `None` until a call opens it.
+pub record LazilyOpenedFile (F : Type 0) : Type 0 where
   pub name : String Global
   pub file : Option F
   pub faults : ℕ

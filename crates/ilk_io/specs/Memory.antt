@@ -1,38 +1,39 @@
 -- Sources and sinks in memory, and the effect of a call on them.
 use Rattle.std.specs.Prelude.{ℕ, ◌-◌, min, ◌==◌, nat_lt, Bool, ◌&&◌, ◌||◌, if◌then◌else◌, Option, Some, None, List, ◌++◌, length, take, drop}
-use Rattle.ilk_io.specs.Plan.{FaultSchedule, fails_next, after_success, after_fault}
+use Rattle.ilk_io.specs.Plan.{FaultScheduleWithCounts, fails_next, after_success, after_fault}
 
--- A source: its unread bytes, and the plan of its failures.
+-- A source in memory: its unread bytes, and which of its calls fail.
 pub record SourceState : Type 0 where
   pub rest : List ℕ
-  pub plan : FaultSchedule
+  pub plan : FaultScheduleWithCounts
 
--- The number of bytes that a read moves to a buffer of `n` places, or `None` if it fails.
+-- The number of bytes that a read moves to a buffer of length `n`, or `None` if it fails.
 abbrev pub read_count : SourceState → ℕ → Option ℕ
 read_count s n = if fails_next s.plan then None else Some (min n (length s.rest))
 
--- The source after a read with a buffer of `n` places.
+-- The source after a read with a buffer of length `n`.
 abbrev pub after_read : SourceState → ℕ → SourceState
 after_read s n =
     if fails_next s.plan
     then record s { plan = after_fault s.plan }
     else record { rest = drop n s.rest; plan = after_success s.plan }
 
--- A sink: the bytes taken so far, its total room, and the plan of its failures.
+-- A sink in memory: the bytes written so far, its total room, and which of its calls fail.
 pub record SinkState : Type 0 where
   pub taken : List ℕ
   pub room : ℕ
-  pub plan : FaultSchedule
+  pub plan : FaultScheduleWithCounts
 
--- The number of bytes for which a sink has room left.
+-- The number of bytes that a sink in memory can still take.
 abbrev pub room_left : SinkState → ℕ
 room_left s = s.room - length s.taken
 
--- Returns whether a write fails: by the plan, or because no room is left for a non-empty piece.
+-- Returns whether writing `piece` fails: as planned, or because no room is left for a non-empty
+-- piece.
 abbrev pub write_fails : SinkState → List ℕ → Bool
 write_fails s piece = fails_next s.plan || (room_left s == 0 && nat_lt 0 (length piece))
 
--- The number of bytes of a piece that a write takes, or `None` if it fails.
+-- The number of bytes of `piece` that a write takes, or `None` if it fails.
 abbrev pub write_count : SinkState → List ℕ → Option ℕ
 write_count s piece = if write_fails s piece then None else Some (min (length piece) (room_left s))
 

@@ -9,19 +9,17 @@ use std::fs::{File, Files};
 use std::marker::Model;
 
 /// A sink that writes to a file. The first call creates the file through the runtime, or empties an
-/// existing one. Contracts don't see the bytes written. If the sink is never called, the file is
-/// unchanged.
+/// existing one. Contracts don't see the bytes written.
 ///
-/// A refused opening is a failure, and the next call tries again. Once open, the file stays open,
-/// also after a failure, and each write continues after the one before. An interrupted write is
-/// repeated at most 1000 times. Each failure is counted, up to the greatest `u64`. It is also a
-/// failure if the file takes no byte of a non-empty piece.
+/// If opening fails, the call fails and the next one tries again. Once open, the file stays open,
+/// and each write continues after the one before. An interrupted write is repeated at most 1000
+/// times. A call also fails if the file takes no byte of a non-empty piece. Failures are counted,
+/// up to the greatest `u64`.
 ///
 /// If the call that opens the file succeeds, it is one write on some file that was opened: see the
 /// clause `first`. No clause states that any call succeeds, which file was opened, that it was
 /// emptied, or which bytes were written to it before. The test `writes_the_named_file` shows these
-/// points: the named file contains exactly these bytes once, also if it had more before. A file
-/// whose sink is never called is unchanged.
+/// points. A file whose sink is never called is unchanged.
 #[derive(Drop)]
 pub struct FileSink<'a, R: Files> {
     rt: &'a R,
@@ -31,9 +29,9 @@ pub struct FileSink<'a, R: Files> {
 }
 
 impl<'a, R: Files> Model for FileSink<'a, R> {
-    ghost use Rattle.ilk_io.specs.Adapters.{NamedFile};
+    ghost use Rattle.ilk_io.specs.Adapters.{LazilyOpenedFile};
 
-    ghost Value = { NamedFile R.File };
+    ghost Value = { LazilyOpenedFile R.File };
 
     ghost view = { λ s. record { name = s.name; file = s.file; faults = s.faults } };
 }
@@ -53,7 +51,6 @@ impl<'a, R: Files> FileSink<'a, R> {
         }
     }
 
-    // Writes once. First creates or empties the file if it isn't open yet.
     fn write_open(&mut self, piece: &[u8]) -> Result<usize, Failed>
         ensures within { IfOk result (λ n. n ≤ length piece.now) }
         ensures some { IfOk result (λ n. 0 < length piece.now → 0 < n) }
@@ -90,12 +87,10 @@ impl<R: Files> Sink for FileSink<'_, R> {
         ensures failed { OnErr result (CountedOneFault self.old.faults self.new.faults) }
         ensures unraised { OnOk result (self.new.faults ≡ self.old.faults) }
         ensures opened { OnOk result (IsSome self.new.file) }
-        // Once open, the file stays open, and each write continues after the one before.
         ensures name { self.new.name ≡ self.old.name }
         ensures stays { IsSome self.old.file → IsSome self.new.file }
         ensures bytes { IfSome self.old.file (λ old. IfSome self.new.file (λ new.
             WriteAppends (R.File.contents old) (R.File.contents new) result piece.now)) }
-        // If this call opens the file, it is one write on a file that was opened.
         ensures first { IfNone self.old.file (IfSome self.new.file (λ new.
             (opened : R.File) ×
             WriteAppends (R.File.contents opened) (R.File.contents new) result piece.now)) }

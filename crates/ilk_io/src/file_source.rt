@@ -11,9 +11,9 @@ use std::marker::Model;
 /// A source that reads a file, which the first call opens through the runtime. Contracts don't see
 /// the remaining bytes.
 ///
-/// A refused opening is a failure, and the next call tries again. Once open, the file stays open,
-/// also after a failure, and each read continues after the one before. An interrupted read is
-/// repeated at most 1000 times. Each failure is counted, up to the greatest `u64`.
+/// If opening fails, the call fails and the next one tries again. Once open, the file stays open,
+/// and each read continues after the one before. An interrupted read is repeated at most 1000
+/// times. Failures are counted, up to the greatest `u64`.
 ///
 /// If the call that opens the file succeeds, it is one read of some file that was opened: see the
 /// clause `first`. No clause states that any call succeeds, which file was opened, or whether bytes
@@ -28,9 +28,9 @@ pub struct FileSource<'a, R: Files> {
 }
 
 impl<'a, R: Files> Model for FileSource<'a, R> {
-    ghost use Rattle.ilk_io.specs.Adapters.{NamedFile};
+    ghost use Rattle.ilk_io.specs.Adapters.{LazilyOpenedFile};
 
-    ghost Value = { NamedFile R.File };
+    ghost Value = { LazilyOpenedFile R.File };
 
     ghost view = { λ s. record { name = s.name; file = s.file; faults = s.faults } };
 }
@@ -50,7 +50,6 @@ impl<'a, R: Files> FileSource<'a, R> {
         }
     }
 
-    // Reads once. First opens the file if it isn't open yet.
     fn read_open(&mut self, into: &mut [u8]) -> Result<usize, Failed>
         ensures within { IfOk result (λ n. n ≤ length into.new) }
         ensures faults { self.new.faults ≡ self.old.faults }
@@ -85,12 +84,10 @@ impl<R: Files> Source for FileSource<'_, R> {
         ensures failed { OnErr result (CountedOneFault self.old.faults self.new.faults) }
         ensures unraised { OnOk result (self.new.faults ≡ self.old.faults) }
         ensures opened { OnOk result (IsSome self.new.file) }
-        // Once open, the file stays open, and each read consumes its remaining bytes.
         ensures name { self.new.name ≡ self.old.name }
         ensures stays { IsSome self.old.file → IsSome self.new.file }
         ensures bytes { IfSome self.old.file (λ old. IfSome self.new.file (λ new.
             ReadConsumes (R.File.remaining old) (R.File.remaining new) result into.new)) }
-        // If this call opens the file, it is one read of a file that was opened.
         ensures first { IfNone self.old.file (IfSome self.new.file (λ new.
             (opened : R.File) ×
             ReadConsumes (R.File.remaining opened) (R.File.remaining new) result into.new)) }

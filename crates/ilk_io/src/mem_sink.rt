@@ -4,17 +4,17 @@ ghost use Rattle.ilk_io.specs.Sink.{Appends};
 ghost use Rattle.std.specs.Result.{result_ok};
 ghost use Rattle.ilk_io.specs.Memory.{write_count, after_write};
 
-use crate::plan::FaultPlan;
+use crate::plan::FaultPlanWithCounts;
 use crate::{Failed, Sink};
 use std::alloc::{AllocError, Global};
 use std::marker::Model;
 
-/// A sink in memory with limited room that fails at chosen calls. Contracts see the bytes written.
+/// A sink in memory with limited room, of which chosen calls fail. Contracts see the bytes written.
 #[derive(Drop)]
 pub struct MemSink {
     bytes: Vec<u8>,
     room: usize,
-    plan: FaultPlan,
+    plan: FaultPlanWithCounts,
 }
 
 impl Model for MemSink {
@@ -30,9 +30,9 @@ impl Model for MemSink {
 }
 
 impl MemSink {
-    /// Creates an empty sink with room for `room` bytes. Returns `AllocError` if memory runs out. A
-    /// call of `write` fails if its number, from 1, is in `fails`, or if no room is left for a
-    /// non-empty piece.
+    /// Creates an empty sink with room for `room` bytes. A write fails if its number, from 1, is in
+    /// `fails`, or if no room is left for a non-empty piece. Returns `AllocError` if memory runs
+    /// out.
     pub fn new(alloc: Global, room: u64, fails: Vec<u64>) -> Result<MemSink, AllocError>
         ensures { IfOk result
             (λ s. s
@@ -46,11 +46,11 @@ impl MemSink {
         Ok(MemSink {
             bytes: Vec::with_capacity(alloc, room)?,
             room,
-            plan: FaultPlan::new(fails),
+            plan: FaultPlanWithCounts::new(fails),
         })
     }
 
-    /// Returns the bytes taken so far, in order.
+    /// Returns the bytes written so far, in order.
     pub fn bytes(&self) -> &[u8]
         ensures { result.now ≡ self.now.taken }
     {

@@ -4,17 +4,16 @@ ghost use Rattle.ilk_io.specs.Source.{Consumes, IsAtEnd};
 ghost use Rattle.std.specs.Result.{result_ok};
 ghost use Rattle.ilk_io.specs.Memory.{read_count, after_read};
 
-use crate::plan::FaultPlan;
+use crate::plan::FaultPlanWithCounts;
 use crate::unread::UnreadBytes;
 use crate::{Failed, Source};
 use std::marker::Model;
 
-/// A source that reads bytes in memory and fails at chosen calls. Contracts see the remaining
-/// bytes.
+/// A source of bytes in memory, of which chosen calls fail. Contracts see the remaining bytes.
 #[derive(Drop)]
 pub struct MemSource {
     unread: UnreadBytes,
-    plan: FaultPlan,
+    plan: FaultPlanWithCounts,
 }
 
 impl Model for MemSource {
@@ -26,8 +25,7 @@ impl Model for MemSource {
 }
 
 impl MemSource {
-    /// Creates a source of `bytes`. A call of `read` fails if and only if its number, from 1, is in
-    /// `fails`.
+    /// Creates a source of `bytes`. A read fails if and only if its number, from 1, is in `fails`.
     pub fn new(bytes: Vec<u8>, fails: Vec<u64>) -> MemSource
         ensures { result
             ≡ record {
@@ -37,7 +35,7 @@ impl MemSource {
     {
         MemSource {
             unread: UnreadBytes::new(bytes),
-            plan: FaultPlan::new(fails),
+            plan: FaultPlanWithCounts::new(fails),
         }
     }
 }

@@ -4,43 +4,43 @@ ghost use Rattle.ilk_io.specs.Plan.{fails_next, after_success, after_fault};
 
 use std::marker::Model;
 
-/// The calls of a source or sink in memory that fail, and the numbers of calls and faults so far.
+/// The numbers of the calls that a source or sink in memory has to fail, and its counts of calls
+/// and of faults so far.
 #[derive(Drop)]
-pub struct FaultPlan {
+pub(crate) struct FaultPlanWithCounts {
     fails: Vec<u64>,
     calls: u64,
     faults: u64,
 }
 
-impl Model for FaultPlan {
-    ghost use Rattle.ilk_io.specs.Plan.{FaultSchedule};
+impl Model for FaultPlanWithCounts {
+    ghost use Rattle.ilk_io.specs.Plan.{FaultScheduleWithCounts};
 
-    ghost Value = { FaultSchedule };
+    ghost Value = { FaultScheduleWithCounts };
 
     ghost view = { λ a. record { fails = a.fails.items; calls = a.calls; faults = a.faults } };
 }
 
 /// Returns `n + 1`, or `n` if it is the greatest `u64`.
-pub fn saturating_inc(n: u64) -> u64
+pub(crate) fn saturating_inc(n: u64) -> u64
     ensures { result ≡ saturating_inc n }
 {
     n.saturating_add(1)
 }
 
-impl FaultPlan {
-    /// Creates a plan in which the calls with the numbers in `fails` fail. The first call has the
-    /// number 1.
-    pub fn new(fails: Vec<u64>) -> FaultPlan
+impl FaultPlanWithCounts {
+    /// Creates a plan in which the calls with the numbers in `fails`, from 1, have to fail.
+    pub fn new(fails: Vec<u64>) -> FaultPlanWithCounts
         ensures { result ≡ record { fails = fails.items; calls = 0; faults = 0 } }
     {
-        FaultPlan {
+        FaultPlanWithCounts {
             fails,
             calls: 0,
             faults: 0,
         }
     }
 
-    /// Returns whether the next call is one that fails.
+    /// Returns whether the next call has to fail.
     pub fn fails_next(&self) -> bool
         ensures { result ≡ fails_next self.now }
     {

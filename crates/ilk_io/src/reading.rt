@@ -20,15 +20,14 @@ pub enum ReadError {
     OutOfMemory = 3,
 }
 
-// The number of bytes requested from a source at once.
 const PIECE: usize = 4096;
 
-/// Reads the source to its end and returns its remaining bytes, at most `limit`.
+/// Reads the source to its end and returns its remaining bytes, at most `limit`. Fails with:
 ///
-/// `Failed` is returned at the first failed call of the source, which isn't called again: exactly
-/// one fault is counted. `TooLong` is returned if there are more than `limit` bytes and no call
-/// failed first. With every result except `Failed`, the count is unchanged. At most `limit + 1`
-/// bytes are read, and after an error the bytes read are gone from the source.
+/// - `Failed` at the first call of the source that fails. Exactly one fault is counted, and the
+///   source is not called again.
+/// - `TooLong` if there are more than `limit` bytes. At most `limit + 1` are taken from the source.
+/// - `OutOfMemory` if memory runs out.
 pub fn read_all<S: Source>(alloc: Global, source: &mut S, limit: u64) -> Result<Vec<u8>, ReadError>
     requires { limit < 2 ^ 40 }
     ensures whole { IfOk result (λ v. IsAllLeft (S.left source.old) v.items) }

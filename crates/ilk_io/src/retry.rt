@@ -4,12 +4,14 @@ ghost use Rattle.std.specs.Io.KnownBytes.{ReadConsumes, WriteAppends};
 use crate::Failed;
 use std::io::{ErrorKind, Read, Write};
 
-// The number of times an interrupted call is repeated.
 const RETRIES: u64 = 1000;
 
-/// Reads once, and repeats an interrupted read up to 1000 times. Returns `Failed` if no read
-/// succeeds.
-pub fn read_some_with_retry<R: Read>(reader: &mut R, into: &mut [u8]) -> Result<usize, Failed>
+/// Reads some bytes into `into` and returns their number. Repeats an interrupted read up to 1000
+/// times. Returns `Failed` if no read succeeds.
+pub(crate) fn read_some_with_retry<R: Read>(
+    reader: &mut R,
+    into: &mut [u8],
+) -> Result<usize, Failed>
     ensures within { IfOk result (λ n. n ≤ length into.new) }
     ensures bytes { ReadConsumes (R.remaining reader.old) (R.remaining reader.new) result into.new }
 {
@@ -23,9 +25,10 @@ pub fn read_some_with_retry<R: Read>(reader: &mut R, into: &mut [u8]) -> Result<
     Err(Failed)
 }
 
-/// Writes once, and repeats an interrupted write up to 1000 times. Returns `Failed` if no write
-/// succeeds, or if one takes no byte of a piece that is not empty.
-pub fn write_some_with_retry<W: Write>(writer: &mut W, piece: &[u8]) -> Result<usize, Failed>
+/// Writes some bytes from the front of `piece` and returns their number. Repeats an interrupted
+/// write up to 1000 times. Returns `Failed` if no write succeeds, or if one takes no byte of a
+/// piece that is not empty.
+pub(crate) fn write_some_with_retry<W: Write>(writer: &mut W, piece: &[u8]) -> Result<usize, Failed>
     ensures within { IfOk result (λ n. n ≤ length piece.now) }
     ensures some { IfOk result (λ n. 0 < length piece.now → 0 < n) }
     ensures bytes { WriteAppends (W.contents writer.old) (W.contents writer.new) result piece.now }

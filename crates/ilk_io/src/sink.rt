@@ -4,15 +4,15 @@ ghost use Rattle.ilk_io.specs.Sink.{Appends};
 
 use crate::Failed;
 
-/// A sink of bytes.
+/// A place to write bytes to; calls may fail, and faults are counted.
 pub trait Sink {
-    // The bytes taken so far, if contracts see them.
+    // The bytes written so far, or `None` if contracts don't see them.
     ghost written: { Self → Option (List ℕ) };
 
     // The number of failed calls so far. A count kept in a `u64` saturates at its greatest value.
     ghost faults: { Self → ℕ };
 
-    /// Takes bytes from the front of `piece` and returns their number, at least one if the piece
+    /// Writes bytes from the front of `piece` and returns their number, at least one if the piece
     /// isn't empty.
     ///
     /// A call that returns `Failed` counts one fault and takes no byte. Any other call leaves the

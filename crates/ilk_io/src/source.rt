@@ -4,19 +4,19 @@ ghost use Rattle.ilk_io.specs.Source.{Consumes, IsAtEnd};
 
 use crate::Failed;
 
-/// A source of bytes.
+/// A place to read bytes from; calls may fail, and faults are counted.
 pub trait Source {
-    // The unread bytes, if contracts see them.
+    // The bytes that are not read yet, or `None` if contracts don't see them.
     ghost left: { Self → Option (List ℕ) };
 
     // The number of failed calls so far. A count kept in a `u64` saturates at its greatest value.
     ghost faults: { Self → ℕ };
 
-    /// Reads into the front of `into` and returns the number of bytes read, at most the length of
-    /// the buffer. These bytes leave the source. The rest of the buffer may hold anything.
+    /// Reads into the front of `into` and returns the number of bytes read; 0 means the end of the
+    /// input, unless `into` is empty. The rest of `into` may hold anything.
     ///
-    /// If the buffer isn't empty, 0 means the end of the input. A call that returns `Failed` counts
-    /// one fault and takes no byte from the source. Any other call leaves the count unchanged.
+    /// A call that returns `Failed` counts one fault and takes no byte from the source. Any other
+    /// call leaves the count unchanged.
     fn read(&mut self, into: &mut [u8]) -> Result<usize, Failed>
         ensures within { IfOk result (λ n. n ≤ length into.new) }
         ensures taken { IfOk result

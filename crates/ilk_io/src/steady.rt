@@ -5,7 +5,7 @@ use crate::unread::UnreadBytes;
 use crate::{Failed, Sink, Source};
 use std::marker::Model;
 
-/// A source that reads bytes in memory and never fails. Contracts see the remaining bytes.
+/// A source of bytes in memory that never fails. Contracts see the remaining bytes.
 #[derive(Drop)]
 pub struct SteadySource {
     unread: UnreadBytes,
@@ -47,8 +47,7 @@ impl Source for SteadySource {
     }
 }
 
-/// A sink that takes and counts every byte, keeps none, and never fails. Contracts don't see the
-/// bytes written.
+/// A sink that only counts the bytes written, and never fails. Contracts don't see the bytes.
 #[derive(Drop)]
 pub struct SteadySink {
     count: u64,
@@ -63,14 +62,14 @@ impl Model for SteadySink {
 }
 
 impl SteadySink {
-    /// Creates a sink that has taken no byte yet.
+    /// Creates a sink to which no byte was written.
     pub fn new() -> SteadySink
         ensures { result ≡ 0 }
     {
         SteadySink { count: 0 }
     }
 
-    /// Returns the number of bytes taken so far, saturating at the greatest `u64`.
+    /// Returns the number of bytes written so far, saturating at the greatest `u64`.
     pub fn count(&self) -> u64
         ensures { result ≡ self.now }
     {

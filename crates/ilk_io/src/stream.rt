@@ -8,11 +8,11 @@ use crate::{Failed, Sink, Source};
 use std::io::{Read, Write};
 use std::marker::Model;
 
-/// A source over a reader, such as standard input. As a `Source`, its remaining bytes are unknown
-/// (`left` is `None`); only the contract of its own `read` says what the reader has left.
+/// A source over a reader, such as standard input. Contracts see the remaining bytes only in its
+/// own `read`, not as those of a `Source`.
 ///
-/// An interrupted read is repeated at most 1000 times. Each failure of the reader is counted, up to
-/// the greatest `u64`.
+/// An interrupted read is repeated at most 1000 times. Failures are counted, up to the greatest
+/// `u64`.
 #[derive(Drop)]
 pub struct StdSource<R: Read> {
     reader: R,
@@ -56,11 +56,11 @@ impl<R: Read> Source for StdSource<R> {
     }
 }
 
-/// A sink over a writer, such as standard output. As a `Sink`, the bytes written are unknown
-/// (`written` is `None`); only the contract of its own `write` says what the writer took.
+/// A sink over a writer, such as standard output. Contracts see the bytes written only in its own
+/// `write`, not as those of a `Sink`.
 ///
-/// An interrupted write is repeated at most 1000 times. Each failure of the writer is counted, up
-/// to the greatest `u64`. It is also a failure if the writer takes no byte of a non-empty piece.
+/// An interrupted write is repeated at most 1000 times. A call also fails if the writer takes no
+/// byte of a non-empty piece. Failures are counted, up to the greatest `u64`.
 #[derive(Drop)]
 pub struct StdSink<W: Write> {
     writer: W,

@@ -13,7 +13,6 @@ use std::{fs, io};
 
 const BYTES: [u8; 5] = *b"plant";
 
-// Reads the five bytes with a limit, from a source whose first call fails if `first_fails`.
 fn read_memory(
     alloc: Global,
     limit: u64,

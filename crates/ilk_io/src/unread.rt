@@ -2,9 +2,9 @@ ghost use Rattle.std.specs.Prelude.{◌≡◌, length, take, drop, min};
 
 use std::marker::Model;
 
-/// Bytes in memory that are read from the front. Contracts see the unread bytes.
+/// Bytes in memory that are read from the front. Contracts see the bytes that are not read yet.
 #[derive(Drop)]
-pub struct UnreadBytes {
+pub(crate) struct UnreadBytes {
     bytes: Vec<u8>,
     position: usize,
 }
@@ -20,14 +20,15 @@ impl Model for UnreadBytes {
 }
 
 impl UnreadBytes {
-    /// Takes `bytes`, none of which has been read yet.
+    /// Creates unread bytes from `bytes`.
     pub fn new(bytes: Vec<u8>) -> UnreadBytes
         ensures { result ≡ bytes.items }
     {
         UnreadBytes { bytes, position: 0 }
     }
 
-    /// Moves as many unread bytes as `into` has room for, and returns their number.
+    /// Moves the next unread bytes into the front of `into`, as many as fit, and returns their
+    /// number.
     pub fn read(&mut self, into: &mut [u8]) -> usize
         ensures count { result ≡ min (length into.old) (length self.old) }
         ensures bytes { take result into.new ≡ take result self.old }

@@ -4,11 +4,9 @@ ghost use Rattle.ilk_io.specs.Sink.{Appends, AppendsPrefix};
 
 use crate::{Failed, Sink};
 
-/// Writes the whole text to the sink.
-///
-/// `Failed` is returned at the first failed call of the sink, which isn't called again: exactly one
-/// fault is counted, and a prefix of the text was written. With `Ok` the count is unchanged. An
-/// empty text makes no call.
+/// Writes the whole text to `sink`; an empty text makes no call. Returns `Failed` at the first call
+/// of the sink that fails, which is not called again. Exactly one fault is then counted, and a
+/// prefix of the text was written.
 pub fn write_all<K: Sink>(sink: &mut K, text: &[u8]) -> Result<(), Failed>
     ensures whole { OnOk result (Appends (K.written sink.old) (K.written sink.new) text.now) }
     ensures prefix { AppendsPrefix (K.written sink.old) (K.written sink.new) text.now }

@@ -1,10 +1,9 @@
--- The tree of a form.
 use Rattle.std.specs.Prelude.{List, map}
 use Rattle.ilk_ir.specs.Tree.{Tree, yes, no, is, all_of, any_of, negation, Trees, trees_from_list}
 use Rattle.ilk_ir.specs.declared.form.Form.{Form, fold-Form}
 use Rattle.ilk_ir.specs.declared.form.Form.TheOpen.{Form-F}
 
--- One level of the conversion; the forms inside are already trees.
+-- Returns the tree of a form whose inner forms are trees already.
 abbrev pub tree_from_form_layer : Form-F Tree → Tree
 tree_from_form_layer Form-F.Yes = yes
 tree_from_form_layer Form-F.No = no

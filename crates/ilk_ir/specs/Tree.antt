@@ -15,12 +15,12 @@ mutual
     none : Trees
     more : Tree → Trees → Trees
 
--- The trees of a list, as `Trees`.
+-- Returns a list of trees in the form `Trees`.
 abbrev pub trees_from_list : List Tree → Trees
 trees_from_list [] = none
 trees_from_list (t ∷ ts) = more t (trees_from_list ts)
 
--- Returns whether variable v has the value c.
+-- Returns whether variable `v` exists and has value `c`.
 abbrev pub var_has_value : List ℕ → ℕ → ℕ → Bool
 var_has_value values v c = is_some_and (slice_get values v) (λ x. x == c)
 
@@ -43,7 +43,7 @@ abbrev mutual
   some_holds values none = false
   some_holds values (more t ts) = tree_holds values t || some_holds values ts
 
--- Returns whether variable v has a range and c is below it.
+-- Returns whether variable `v` exists and its range includes value `c`.
 abbrev pub value_valid : List ℕ → ℕ → ℕ → Bool
 value_valid ranges v c = is_some_and (slice_get ranges v) (λ range. nat_lt c range)
 

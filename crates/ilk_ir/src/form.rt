@@ -4,14 +4,14 @@ ghost use Rattle.ilk_ir.specs.Form.{tree_of};
 
 use ilk_base::Row;
 
-/// A condition on the values of variables. Contracts see it as a tree.
+/// A condition on the values of variables. Contracts see it as a tree (`specs/Tree`).
 #[derive(Drop)]
 pub enum Form {
     /// Always holds.
     Yes,
     /// Never holds.
     No,
-    /// Holds if the variable has the value.
+    /// Holds if the variable with this number has this value.
     Is(u32, u8),
     /// Holds if each of the forms holds; an empty list holds.
     And(Vec<Form>),

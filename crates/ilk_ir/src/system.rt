@@ -4,7 +4,7 @@ ghost use Rattle.ilk_ir.specs.System.{plain_system, system_valid, in_ranges, aft
 use crate::form::{Form, Values, holds};
 use ilk_base::Row;
 
-/// A variable and the value to set it to.
+/// A variable, and the value that a rule gives it.
 #[derive(Clone, Copy)]
 pub struct Setting {
     pub var: u32,
@@ -24,7 +24,7 @@ pub struct Rule {
 /// A list of rules.
 pub type Rules = Row<Rule>;
 
-/// The number of values of each variable. The values begin at 0.
+/// For each variable, the number of its values, which begin at 0.
 pub type Ranges = Row<u8>;
 
 /// Variables with their ranges, and the rules that change their values.
@@ -34,7 +34,6 @@ pub struct System {
     pub rules: Rules,
 }
 
-// Writes the settings in order.
 fn write_all(values: &mut Values, sets: &Sets)
     ensures { values.new ≡ after_settings values.old sets.now }
 {
@@ -45,8 +44,8 @@ fn write_all(values: &mut Values, sets: &Sets)
     }
 }
 
-/// Fires rule number `rule`. Returns whether its guard holds, and writes its settings if so.
-/// Otherwise `values` is unchanged.
+/// Fires rule number `rule`, from 0: if its guard holds, writes its settings to `values` and
+/// returns `true`. Otherwise leaves `values` unchanged and returns `false`.
 pub fn fire(system: &System, values: &mut Values, rule: u32) -> bool
     requires { rule < length system.now.rules }
     ensures fires { result ≡ is_some (after_rule_number (plain_system system.now) rule values.old) }

@@ -9,10 +9,10 @@ use Rattle.ilk_base.proofs.Lists.{item_at}
 use Rattle.ilk_base.proofs.Options.{bind_some, mapped-None}
 use Rattle.ilk_base.proofs.Ranges.{range-at}
 use Rattle.ilk_base.proofs.Tested.{count-one, count_by-take-lt, find-at, list_all-slice_get, list_any-from, list_any-none, find-none-at}
-use Rattle.ilk_plant.specs.Network.{neighbours_on, has_section, is_point}
+use Rattle.ilk_plant.specs.Network.{neighbours_on, contains_section, is_point}
 use Rattle.ilk_plant.specs.NetworkRules.{opposite_direction}
 use Rattle.ilk_plant.specs.Plant.{IsPlant, PlantLists, next_to, point_count, point_number}
-use Rattle.ilk_plant.specs.Shape.{HasShape, train_body_is_valid, is_connected_chain}
+use Rattle.ilk_plant.specs.Shape.{HasShape, has_nonempty_connected_body, is_connected_chain}
 use Rattle.ilk_plant.specs.Sound.{IsAcyclic}
 use Rattle.ilk_plant.specs.State.{detected_position}
 use Rattle.ilk_plant.specs.declared.network.Dir.{Dir}
@@ -28,7 +28,7 @@ use Rattle.ilk_plant.proofs.InLists.{section-from, section-at, only-one}
 use Rattle.ilk_motion.specs.Ahead.{section_led_to, detected_leg}
 use Rattle.ilk_routes.specs.Lies.{is_detected_moving}
 use Rattle.ilk_model.specs.Hazard.{are_adjacent_in_body, hazard, is_section_hazardous, has_two_trains, is_wrong_under_train, is_wrong_under_body}
-use Rattle.ilk_layout.specs.Occupancy.{occupancy_of}
+use Rattle.ilk_layout.specs.Occupancy.{occupancy_or_crash}
 use Rattle.ilk_layout.specs.Wellformed.{section_ahead, mutual_section_ahead}
 use Rattle.ilk_layout.specs.declared.values.Occupancy.TheVariants.{Vacant, Taken, Crash}
 use Rattle.ilk_model.proofs.Straying.{pair-has}
@@ -76,23 +76,23 @@ pair-places (a ∷ b ∷ rest) x y h =
           (suc rest_places.0, rest_places.1))
     ]
 
-pub next-neighbours_on : (p : PlantLists) (d : Dir) (a : ℕ) (rest : List ℕ) (k x y : ℕ) → is_connected_chain p d a rest ≡ true → slice_get (a ∷ rest) k ≡ Some x → slice_get (a ∷ rest) (suc k) ≡ Some y → has_section y (next_to p x d) ≡ true
+pub next-neighbours_on : (p : PlantLists) (d : Dir) (a : ℕ) (rest : List ℕ) (k x y : ℕ) → is_connected_chain p d a rest ≡ true → slice_get (a ∷ rest) k ≡ Some x → slice_get (a ∷ rest) (suc k) ≡ Some y → contains_section y (next_to p x d) ≡ true
 next-neighbours_on p d a [] k x y on at next = cc
 next-neighbours_on p d a (b ∷ rest) zero x y on at next =
-    let parts = and_parts (has_section b (next_to p a d)) (is_connected_chain p d b rest) on in
-    ap (λ v. has_section v (next_to p x d)) (sym (same_Some b y next)) ∙ ap (λ v. has_section b (next_to p v d)) (sym (same_Some a x at)) ∙ parts.0
-next-neighbours_on p d a (b ∷ rest) (suc k) x y on at next = next-neighbours_on p d b rest k x y (and_parts (has_section b (next_to p a d)) (is_connected_chain p d b rest) on).1 at next
+    let parts = and_parts (contains_section b (next_to p a d)) (is_connected_chain p d b rest) on in
+    ap (λ v. contains_section v (next_to p x d)) (sym (same_Some b y next)) ∙ ap (λ v. contains_section b (next_to p v d)) (sym (same_Some a x at)) ∙ parts.0
+next-neighbours_on p d a (b ∷ rest) (suc k) x y on at next = next-neighbours_on p d b rest k x y (and_parts (contains_section b (next_to p a d)) (is_connected_chain p d b rest) on).1 at next
 
-pub body-neighbours_on : (p : PlantLists) (train : Train) (k x y : ℕ) → train_body_is_valid p train ≡ true → slice_get train.body k ≡ Some x → slice_get train.body (suc k) ≡ Some y → has_section y (next_to p x train.dir) ≡ true
+pub body-neighbours_on : (p : PlantLists) (train : Train) (k x y : ℕ) → has_nonempty_connected_body p train ≡ true → slice_get train.body k ≡ Some x → slice_get train.body (suc k) ≡ Some y → contains_section y (next_to p x train.dir) ≡ true
 body-neighbours_on p train k x y h at next = beside_in train.dir train.body h at next
   where
-    beside_in : (d : Dir) (body : List ℕ) → train_body_is_valid p (record { dir = d; body = body }) ≡ true → slice_get body k ≡ Some x → slice_get body (suc k) ≡ Some y → has_section y (next_to p x d) ≡ true
+    beside_in : (d : Dir) (body : List ℕ) → has_nonempty_connected_body p (record { dir = d; body = body }) ≡ true → slice_get body k ≡ Some x → slice_get body (suc k) ≡ Some y → contains_section y (next_to p x d) ≡ true
     beside_in d [] h at next = cc
     beside_in d (a ∷ rest) h at next = next-neighbours_on p d a rest k x y (body-parts p d a rest h).1 at next
 
 module _ (p : PlantLists) (plant : IsPlant p) (never : IsAcyclic p) (s : State) (shape : HasShape p s) (calm : hazard p s ≡ None) where
-  pub body-of : (i : ℕ) (t : Train) → slice_get s.trains i ≡ Some t → train_body_is_valid p t ≡ true
-  body-of i t at = list_all-slice_get (train_body_is_valid p) s.trains i t shape.bodies at
+  pub body-of : (i : ℕ) (t : Train) → slice_get s.trains i ≡ Some t → has_nonempty_connected_body p t ≡ true
+  body-of i t at = list_all-slice_get (has_nonempty_connected_body p) s.trains i t shape.bodies at
 
   not_two : (x : ℕ) → x < length p.sections → count_by (has_x x) s.trains ≤ 1
   not_two x within = ltb-false 1 (count_by (has_x x) s.trains) (or_parts (has_two_trains s x) (is_wrong_under_train p s x) (calm-at p s x calm within)).0
@@ -101,15 +101,15 @@ module _ (p : PlantLists) (plant : IsPlant p) (never : IsAcyclic p) (s : State) 
   not_wrong x within = (or_parts (has_two_trains s x) (is_wrong_under_train p s x) (calm-at p s x calm within)).1
 
   -- A section is in the body of only one train.
-  pub alone : (i j x : ℕ) (t u : Train) → slice_get s.trains i ≡ Some t → slice_get s.trains j ≡ Some u → has_section x t.body ≡ true → has_section x u.body ≡ true → i ≡ j
+  pub alone : (i j x : ℕ) (t u : Train) → slice_get s.trains i ≡ Some t → slice_get s.trains j ≡ Some u → contains_section x t.body ≡ true → contains_section x u.body ≡ true → i ≡ j
   alone i j x t u at also h g =
       let place = section-at x t.body h in
       let within = body-known p t place.0 x plant (body-of i t at) place.1 in
       count-one (has_x x) s.trains (not_two x within) i j t u at also h g
 
-  pub occupancy-in : (i k x : ℕ) (t : Train) → slice_get s.trains i ≡ Some t → slice_get t.body k ≡ Some x → occupancy_of p s x ≡ Taken t.dir (k == 0) (k + 1 == length t.body)
+  pub occupancy-in : (i k x : ℕ) (t : Train) → slice_get s.trains i ≡ Some t → slice_get t.body k ≡ Some x → occupancy_or_crash p s x ≡ Taken t.dir (k == 0) (k + 1 == length t.body)
   occupancy-in i k x t at place =
-      let has : has_section x t.body ≡ true = section-from t.body k x place in
+      let has : contains_section x t.body ≡ true = section-from t.body k x place in
       let within = body-known p t k x plant (body-of i t at) place in
       let once = body-once p t never (body-of i t at) in
       let some = find-some (has_x x) s.trains (list_any-from (has_x x) s.trains i t at has) in
@@ -122,7 +122,7 @@ module _ (p : PlantLists) (plant : IsPlant p) (never : IsAcyclic p) (s : State) 
       let last = last-at t.body k x once place in
       rw (safe, it, first, last) refl
 
-  pub taken-in : (x : ℕ) (d : Dir) (tail head : Bool) → occupancy_of p s x ≡ Taken d tail head → (i : ℕ) × (t : Train) × (k : ℕ) × (slice_get s.trains i ≡ Some t) × (slice_get t.body k ≡ Some x)
+  pub taken-in : (x : ℕ) (d : Dir) (tail head : Bool) → occupancy_or_crash p s x ≡ Taken d tail head → (i : ℕ) × (t : Train) × (k : ℕ) × (slice_get s.trains i ≡ Some t) × (slice_get t.body k ≡ Some x)
   taken-in x d tail head e = by_hazard (is_section_hazardous p s x) refl
     where
       by_found : (o : Option Train) → find (has_x x) s.trains ≡ o → is_section_hazardous p s x ≡ false → (i : ℕ) × (t : Train) × (k : ℕ) × (slice_get s.trains i ≡ Some t) × (slice_get t.body k ≡ Some x)
@@ -151,29 +151,29 @@ module _ (p : PlantLists) (plant : IsPlant p) (never : IsAcyclic p) (s : State) 
       list_any-none (λ (train : Train). is_wrong_under_body x plus minus (detected_position p s x) train.body) s.trains i t none at
 
   -- Each of two neighbours in a body leads to the other.
-  pub led-on : (i : ℕ) (t : Train) (x y : ℕ) (d : Dir) → slice_get s.trains i ≡ Some t → x < length p.sections → has_section y (next_to p x d) ≡ true → are_adjacent_in_body x y t.body ≡ true → section_ahead p (detected_position p s) x d ≡ Some y
+  pub led-on : (i : ℕ) (t : Train) (x y : ℕ) (d : Dir) → slice_get s.trains i ≡ Some t → x < length p.sections → contains_section y (next_to p x d) ≡ true → are_adjacent_in_body x y t.body ≡ true → section_ahead p (detected_position p s) x d ≡ Some y
   led-on i t x y d at within beside_it pair = by_section (slice_get p.sections x) refl d beside_it
     where
-      of_option : (o : Option ℕ) → has_section y (option_to_list o) ≡ true → o ≡ Some y
+      of_option : (o : Option ℕ) → contains_section y (option_to_list o) ≡ true → o ≡ Some y
       of_option None h = cc
       of_option (Some z) h = ap Some (only-one y z h)
 
-      leg : (plus minus : ℕ) (l : Lie) → is_wrong_under_body x plus minus (Some l) t.body ≡ false → has_section y (plus ∷ minus ∷ []) ≡ true → detected_leg plus minus l ≡ Some y
+      leg : (plus minus : ℕ) (l : Lie) → is_wrong_under_body x plus minus (Some l) t.body ≡ false → contains_section y (plus ∷ minus ∷ []) ≡ true → detected_leg plus minus l ≡ Some y
       leg plus minus Moving none h = absurd (false≢true (sym none ∙ pair-has x y t.body pair))
       leg plus minus Plus none h =
-          elim (or_cases (plus == y) (has_section y (minus ∷ [])) h) [
+          elim (or_cases (plus == y) (contains_section y (minus ∷ [])) h) [
             | inl e ↦ ap Some (eqb-true plus y e)
             | inr e ↦ absurd (false≢true (sym none ∙ ap (λ v. are_adjacent_in_body x v t.body) (only-one y minus e) ∙ pair))
           ]
       leg plus minus Minus none h =
-          elim (or_cases (plus == y) (has_section y (minus ∷ [])) h) [
+          elim (or_cases (plus == y) (contains_section y (minus ∷ [])) h) [
             | inl e ↦ absurd (false≢true (sym none ∙ ap (λ v. are_adjacent_in_body x v t.body) (eqb-true plus y e) ∙ pair))
             | inr e ↦ ap Some (only-one y minus e)
           ]
 
       facing : (stem plus minus : ℕ) (faces d : Dir) (lie : Option Lie) →
           slice_get p.sections x ≡ Some (Point stem plus minus faces) → detected_position p s x ≡ lie →
-          has_section y (neighbours_on (Point stem plus minus faces) d) ≡ true →
+          contains_section y (neighbours_on (Point stem plus minus faces) d) ≡ true →
           section_led_to (Point stem plus minus faces) d lie ≡ Some y
       facing stem plus minus Up Up lie e f h =
           let known = lie-known x stem plus minus Up e in
@@ -186,7 +186,7 @@ module _ (p : PlantLists) (plant : IsPlant p) (never : IsAcyclic p) (s : State) 
       facing stem plus minus Up Down lie e f h = ap Some (only-one y stem h)
       facing stem plus minus Down Up lie e f h = ap Some (only-one y stem h)
 
-      by_section : (o : Option Section) → slice_get p.sections x ≡ o → (d : Dir) → has_section y (next_to p x d) ≡ true → section_ahead p (detected_position p s) x d ≡ Some y
+      by_section : (o : Option Section) → slice_get p.sections x ≡ o → (d : Dir) → contains_section y (next_to p x d) ≡ true → section_ahead p (detected_position p s) x d ≡ Some y
       by_section None e d h = absurd (let there = item_at p.sections x within in none-some there.0 (sym e ∙ there.1))
       by_section (Some (Linear down up b c)) e Down h = rw e (of_option down (rw e at h))
       by_section (Some (Linear down up b c)) e Up h = rw e (of_option up (rw e at h))
@@ -209,7 +209,7 @@ module _ (p : PlantLists) (plant : IsPlant p) (never : IsAcyclic p) (s : State) 
       by_section (Linear down up b c) e is f = false≢true is
       by_section (Point stem plus minus faces) e is f =
           let none = not_strays i t x stem plus minus faces at e in
-          let moves : has_section x t.body ≡ false = rw f at none in
+          let moves : contains_section x t.body ≡ false = rw f at none in
           false≢true (sym moves ∙ section-from t.body k x here)
 
       by_lie : (o : Option Lie) → detected_position p s x ≡ o → not (is_some_and o is_detected_moving) ≡ true

@@ -1,14 +1,14 @@
 -- Chains of numbers from a first to a last, for any forward step with its backward step.
 use Rattle.std.proofs.Common.{◌≡◌, ℕ, zero, suc, ◌+◌, ◌<◌, Option, Some, None, List, [], ◌∷◌, length, slice_get, ◌⊎◌, inl, inr, refl, sym, ◌∙◌, ap, subst, arith}
 use Rattle.std.proofs.lemmas.Option.{none-some, same_Some}
-use Rattle.ilk_layout.specs.Decoded.{follow_steps, first_then_rest}
+use Rattle.ilk_layout.specs.Decoded.{follow_steps, optional_first_then_followers}
 
--- `x` leads to the first of the rest, each number to the next, and the last to none.
+-- Holds if `x` leads to the first of the rest, each number to the next, and the last to none.
 abbrev pub IsChain : (ℕ → Option ℕ) → ℕ → List ℕ → Type 0
 IsChain f x [] = f x ≡ None
 IsChain f x (y ∷ rest) = (f x ≡ Some y) × IsChain f y rest
 
--- The same, but the last may lead on.
+-- Like `IsChain`, but the last may lead on.
 abbrev pub IsWalk : (ℕ → Option ℕ) → ℕ → List ℕ → Type 0
 IsWalk f x [] = Unit {0}
 IsWalk f x (y ∷ rest) = (f x ≡ Some y) × IsWalk f y rest
@@ -18,10 +18,10 @@ follow_steps-ends f zero x = inr ([], tt, refl)
 follow_steps-ends f (suc k) x = by_next (follow_steps-ends f k) (f x) refl
   where
     by_next : ((y : ℕ) → IsChain f y (follow_steps k f y) ⊎ ((walk : List ℕ) × IsWalk f y walk × (length walk ≡ k))) → (o : Option ℕ) → f x ≡ o → IsChain f x (follow_steps (suc k) f x) ⊎ ((walk : List ℕ) × IsWalk f x walk × (length walk ≡ suc k))
-    by_next ih None e = inl (let P : Option ℕ → Type 0 = λ o. IsChain f x (first_then_rest (follow_steps k f) o) in subst P (sym e) e)
+    by_next ih None e = inl (let P : Option ℕ → Type 0 = λ o. IsChain f x (optional_first_then_followers (follow_steps k f) o) in subst P (sym e) e)
     by_next ih (Some y) e =
         elim (ih y) [
-          | inl chain ↦ inl (let P : Option ℕ → Type 0 = λ o. IsChain f x (first_then_rest (follow_steps k f) o) in subst P (sym e) (e, chain))
+          | inl chain ↦ inl (let P : Option ℕ → Type 0 = λ o. IsChain f x (optional_first_then_followers (follow_steps k f) o) in subst P (sym e) (e, chain))
           | inr more ↦ inr (y ∷ more.0, (e, more.1), ap suc more.2)
         ]
 

@@ -17,7 +17,7 @@ use Rattle.ilk_plant.specs.declared.state.State.{State}
 use Rattle.ilk_plant.specs.declared.state.Train.{Train}
 use Rattle.ilk_model.specs.Hazard.{is_wrong_under_train, is_wrong_under_body}
 use Rattle.ilk_layout.specs.Image.{image_of, occupancy_values}
-use Rattle.ilk_layout.specs.Occupancy.{occupancy_of, occupancy_by_train_if_any}
+use Rattle.ilk_layout.specs.Occupancy.{occupancy_or_crash, occupancy_by_train_if_any}
 use Rattle.ilk_layout.specs.Values.{aspect_value, occupancy_value}
 use Rattle.ilk_layout.specs.Variables.{board_var, occupancy_var}
 use Rattle.ilk_layout.proofs.Trains.{has_x, with_trains}
@@ -25,7 +25,7 @@ use Rattle.ilk_layout.specs.declared.values.Occupancy.TheVariants.{Crash}
 use Rattle.ilk_layout.proofs.Writes.{board-written, image_with, occupancy-written}
 
 -- An occupancy depends only on the trains and on the position of its point.
-pub occupancy-kept : (p : PlantLists) (s t : State) (x : ℕ) → t.trains ≡ s.trains → detected_position p t x ≡ detected_position p s x → occupancy_of p t x ≡ occupancy_of p s x
+pub occupancy-kept : (p : PlantLists) (s t : State) (x : ℕ) → t.trains ≡ s.trains → detected_position p t x ≡ detected_position p s x → occupancy_or_crash p t x ≡ occupancy_or_crash p s x
 occupancy-kept p s t x trains lies i =
     cond (nat_lt 1 (count_by (has_x x) (trains i)) || wrong-same i) Crash (occupancy_by_train_if_any x (find (has_x x) (trains i)))
   where
@@ -64,7 +64,6 @@ table-one f g n x within other = same_by_slice_get (set (map f (range_with_len 0
               ]
         ]
 
--- `g` at `x`, and `f` elsewhere.
 abbrev changed : (ℕ → ℕ) → (ℕ → ℕ) → ℕ → ℕ → ℕ
 changed f g x z = cond (z == x) (g z) (f z)
 
@@ -83,14 +82,14 @@ table-two f g n x y within_x within_y apart other =
         ]
 
 abbrev pub occupied : PlantLists → State → ℕ → ℕ
-occupied p s x = occupancy_value (occupancy_of p s x)
+occupied p s x = occupancy_value (occupancy_or_crash p s x)
 
 module _ (p : PlantLists) (s : State) (shape : HasShape p s) where
   pub image-board : (m : ℕ) (aspect : Aspect) → m < length p.boards → set (image_of p s) (board_var p m) (aspect_value aspect) ≡ image_of p (record s { boards = set s.boards m aspect })
   image-board m aspect within = board-written p s (occupancy_values p s) shape m aspect within
 
   -- Moving trains: two writes if two occupancies change.
-  pub image-two : (ts : List Train) (x y : ℕ) → x < length p.sections → y < length p.sections → (x ≡ y → ⊥) → ((z : ℕ) → z < length p.sections → (z ≡ x → ⊥) → (z ≡ y → ⊥) → occupancy_of p (with_trains s ts) z ≡ occupancy_of p s z)
+  pub image-two : (ts : List Train) (x y : ℕ) → x < length p.sections → y < length p.sections → (x ≡ y → ⊥) → ((z : ℕ) → z < length p.sections → (z ≡ x → ⊥) → (z ≡ y → ⊥) → occupancy_or_crash p (with_trains s ts) z ≡ occupancy_or_crash p s z)
       → set (set (image_of p s) (occupancy_var p x) (occupied p (with_trains s ts) x)) (occupancy_var p y) (occupied p (with_trains s ts) y) ≡ image_of p (with_trains s ts)
   image-two ts x y within_x within_y apart other =
       ap (λ v. set v (occupancy_var p y) (occupied p (with_trains s ts) y)) (occupancy-written p s (occupancy_values p s) shape x (occupied p (with_trains s ts) x))

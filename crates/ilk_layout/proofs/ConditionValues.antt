@@ -9,7 +9,7 @@ use Rattle.ilk_base.proofs.Ranges.{range-at}
 use Rattle.ilk_ir.specs.Tree.{var_has_value, tree_holds}
 use Rattle.ilk_plant.specs.Plant.{PlantLists}
 use Rattle.ilk_plant.specs.Shape.{HasShape}
-use Rattle.ilk_plant.specs.State.{has_lock_state, is_occupied, same_hold}
+use Rattle.ilk_plant.specs.State.{has_lock_state, is_occupied, same_lock_state}
 use Rattle.ilk_plant.specs.declared.network.Dir.{Dir}
 use Rattle.ilk_plant.specs.declared.network.Dir.TheVariants.{Up, Down}
 use Rattle.ilk_plant.specs.declared.network.Position.{Position}
@@ -32,7 +32,7 @@ use Rattle.ilk_routes.specs.Boards.{has_aspect, same_aspect}
 use Rattle.ilk_routes.specs.Lies.{is_detected_moving, lie_from_position, is_lie_at_position}
 use Rattle.ilk_routes.specs.Modes.{has_mode, same_mode}
 use Rattle.ilk_layout.specs.Image.{image_of, occupancy_values}
-use Rattle.ilk_layout.specs.Occupancy.{is_first, occupancy_of, occupancy_by_train}
+use Rattle.ilk_layout.specs.Occupancy.{is_first, occupancy_or_crash, occupancy_by_train}
 use Rattle.ilk_layout.specs.Values.{aspect_value, lock_value, detected_value, mode_value, occupancy_value, commanded_value}
 use Rattle.ilk_layout.specs.Variables.{occupancy_var}
 use Rattle.ilk_layout.specs.declared.values.Occupancy.{Occupancy}
@@ -40,9 +40,7 @@ use Rattle.ilk_layout.specs.declared.values.Occupancy.TheVariants.{Vacant, Taken
 use Rattle.ilk_layout.proofs.Calm.{calm-at}
 use Rattle.ilk_layout.proofs.Trains.{find-none, find-some, has_x}
 use Rattle.ilk_layout.proofs.Writes.{at-at, board-at, image_with, lock-at, mode-at, occupancy-at, rel-at, seen-at, to-at}
-use Rattle.ilk_layout.specs.Conditions.{is_point_detected, board_is, lock_is, mode_is, no_train_at, occupancy_is, rel_is, seen_is, is_point_commanded}
-
--- Different values have different numbers.
+use Rattle.ilk_layout.specs.Conditions.{is_point_detected, is_board_aspect, lock_is, mode_is, no_train_at, occupancy_is, is_released_count, is_seen_count, is_point_commanded}
 
 pub mode-test : (a b : Mode) → (mode_value a == mode_value b) ≡ same_mode a b
 mode-test Free Free = refl
@@ -71,7 +69,7 @@ mode-test Occupied Allocating = refl
 mode-test Occupied Locked = refl
 mode-test Occupied Occupied = refl
 
-pub hold-test : (a b : Hold) → (lock_value a == lock_value b) ≡ same_hold a b
+pub hold-test : (a b : Hold) → (lock_value a == lock_value b) ≡ same_lock_state a b
 hold-test FreeLock FreeLock = refl
 hold-test FreeLock LockedLock = refl
 hold-test FreeLock UsedLock = refl
@@ -119,10 +117,10 @@ module _ (p : PlantLists) (s : State) (shape : HasShape p s) where
       let found = item_at s.routes r (omega arith) in
       mode-holds r found.0 m found.1 ∙ ap (λ o. is_some_and o (λ now. same_mode now.mode m)) (sym found.1)
 
-  pub seen-holds : (r : ℕ) (now : RouteState) (k : ℕ) → slice_get s.routes r ≡ Some now → tree_holds (image_of p s) (seen_is r k) ≡ (now.seen == k)
+  pub seen-holds : (r : ℕ) (now : RouteState) (k : ℕ) → slice_get s.routes r ≡ Some now → tree_holds (image_of p s) (is_seen_count r k) ≡ (now.seen == k)
   seen-holds r now k at = has-value p s _ k now.seen (seen-at p s (occupancy_values p s) shape r now at)
 
-  pub rel-holds : (r : ℕ) (now : RouteState) (k : ℕ) → slice_get s.routes r ≡ Some now → tree_holds (image_of p s) (rel_is r k) ≡ (now.rel == k)
+  pub rel-holds : (r : ℕ) (now : RouteState) (k : ℕ) → slice_get s.routes r ≡ Some now → tree_holds (image_of p s) (is_released_count r k) ≡ (now.rel == k)
   rel-holds r now k at = has-value p s _ k now.rel (rel-at p s (occupancy_values p s) shape r now at)
 
   pub at-holds : (n : ℕ) (point : PointState) (lie : Lie) → slice_get s.points n ≡ Some point → tree_holds (image_of p s) (is_point_detected p n lie) ≡ (detected_value point.at == detected_value lie)
@@ -133,7 +131,7 @@ module _ (p : PlantLists) (s : State) (shape : HasShape p s) where
   to-holds n point to at =
       has-value p s _ (commanded_value to) (commanded_value point.to) (to-at p s (occupancy_values p s) shape n point at)
 
-  pub board-holds : (m : ℕ) (aspect : Aspect) → m < length p.boards → tree_holds (image_of p s) (board_is p m aspect) ≡ has_aspect s m aspect
+  pub board-holds : (m : ℕ) (aspect : Aspect) → m < length p.boards → tree_holds (image_of p s) (is_board_aspect p m aspect) ≡ has_aspect s m aspect
   board-holds m aspect within =
       let count = shape.boards in
       let found = item_at s.boards m (omega arith) in
@@ -145,16 +143,16 @@ module _ (p : PlantLists) (s : State) (shape : HasShape p s) where
       let count = shape.locks in
       let found = item_at s.locks x (omega arith) in
       has-value p s _ (lock_value hold) (lock_value found.0) (lock-at p s (occupancy_values p s) shape x found.0 found.1)
-      ∙ hold-test found.0 hold ∙ ap (λ o. is_some_and o (λ lock. same_hold lock hold)) (sym found.1)
+      ∙ hold-test found.0 hold ∙ ap (λ o. is_some_and o (λ lock. same_lock_state lock hold)) (sym found.1)
 
-  pub occupancy-read : (x : ℕ) → x < length p.sections → slice_get (image_with s (occupancy_values p s)) (occupancy_var p x) ≡ Some (occupancy_value (occupancy_of p s x))
+  pub occupancy-read : (x : ℕ) → x < length p.sections → slice_get (image_with s (occupancy_values p s)) (occupancy_var p x) ≡ Some (occupancy_value (occupancy_or_crash p s x))
   occupancy-read x within =
-      occupancy-at p s (occupancy_values p s) shape x ∙ slice_get-map (λ y. occupancy_value (occupancy_of p s y)) (range_with_len 0 (length p.sections)) x
+      occupancy-at p s (occupancy_values p s) shape x ∙ slice_get-map (λ y. occupancy_value (occupancy_or_crash p s y)) (range_with_len 0 (length p.sections)) x
       ∙ (let there = range-at (length p.sections) x within in rw there refl)
 
-  pub occupancy-holds : (x : ℕ) (o : Occupancy) → x < length p.sections → tree_holds (image_of p s) (occupancy_is p x o) ≡ (occupancy_value (occupancy_of p s x) == occupancy_value o)
+  pub occupancy-holds : (x : ℕ) (o : Occupancy) → x < length p.sections → tree_holds (image_of p s) (occupancy_is p x o) ≡ (occupancy_value (occupancy_or_crash p s x) == occupancy_value o)
   occupancy-holds x o within =
-      has-value p s (occupancy_var p x) (occupancy_value o) (occupancy_value (occupancy_of p s x)) (occupancy-read x within)
+      has-value p s (occupancy_var p x) (occupancy_value o) (occupancy_value (occupancy_or_crash p s x)) (occupancy-read x within)
 
 taken-value : (x : ℕ) (t : Train) → (occupancy_value (occupancy_by_train x t) == 0) ≡ false
 taken-value x t = by_value t.dir (is_first x t.body) (is_last_section x t.body)
@@ -169,8 +167,7 @@ taken-value x t = by_value t.dir (is_first x t.body) (is_last_section x t.body)
     by_value Down true false = refl
     by_value Down true true = refl
 
--- Without hazard, a section is vacant if and only if no train is in it.
-vacant-test : (p : PlantLists) (s : State) (x : ℕ) → is_section_hazardous p s x ≡ false → (occupancy_value (occupancy_of p s x) == 0) ≡ not (is_occupied s x)
+vacant-test : (p : PlantLists) (s : State) (x : ℕ) → is_section_hazardous p s x ≡ false → (occupancy_value (occupancy_or_crash p s x) == 0) ≡ not (is_occupied s x)
 vacant-test p s x calm =
     elim (cases_Bool (is_occupied s x)) [
       | inl there ↦ (let found = find-some (has_x x) s.trains there in rw (calm, found.1, there) (taken-value x found.0))

@@ -14,7 +14,7 @@ use Rattle.ilk_model.specs.Commanded.{is_commanded_as_listed, same_position}
 use Rattle.ilk_layout.specs.Image.{image_of}
 use Rattle.ilk_layout.specs.Values.{commanded_value}
 use Rattle.ilk_layout.specs.Variables.{ranges_of_plant}
-use Rattle.ilk_layout.specs.Conditions.{listed_is_commanded, listed_is_detected}
+use Rattle.ilk_layout.specs.Conditions.{is_listed_point_commanded, is_listed_point_detected}
 use Rattle.ilk_layout.proofs.Valid.{is_point_commanded-valid}
 use Rattle.ilk_layout.proofs.ConditionValues.{at-holds, lies-test, to-holds}
 
@@ -25,30 +25,30 @@ position-test Minus Plus = refl
 position-test Minus Minus = refl
 
 module _ (p : PlantLists) (s : State) (shape : HasShape p s) where
-  pub listed_is_detected-holds : (listed : Listed) → tree_holds (image_of p s) (listed_is_detected p listed) ≡ is_detected_as_listed p s listed
-  listed_is_detected-holds listed = by_number (point_number p listed.point) refl
+  pub is_listed_point_detected-holds : (listed : Listed) → tree_holds (image_of p s) (is_listed_point_detected p listed) ≡ is_detected_as_listed p s listed
+  is_listed_point_detected-holds listed = by_number (point_number p listed.point) refl
     where
-      by_number : (o : Option ℕ) → point_number p listed.point ≡ o → tree_holds (image_of p s) (listed_is_detected p listed) ≡ is_detected_as_listed p s listed
+      by_number : (o : Option ℕ) → point_number p listed.point ≡ o → tree_holds (image_of p s) (is_listed_point_detected p listed) ≡ is_detected_as_listed p s listed
       by_number None e = rw e refl
       by_number (Some n) e =
           let below : n < length s.points = (let known = point_number-below p listed.point in let less = rw e at known in let count = shape.points in omega (arith, less)) in
           let point = item_at s.points n below in
           rw (e, point.1) (at-holds p s shape n point.0 (lie_from_position listed.at) point.1 ∙ lies-test point.0.at listed.at)
 
-  pub listed_is_commanded-holds : (listed : Listed) → tree_holds (image_of p s) (listed_is_commanded p listed) ≡ is_commanded_as_listed p s listed
-  listed_is_commanded-holds listed = by_number (point_number p listed.point) refl
+  pub is_listed_point_commanded-holds : (listed : Listed) → tree_holds (image_of p s) (is_listed_point_commanded p listed) ≡ is_commanded_as_listed p s listed
+  is_listed_point_commanded-holds listed = by_number (point_number p listed.point) refl
     where
-      by_number : (o : Option ℕ) → point_number p listed.point ≡ o → tree_holds (image_of p s) (listed_is_commanded p listed) ≡ is_commanded_as_listed p s listed
+      by_number : (o : Option ℕ) → point_number p listed.point ≡ o → tree_holds (image_of p s) (is_listed_point_commanded p listed) ≡ is_commanded_as_listed p s listed
       by_number None e = rw e refl
       by_number (Some n) e =
           let below : n < length s.points = (let known = point_number-below p listed.point in let less = rw e at known in let count = shape.points in omega (arith, less)) in
           let point = item_at s.points n below in
           rw (e, point.1) (to-holds p s shape n point.0 listed.at point.1 ∙ position-test point.0.to listed.at)
 
-pub listed_is_commanded-valid : (p : PlantLists) (listed : Listed) → tree_valid (ranges_of_plant p) (listed_is_commanded p listed) ≡ true
-listed_is_commanded-valid p listed = by_number (point_number p listed.point) refl
+pub is_listed_point_commanded-valid : (p : PlantLists) (listed : Listed) → tree_valid (ranges_of_plant p) (is_listed_point_commanded p listed) ≡ true
+is_listed_point_commanded-valid p listed = by_number (point_number p listed.point) refl
   where
-    by_number : (o : Option ℕ) → point_number p listed.point ≡ o → tree_valid (ranges_of_plant p) (listed_is_commanded p listed) ≡ true
+    by_number : (o : Option ℕ) → point_number p listed.point ≡ o → tree_valid (ranges_of_plant p) (is_listed_point_commanded p listed) ≡ true
     by_number None e = rw e refl
     by_number (Some n) e =
         let known = point_number-below p listed.point in let less = rw e at known in rw e (is_point_commanded-valid p n listed.at less)

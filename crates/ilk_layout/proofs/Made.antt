@@ -9,11 +9,11 @@ use Rattle.ilk_base.proofs.Lists.{item_at}
 use Rattle.ilk_base.proofs.Options.{some-and}
 use Rattle.ilk_base.proofs.Ranges.{range-at, range_within}
 use Rattle.ilk_base.proofs.Tested.{all-pass, few-from_places, none-pass, find-none-from}
-use Rattle.ilk_plant.specs.Network.{has_section}
+use Rattle.ilk_plant.specs.Network.{contains_section}
 use Rattle.ilk_plant.specs.NetworkRules.{opposite_direction}
 use Rattle.ilk_plant.specs.Once.{numbers_differ}
 use Rattle.ilk_plant.specs.Plant.{IsPlant, PlantLists}
-use Rattle.ilk_plant.specs.Shape.{HasShape, train_body_is_valid}
+use Rattle.ilk_plant.specs.Shape.{HasShape, has_nonempty_connected_body}
 use Rattle.ilk_plant.specs.Sound.{IsAcyclic}
 use Rattle.ilk_plant.specs.State.{detected_position}
 use Rattle.ilk_plant.specs.declared.network.Dir.{Dir}
@@ -28,9 +28,9 @@ use Rattle.ilk_plant.proofs.Once.{numbers_differ-places}
 use Rattle.ilk_plant.proofs.InLists.{section-at}
 use Rattle.ilk_motion.specs.Ahead.{section_led_to}
 use Rattle.ilk_model.specs.Hazard.{are_adjacent_in_body, hazard, is_section_hazardous, has_two_trains, is_wrong_under_train, is_wrong_under_body}
-use Rattle.ilk_layout.specs.Decoded.{previous_body_section, section_behind_in_body, follow_steps, next_body_section, section_ahead_in_body, train_from_tail, trains_of}
-use Rattle.ilk_layout.specs.Occupancy.{occupancy_of}
-use Rattle.ilk_layout.specs.Wellformed.{section_ahead, has_more_behind, mutual_section_ahead, occupancy_is_consistent}
+use Rattle.ilk_layout.specs.Decoded.{previous_body_section, section_behind_in_body, follow_steps, next_body_section, section_ahead_in_body, train_from_tail, trains_from_occupancies}
+use Rattle.ilk_layout.specs.Occupancy.{occupancy_or_crash}
+use Rattle.ilk_layout.specs.Wellformed.{section_ahead, train_in_dir_continues_behind, mutual_section_ahead, occupancy_is_consistent}
 use Rattle.ilk_layout.specs.declared.values.Occupancy.{Occupancy}
 use Rattle.ilk_layout.specs.declared.values.Occupancy.TheVariants.{Vacant, Taken, Crash}
 use Rattle.ilk_layout.proofs.Calm.{no-hazard, occupancy-in, pair-places}
@@ -86,7 +86,6 @@ module _ (p : PlantLists) (plant : IsPlant p) (never : IsAcyclic p) (lie : ℕ �
   whole : (x : ℕ) (d : Dir) (t h : Bool) → x < length p.sections → occupancy x ≡ Some (Taken d t h) → IsChain (next_body_section p lie occupancy) x (rest-of x)
   whole x d t h within is = chased (length p.sections) (IsTaken p occupancy) (next_body_section p lie occupancy) _ (tracks p plant never lie occupancy fits) x (record { dir = d; tail = t; head = h; within = within; is = is })
 
-  -- The direction stays the same along a chain.
   along : (a : ℕ) (rest : List ℕ) (d : Dir) (t h : Bool) → a < length p.sections →
       occupancy a ≡ Some (Taken d t h) → IsChain (next_body_section p lie occupancy) a rest → (k y : ℕ) →
       slice_get (a ∷ rest) k ≡ Some y →
@@ -100,7 +99,6 @@ module _ (p : PlantLists) (plant : IsPlant p) (never : IsAcyclic p) (lie : ℕ �
       let same : step.0 ≡ d = (same_taken (sym step.3 ∙ is)).0 in
       along b rest d false step.2 step.5 (step.7 ∙ ap (λ v. Some (Taken v false step.2)) same) c.1 k y at
 
-  -- In a chain from a tail, only the first section has a tail and only the last has a head.
   at-place : (a : ℕ) (rest : List ℕ) (d : Dir) (h : Bool) → a < length p.sections →
       occupancy a ≡ Some (Taken d true h) → IsChain (next_body_section p lie occupancy) a rest → (k y : ℕ) →
       slice_get (a ∷ rest) k ≡ Some y → occupancy y ≡ Some (Taken d (k == 0) (k + 1 == length (a ∷ rest)))
@@ -122,7 +120,7 @@ module _ (p : PlantLists) (plant : IsPlant p) (never : IsAcyclic p) (lie : ℕ �
       head-bit false u known there false e = refl
       head-bit false u known there true e =
           let last = chain-last (next_body_section p lie occupancy) a rest k y c at (eqb-true (k + 1) (length (a ∷ rest)) e) in
-          let next = some-and (mutual_section_ahead p lie y d) (λ z. is_some_and (occupancy z) (has_more_behind d)) (demands p plant never lie occupancy fits y d u false known there).1 in
+          let next = some-and (mutual_section_ahead p lie y d) (λ z. is_some_and (occupancy z) (train_in_dir_continues_behind d)) (demands p plant never lie occupancy fits y d u false known there).1 in
           absurd (none-some next.0 (sym last ∙ ap (section_ahead_in_body p lie y) there ∙ next.1))
       head-bit true u known there false e =
           let within_body = slice_get_within (a ∷ rest) k y at in
@@ -134,7 +132,7 @@ module _ (p : PlantLists) (plant : IsPlant p) (never : IsAcyclic p) (lie : ℕ �
           let is_on = next_body_section-is p lie occupancy y next.0 led in
           (same_taken (sym there ∙ is_on.2)).2
 
-  module _ (s : State) (lies : (x : ℕ) → detected_position p s x ≡ lie x) (trains : s.trains ≡ trains_of p lie occupancy) (others : HasShape p (record s { trains = [] })) where
+  module _ (s : State) (lies : (x : ℕ) → detected_position p s x ≡ lie x) (trains : s.trains ≡ trains_from_occupancies p lie occupancy) (others : HasShape p (record s { trains = [] })) where
     made-at : (i : ℕ) (u : Train) → slice_get s.trains i ≡ Some u →
         (a : ℕ) × (d : Dir) × (h : Bool) × (a < length p.sections) × (occupancy a ≡ Some (Taken d true h)) ×
         (record { dir = d; body = a ∷ rest-of a } ≡ u) ×
@@ -145,17 +143,17 @@ module _ (p : PlantLists) (plant : IsPlant p) (never : IsAcyclic p) (lie : ℕ �
         let is = train-is p lie occupancy from.1 u from.3 in
         (from.1, is.0, is.1, place.1, is.2, is.3, from.3)
 
-    made-body : (i : ℕ) (u : Train) → slice_get s.trains i ≡ Some u → train_body_is_valid p u ≡ true
+    made-body : (i : ℕ) (u : Train) → slice_get s.trains i ≡ Some u → has_nonempty_connected_body p u ≡ true
     made-body i u at =
         let m = made-at i u at in
         let a = m.0 in
         let within = m.3 in
         let known : nat_lt a (length p.sections) ≡ true = grind (arith, nat_tests) in
         let walk = walk-forth p plant never lie occupancy fits a (rest-of a) m.1 true m.2 m.3 m.4 (chain-walk (next_body_section p lie occupancy) a (rest-of a) (whole a m.1 true m.2 m.3 m.4)) in
-        ap (train_body_is_valid p) (sym m.5) ∙ and_from _ _ known walk
+        ap (has_nonempty_connected_body p) (sym m.5) ∙ and_from _ _ known walk
 
     pub made-shape : HasShape p s
-    made-shape = record { routes = others.routes; points = others.points; boards = others.boards; locks = others.locks; counts = others.counts; bodies = all-pass (train_body_is_valid p) s.trains made-body }
+    made-shape = record { routes = others.routes; points = others.points; boards = others.boards; locks = others.locks; counts = others.counts; bodies = all-pass (has_nonempty_connected_body p) s.trains made-body }
 
     made-in : (i k y : ℕ) (u : Train) → slice_get s.trains i ≡ Some u → slice_get u.body k ≡ Some y → occupancy y ≡ Some (Taken u.dir (k == 0) (k + 1 == length u.body))
     made-in i k y u at here =
@@ -163,7 +161,7 @@ module _ (p : PlantLists) (plant : IsPlant p) (never : IsAcyclic p) (lie : ℕ �
         let place = at-place m.0 (rest-of m.0) m.1 m.2 m.3 m.4 (whole m.0 m.1 true m.2 m.3 m.4) k y (ap (λ (t : Train). slice_get t.body k) m.5 ∙ here) in
         place ∙ ap (λ (t : Train). Some (Taken t.dir (k == 0) (k + 1 == length t.body))) m.5
 
-    made-alone : (i j y : ℕ) (u v : Train) → slice_get s.trains i ≡ Some u → slice_get s.trains j ≡ Some v → has_section y u.body ≡ true → has_section y v.body ≡ true → i ≡ j
+    made-alone : (i j y : ℕ) (u v : Train) → slice_get s.trains i ≡ Some u → slice_get s.trains j ≡ Some v → contains_section y u.body ≡ true → contains_section y v.body ≡ true → i ≡ j
     made-alone i j y u v at also hu hv =
         let m = made-at i u at in
         let l = made-at j v also in
@@ -194,7 +192,7 @@ module _ (p : PlantLists) (plant : IsPlant p) (never : IsAcyclic p) (lie : ℕ �
         → is_wrong_under_body x plus minus o u.body ≡ false
     made-right i u x stem plus minus faces at section None l = refl
     made-right i u x stem plus minus faces at section (Some Moving) l =
-        false_from_ne_true (has_section x u.body) (λ h.
+        false_from_ne_true (contains_section x u.body) (λ h.
         let place = section-at x u.body h in
         let still = (demands p plant never lie occupancy fits x u.dir (place.0 == 0) (place.0 + 1 == length u.body) (slice_get_within p.sections x (Point stem plus minus faces) section) (made-in i place.0 x u at place.1)).0 in
         false≢true (rw l at still))
@@ -230,7 +228,7 @@ module _ (p : PlantLists) (plant : IsPlant p) (never : IsAcyclic p) (lie : ℕ �
     pub made-calm : hazard p s ≡ None
     made-calm = no-hazard p s (find-none-from (is_section_hazardous p s) (range_with_len 0 (length p.sections)) (λ i x at. made-safe x))
 
-    pub made-occupancy : (x : ℕ) → x < length p.sections → occupancy x ≡ Some (occupancy_of p s x)
+    pub made-occupancy : (x : ℕ) → x < length p.sections → occupancy x ≡ Some (occupancy_or_crash p s x)
     made-occupancy x within = by_occupancy (occupancy x) refl (fits x within)
       where
         not-had : occupancy x ≡ Some Vacant → (i : ℕ) (u : Train) → slice_get s.trains i ≡ Some u → has_x x u ≡ false
@@ -240,7 +238,7 @@ module _ (p : PlantLists) (plant : IsPlant p) (never : IsAcyclic p) (lie : ℕ �
             let taken : Some Vacant ≡ Some (Taken u.dir (place.0 == 0) (place.0 + 1 == length u.body)) = sym is ∙ made-in i place.0 x u at place.1 in
             cc)
 
-        by_occupancy : (o : Option Occupancy) → occupancy x ≡ o → occupancy_is_consistent p lie occupancy x o ≡ true → o ≡ Some (occupancy_of p s x)
+        by_occupancy : (o : Option Occupancy) → occupancy x ≡ o → occupancy_is_consistent p lie occupancy x o ≡ true → o ≡ Some (occupancy_or_crash p s x)
         by_occupancy None is h = cc
         by_occupancy (Some Crash) is h = cc
         by_occupancy (Some Vacant) is h =
@@ -260,7 +258,7 @@ module _ (p : PlantLists) (plant : IsPlant p) (never : IsAcyclic p) (lie : ℕ �
             let at : slice_get s.trains placed.0 ≡ Some (record { dir = on_first.dir; body = first.0 ∷ rest-of first.0 }) = ap (λ ts. slice_get ts placed.0) trains ∙ placed.1 in
             let u : Train = record { dir = on_first.dir; body = first.0 ∷ rest-of first.0 } in
             let there : occupancy x ≡ Some (Taken on_first.dir (first.1 == 0) (first.1 + 1 == length u.body)) = made-in placed.0 first.1 x u at first.4 in
-            let own : occupancy_of p s x ≡ Taken on_first.dir (first.1 == 0) (first.1 + 1 == length u.body) = occupancy-in p plant never s made-shape made-calm placed.0 first.1 x u at first.4 in
+            let own : occupancy_or_crash p s x ≡ Taken on_first.dir (first.1 == 0) (first.1 + 1 == length u.body) = occupancy-in p plant never s made-shape made-calm placed.0 first.1 x u at first.4 in
             sym is ∙ there ∙ ap Some (sym own)
           where
             tail-of : (b : Bool) → (a : ℕ) → (on_a : IsTaken p occupancy a) → on_a.tail ≡ b → previous_body_section p lie occupancy a ≡ None → on_a.tail ≡ true

@@ -43,7 +43,6 @@ kept-at (y ∷ xs) (suc j) (suc k) x at other = let rest = kept-at xs j k x at (
 pub once-removed : {X : Type 0} (xs : List X) (j : ℕ) → EachOnce xs → EachOnce (remove xs j)
 once-removed xs j once m k x at also = skip-once j m k (once (skip j m) (skip j k) x (removed-at xs j m x at) (removed-at xs j k x also))
 
--- Each item of the first list is in the second.
 abbrev pub Within : {X : Type 0} → List X → List X → Type 0
 Within {X} xs ys = (i : ℕ) (x : X) → slice_get xs i ≡ Some x → (j : ℕ) × (slice_get ys j ≡ Some x)
 
@@ -90,7 +89,6 @@ filter_map-of {X} {Y} f (z ∷ xs) (suc j) x y at e = by_value (f z) refl (filte
     by_value None g rest = (rest.0, rw g rest.1)
     by_value (Some v) g rest = (suc rest.0, rw g rest.1)
 
--- The results have no duplicates if different items have different values.
 pub filter_map-once : {X Y : Type 0} (f : X → Option Y) (xs : List X) → ((u v : X) (y : Y) → f u ≡ Some y → f v ≡ Some y → u ≡ v) → EachOnce xs → EachOnce (filter_map f xs)
 filter_map-once f [] apart once = λ i j y at also. cc
 filter_map-once {X} {Y} f (z ∷ xs) apart once = by_value (filter_map-once f xs apart rest_once) (f z) refl

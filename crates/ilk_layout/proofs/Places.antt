@@ -54,7 +54,6 @@ get-to [] n point at = cc
 get-to (q ∷ qs) zero point at = let same : q ≡ point = cc in rw same refl
 get-to (q ∷ qs) (suc n) point at = ap (slice_get (flat_map point_values (q ∷ qs))) (two_more n 1) ∙ get-to qs n point at
 
--- The values of a first route, or of a first point, before the rest.
 abbrev after_route : RouteState → List ℕ → List ℕ
 after_route q values = mode_value q.mode ∷ q.seen ∷ q.rel ∷ values
 

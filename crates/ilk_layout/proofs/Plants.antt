@@ -8,10 +8,10 @@ use Rattle.std.proofs.lemmas.Option.{cond_some, slice_get_within}
 use Rattle.ilk_base.proofs.Once.{EachOnce}
 use Rattle.ilk_base.proofs.Options.{bind_some}
 use Rattle.ilk_base.proofs.Tested.{list_any-at}
-use Rattle.ilk_plant.specs.Network.{neighbours_on, has_section}
+use Rattle.ilk_plant.specs.Network.{neighbours_on, contains_section}
 use Rattle.ilk_plant.specs.NetworkRules.{opposite_direction}
 use Rattle.ilk_plant.specs.Plant.{IsPlant, PlantLists, next_to}
-use Rattle.ilk_plant.specs.Shape.{train_body_is_valid, is_connected_chain}
+use Rattle.ilk_plant.specs.Shape.{has_nonempty_connected_body, is_connected_chain}
 use Rattle.ilk_plant.specs.Sound.{IsAcyclic}
 use Rattle.ilk_plant.specs.declared.network.Dir.{Dir}
 use Rattle.ilk_plant.specs.declared.network.Dir.TheVariants.{Up, Down}
@@ -28,27 +28,27 @@ pub walk-known : (p : PlantLists) → IsPlant p → (d : Dir) (x : ℕ) (walk : 
 walk-known p plant d x walk zero y within on at = let same : x ≡ y = cc in omega arith
 walk-known p plant d x [] (suc i) y within on at = cc
 walk-known p plant d x (z ∷ walk) (suc i) y within on at =
-    let parts = and_parts (has_section z (next_to p x d)) (is_connected_chain p d z walk) on in
+    let parts = and_parts (contains_section z (next_to p x d)) (is_connected_chain p d z walk) on in
     walk-known p plant d z walk i y (plant.neighbours x z d parts.0) parts.1 at
 
-pub body-parts : (p : PlantLists) (d : Dir) (x : ℕ) (rest : List ℕ) → train_body_is_valid p (record { dir = d; body = x ∷ rest }) ≡ true → (x < length p.sections) × (is_connected_chain p d x rest ≡ true)
+pub body-parts : (p : PlantLists) (d : Dir) (x : ℕ) (rest : List ℕ) → has_nonempty_connected_body p (record { dir = d; body = x ∷ rest }) ≡ true → (x < length p.sections) × (is_connected_chain p d x rest ≡ true)
 body-parts p d x rest h =
     let parts = and_parts (nat_lt x (length p.sections)) (is_connected_chain p d x rest) h in
     let within : x < length p.sections = (let test = parts.0 in grind (arith, nat_tests)) in
     (within, parts.1)
 
-pub body-known : (p : PlantLists) (train : Train) (i x : ℕ) → IsPlant p → train_body_is_valid p train ≡ true → slice_get train.body i ≡ Some x → x < length p.sections
+pub body-known : (p : PlantLists) (train : Train) (i x : ℕ) → IsPlant p → has_nonempty_connected_body p train ≡ true → slice_get train.body i ≡ Some x → x < length p.sections
 body-known p train i x plant h at = known train.dir train.body h at
   where
-    known : (d : Dir) (body : List ℕ) → train_body_is_valid p (record { dir = d; body = body }) ≡ true → slice_get body i ≡ Some x → x < length p.sections
+    known : (d : Dir) (body : List ℕ) → has_nonempty_connected_body p (record { dir = d; body = body }) ≡ true → slice_get body i ≡ Some x → x < length p.sections
     known d [] h at = cc
     known d (y ∷ rest) h at =
         let parts = body-parts p d y rest h in walk-known p plant d y rest i x parts.0 parts.1 at
 
-pub body-once : (p : PlantLists) (train : Train) → IsAcyclic p → train_body_is_valid p train ≡ true → EachOnce train.body
+pub body-once : (p : PlantLists) (train : Train) → IsAcyclic p → has_nonempty_connected_body p train ≡ true → EachOnce train.body
 body-once p train never h = once train.dir train.body h
   where
-    once : (d : Dir) (body : List ℕ) → train_body_is_valid p (record { dir = d; body = body }) ≡ true → EachOnce body
+    once : (d : Dir) (body : List ℕ) → has_nonempty_connected_body p (record { dir = d; body = body }) ≡ true → EachOnce body
     once d [] h = λ i j v at also. cc
     once d (y ∷ rest) h = numbers_differ-places (y ∷ rest) (never d y rest (body-parts p d y rest h).1)
 
@@ -62,7 +62,6 @@ distinct (x ∷ xs) once =
     others [] f = tt
     others (y ∷ ys) f = (f zero y refl, others ys (λ j v at. f (suc j) v at))
 
--- At most `n` different numbers are below `n`.
 few-below : (xs : List ℕ) (n : ℕ) → EachOnce xs → ((i x : ℕ) → slice_get xs i ≡ Some x → x < n) → length xs ≤ n
 few-below xs n once below =
     length-le_from_distinct_below xs n (distinct xs once)
@@ -77,7 +76,7 @@ walk-short p plant never d x walk within on =
     let few = few-below (x ∷ walk) (length p.sections) (numbers_differ-places (x ∷ walk) (never d x walk on)) (λ i y at. walk-known p plant d x walk i y within on at) in
     omega arith
 
-led-neighbours_on : (k : Section) (d : Dir) (lie : Option Lie) (y : ℕ) → section_led_to k d lie ≡ Some y → has_section y (neighbours_on k d) ≡ true
+led-neighbours_on : (k : Section) (d : Dir) (lie : Option Lie) (y : ℕ) → section_led_to k d lie ≡ Some y → contains_section y (neighbours_on k d) ≡ true
 led-neighbours_on (Linear down up b c) Down lie y e = rw e (grind (arith, nat_tests))
 led-neighbours_on (Linear down up b c) Up lie y e = rw e (grind (arith, nat_tests))
 led-neighbours_on (Point stem plus minus Up) Up (Some Plus) y e = grind (arith, nat_tests)
@@ -91,7 +90,7 @@ led-neighbours_on (Point stem plus minus Down) Down (Some Moving) y e = cc
 led-neighbours_on (Point stem plus minus Down) Down None y e = cc
 led-neighbours_on (Point stem plus minus Down) Up lie y e = grind (arith, nat_tests)
 
-pub ahead-neighbours_on : (p : PlantLists) (lie : ℕ → Option Lie) (x y : ℕ) (d : Dir) → section_ahead p lie x d ≡ Some y → (x < length p.sections) × (has_section y (next_to p x d) ≡ true)
+pub ahead-neighbours_on : (p : PlantLists) (lie : ℕ → Option Lie) (x y : ℕ) (d : Dir) → section_ahead p lie x d ≡ Some y → (x < length p.sections) × (contains_section y (next_to p x d) ≡ true)
 ahead-neighbours_on p lie x y d e =
     let found = bind_some (slice_get p.sections x) (λ k. section_led_to k d (lie x)) y e in
     (slice_get_within p.sections x found.0 found.1, rw found.1 (led-neighbours_on found.0 d (lie x) y found.2))

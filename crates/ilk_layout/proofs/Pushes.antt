@@ -22,7 +22,6 @@ pub map-pushed : {X Y Z : Type 0} (f : X → Y) (g : Z → X) (items : List X) (
 map-pushed f g items zs i start now added past is =
     sym (append-nil now) ∙ ap (λ rest. now ++ map f rest) (sym (drop_all i items past)) ∙ added ∙ ap (λ xs. start ++ map f xs) is ∙ ap (λ ys. start ++ ys) (map-map f g zs)
 
--- The counts of seen and released sections are at most `MAX_PATH`.
 pub counts-small : (p : PlantLists) (s : State) → IsPlant p → HasShape p s → (k : ℕ) (d : RouteState) → k < length s.routes → ((get_or s.routes k d).seen ≤ MAX_PATH) × ((get_or s.routes k d).rel ≤ MAX_PATH)
 counts-small p s plant shape k d within =
     let now = get_or s.routes k d in

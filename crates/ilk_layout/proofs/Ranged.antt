@@ -34,7 +34,7 @@ use Rattle.ilk_plant.proofs.Shapes.{seen_and_released_fit_path-counts, seen_and_
 use Rattle.ilk_layout.specs.Decoded.{trains_from_values}
 use Rattle.ilk_layout.specs.Image.{image_of, occupancy_values, point_values, route_values}
 use Rattle.ilk_layout.specs.Laws.{AreImageOfSafeState, IsWellFormedAndSafe}
-use Rattle.ilk_layout.specs.Occupancy.{occupancy_of}
+use Rattle.ilk_layout.specs.Occupancy.{occupancy_or_crash}
 use Rattle.ilk_layout.specs.Values.{all_occupancies, aspect_value, lock_value, detected_value, mode_value, occupancy_from_value, occupancy_value, commanded_value}
 use Rattle.ilk_layout.specs.Variables.{occupancy_var, points_ranges, ranges_of_plant, route_ranges}
 use Rattle.ilk_layout.specs.Wellformed.{is_wellformed, detected_in_values, occupancy_in_values, occupancy_is_consistent}
@@ -62,7 +62,6 @@ joined (x ∷ xs) ys (r ∷ rs) qs h k =
     let parts = and_parts (nat_lt x r) (in_ranges xs rs) h in
     and_from (nat_lt x r) (in_ranges (xs ++ ys) (rs ++ qs)) parts.0 (joined xs ys rs qs parts.1 k)
 
--- Each number below the range has a value.
 mode-of : (v : ℕ) → v < 5 → (m : Mode) × (mode_value m ≡ v)
 mode-of zero h = (Free, refl)
 mode-of (suc zero) h = (Marked, refl)
@@ -187,19 +186,19 @@ module _ (p : PlantLists) (plant : IsPlant p) (never : IsAcyclic p) where
       read-back v o g = let found = find-at (λ a. occupancy_value a == v) all_occupancies o g in eqb-true (occupancy_value o) v found.2
 
       occupancy-same : (s : State) (e : List ℕ) → length e ≡ length p.sections → (x : ℕ) →
-          (x < length p.sections → occupancy_in_values p (image_with s e) x ≡ Some (occupancy_of p s x)) →
+          (x < length p.sections → occupancy_in_values p (image_with s e) x ≡ Some (occupancy_or_crash p s x)) →
           slice_get (image_with s e) (occupancy_var p x) ≡ slice_get e x →
           slice_get (occupancy_values p s) x ≡ slice_get e x
       occupancy-same s e long x made at =
-          slice_get-map (λ y. occupancy_value (occupancy_of p s y)) (range_with_len 0 (length p.sections)) x
+          slice_get-map (λ y. occupancy_value (occupancy_or_crash p s y)) (range_with_len 0 (length p.sections)) x
           ∙ elim (below_or_past x (length p.sections)) [
             | inl within ↦
                 (let v : (v : ℕ) × (slice_get e x ≡ Some v) = item_at e x (omega arith) in
-                let o : occupancy_from_value v.0 ≡ Some (occupancy_of p s x) = sym (ap (λ o. o >>= λ value. occupancy_from_value value) (at ∙ v.1)) ∙ made within in
-                ap (option_map (λ y. occupancy_value (occupancy_of p s y))) (range-at (length p.sections) x within) ∙ ap Some (read-back v.0 (occupancy_of p s x) o) ∙ sym v.1)
+                let o : occupancy_from_value v.0 ≡ Some (occupancy_or_crash p s x) = sym (ap (λ o. o >>= λ value. occupancy_from_value value) (at ∙ v.1)) ∙ made within in
+                ap (option_map (λ y. occupancy_value (occupancy_or_crash p s y))) (range-at (length p.sections) x within) ∙ ap Some (read-back v.0 (occupancy_or_crash p s x) o) ∙ sym v.1)
             | inr past ↦
                 (let none : slice_get (range_with_len 0 (length p.sections)) x ≡ None = slice_get_past (range_with_len 0 (length p.sections)) x (let n = length-range_with_len 0 (length p.sections) in omega arith) in
-                ap (option_map (λ y. occupancy_value (occupancy_of p s y))) none ∙ sym (slice_get_past e x (omega arith)))
+                ap (option_map (λ y. occupancy_value (occupancy_or_crash p s y))) none ∙ sym (slice_get_past e x (omega arith)))
           ]
 
   pub wellformed-images : (values : List ℕ) → IsTrue (in_ranges values (ranges_of_plant p)) → IsTrue (is_wellformed p values) ↔ AreImageOfSafeState p values
@@ -247,7 +246,7 @@ list-in_ranges f c low (x ∷ xs) (suc n) e = and_from _ _ (low x) (list-in_rang
 
 pub image-in_ranges : (p : PlantLists) (s : State) → HasShape p s → in_ranges (image_of p s) (ranges_of_plant p) ≡ true
 image-in_ranges p s shape =
-    let e = list-in_ranges (λ x. occupancy_value (occupancy_of p s x)) 10 (λ x. occupancy-below (occupancy_of p s x)) (range_with_len 0 (length p.sections)) (length p.sections) (length-range_with_len 0 (length p.sections)) in
+    let e = list-in_ranges (λ x. occupancy_value (occupancy_or_crash p s x)) 10 (λ x. occupancy-below (occupancy_or_crash p s x)) (range_with_len 0 (length p.sections)) (length p.sections) (length-range_with_len 0 (length p.sections)) in
     let d = joined (map lock_value s.locks) (occupancy_values p s) (replicate (length p.sections) 3) (replicate (length p.sections) 10) (list-in_ranges lock_value 3 hold-below s.locks (length p.sections) shape.locks) e in
     let c = joined (map aspect_value s.boards) (map lock_value s.locks ++ occupancy_values p s)
     (replicate (length p.boards) 2) (replicate (length p.sections) 3 ++ replicate (length p.sections) 10)

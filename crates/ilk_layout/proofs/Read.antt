@@ -28,10 +28,10 @@ use Rattle.ilk_plant.specs.declared.state.Mode.TheVariants.{Free, Marked, Alloca
 use Rattle.ilk_plant.specs.declared.state.PointState.{PointState}
 use Rattle.ilk_plant.specs.declared.state.RouteState.{RouteState}
 use Rattle.ilk_plant.specs.declared.state.State.{State}
-use Rattle.ilk_layout.specs.Decoded.{trains_from_values, trains_of}
+use Rattle.ilk_layout.specs.Decoded.{trains_from_values, trains_from_occupancies}
 use Rattle.ilk_layout.specs.Image.{image_of, occupancy_values, point_values, route_values}
-use Rattle.ilk_layout.specs.Laws.{ImagesDetermineStates, IsWellFormedAndSafe}
-use Rattle.ilk_layout.specs.Occupancy.{occupancy_of}
+use Rattle.ilk_layout.specs.Laws.{ImagesDetermineExceptTrainOrder, IsWellFormedAndSafe}
+use Rattle.ilk_layout.specs.Occupancy.{occupancy_or_crash}
 use Rattle.ilk_layout.specs.Values.{aspect_value, lock_value, detected_from_value, detected_value, mode_value, occupancy_from_value, occupancy_value, commanded_value}
 use Rattle.ilk_layout.specs.Variables.{detected_var}
 use Rattle.ilk_layout.specs.Wellformed.{detected_in_values, occupancy_in_values}
@@ -175,21 +175,21 @@ lie-read p s e shape x = by_number (point_number p x) refl
         let point : (q : PointState) × (slice_get s.points n ≡ Some q) = item_at s.points n (omega arith) in
         rw (at-at p s e shape n point.0 point.1, point.1) (lie-back point.0.at)
 
-pub occupancy-read : (p : PlantLists) (s : State) → HasShape p s → (x : ℕ) → x < length p.sections → occupancy_in_values p (image_of p s) x ≡ Some (occupancy_of p s x)
+pub occupancy-read : (p : PlantLists) (s : State) → HasShape p s → (x : ℕ) → x < length p.sections → occupancy_in_values p (image_of p s) x ≡ Some (occupancy_or_crash p s x)
 occupancy-read p s shape x within =
-    let at : slice_get (occupancy_values p s) x ≡ Some (occupancy_value (occupancy_of p s x)) =
-    slice_get-map (λ y. occupancy_value (occupancy_of p s y)) (range_with_len 0 (length p.sections)) x
-    ∙ ap (option_map (λ y. occupancy_value (occupancy_of p s y))) (range-at (length p.sections) x within)
+    let at : slice_get (occupancy_values p s) x ≡ Some (occupancy_value (occupancy_or_crash p s x)) =
+    slice_get-map (λ y. occupancy_value (occupancy_or_crash p s y)) (range_with_len 0 (length p.sections)) x
+    ∙ ap (option_map (λ y. occupancy_value (occupancy_or_crash p s y))) (range-at (length p.sections) x within)
     in
-    ap (λ o. o >>= λ value. occupancy_from_value value) (occupancy-at p s (occupancy_values p s) shape x ∙ at) ∙ occupancy-back (occupancy_of p s x)
+    ap (λ o. o >>= λ value. occupancy_from_value value) (occupancy-at p s (occupancy_values p s) shape x ∙ at) ∙ occupancy-back (occupancy_or_crash p s x)
 
 pub trains-read : (p : PlantLists) → IsPlant p → IsAcyclic p → (s : State) → IsWellFormedAndSafe p s → IsPermutation s.trains (trains_from_values p (image_of p s))
 trains-read p plant never s calm =
     let lies : detected_position p s ≡ detected_in_values p (image_of p s) = λ i x. sym (lie-read p s (occupancy_values p s) calm.shape x) i in
-    let P : (ℕ → Option Lie) → Type 0 = λ lie. IsPermutation s.trains (trains_of p lie (occupancy_in_values p (image_of p s))) in
+    let P : (ℕ → Option Lie) → Type 0 = λ lie. IsPermutation s.trains (trains_from_occupancies p lie (occupancy_in_values p (image_of p s))) in
     subst P lies (trains-told p plant never s calm.shape calm.no_hazard (occupancy_in_values p (image_of p s)) (occupancy-read p s calm.shape))
 
-pub images-tell : (p : PlantLists) → IsPlant p → IsAcyclic p → ImagesDetermineStates p
+pub images-tell : (p : PlantLists) → IsPlant p → IsAcyclic p → ImagesDetermineExceptTrainOrder p
 images-tell p plant never s t calm calm_too same =
     let a = front-same (flat_map route_values s.routes) (flat_map route_values t.routes) _ _ (length-routes-of ∙ sym length-routes-too) same in
     let b = front-same (flat_map point_values s.points) (flat_map point_values t.points) _ _ (length-points s.points ∙ ap (λ n. 2 * n) (calm.shape.points ∙ sym calm_too.shape.points) ∙ sym (length-points t.points)) a.1 in

@@ -8,10 +8,10 @@ use Rattle.ilk_base.specs.Option.{is_some_and}
 use Rattle.ilk_base.proofs.Lists.{item_at}
 use Rattle.ilk_base.proofs.Once.{EachOnce}
 use Rattle.ilk_base.proofs.Ranges.{range-at, range_within}
-use Rattle.ilk_plant.specs.Network.{has_section}
+use Rattle.ilk_plant.specs.Network.{contains_section}
 use Rattle.ilk_plant.specs.NetworkRules.{opposite_direction}
 use Rattle.ilk_plant.specs.Plant.{IsPlant, PlantLists}
-use Rattle.ilk_plant.specs.Shape.{HasShape, train_body_is_valid}
+use Rattle.ilk_plant.specs.Shape.{HasShape, has_nonempty_connected_body}
 use Rattle.ilk_plant.specs.Sound.{IsAcyclic}
 use Rattle.ilk_plant.specs.State.{detected_position}
 use Rattle.ilk_plant.specs.declared.network.Dir.{Dir}
@@ -20,9 +20,9 @@ use Rattle.ilk_plant.specs.declared.state.Train.{Train}
 use Rattle.ilk_plant.proofs.InLists.{section-from}
 use Rattle.ilk_plant.proofs.Alike.{own_direction}
 use Rattle.ilk_model.specs.Hazard.{hazard, is_section_hazardous}
-use Rattle.ilk_layout.specs.Decoded.{follow_steps, next_body_section, section_ahead_in_body, train_from_tail, trains_of}
-use Rattle.ilk_layout.specs.Occupancy.{occupancy_of, occupancy_by_train_if_any}
-use Rattle.ilk_layout.specs.Wellformed.{has_more_ahead, has_more_behind, mutual_section_ahead, occupancy_is_consistent}
+use Rattle.ilk_layout.specs.Decoded.{follow_steps, next_body_section, section_ahead_in_body, train_from_tail, trains_from_occupancies}
+use Rattle.ilk_layout.specs.Occupancy.{occupancy_or_crash, occupancy_by_train_if_any}
+use Rattle.ilk_layout.specs.Wellformed.{train_in_dir_continues_ahead, train_in_dir_continues_behind, mutual_section_ahead, occupancy_is_consistent}
 use Rattle.ilk_layout.specs.declared.values.Occupancy.{Occupancy}
 use Rattle.ilk_layout.specs.declared.values.Occupancy.TheVariants.{Vacant, Taken, Crash}
 use Rattle.ilk_layout.proofs.Calm.{alone, body-of, calm-at, joined-in, not_moving, occupancy-in, taken-in}
@@ -50,7 +50,7 @@ train-is p lie occupancy x u e = by_occupancy (occupancy x) refl e
     by_occupancy (Some (Taken d true head)) is e = (d, head, is, same_Some _ u e)
     by_occupancy (Some (Taken d false head)) is e = cc
 
-pub trains-once : (p : PlantLists) (lie : ℕ → _) (occupancy : ℕ → Option Occupancy) → EachOnce (trains_of p lie occupancy)
+pub trains-once : (p : PlantLists) (lie : ℕ → _) (occupancy : ℕ → Option Occupancy) → EachOnce (trains_from_occupancies p lie occupancy)
 trains-once p lie occupancy =
     filter_map-once (λ x. train_from_tail p lie occupancy x (occupancy x)) (range_with_len 0 (length p.sections)) apart range-once
   where
@@ -65,23 +65,22 @@ trains-once p lie occupancy =
 
 module _ (p : PlantLists) (plant : IsPlant p) (never : IsAcyclic p) (s : State) (shape : HasShape p s)
     (calm : hazard p s ≡ None) (occupancy : ℕ → Option Occupancy)
-    (told : (x : ℕ) → x < length p.sections → occupancy x ≡ Some (occupancy_of p s x)) where
+    (told : (x : ℕ) → x < length p.sections → occupancy x ≡ Some (occupancy_or_crash p s x)) where
   told-in : (i k x : ℕ) (t : Train) → slice_get s.trains i ≡ Some t → slice_get t.body k ≡ Some x → occupancy x ≡ Some (Taken t.dir (k == 0) (k + 1 == length t.body))
   told-in i k x t at here =
       told x (body-known p t k x plant (body-of p plant never s shape calm i t at) here) ∙ ap Some (occupancy-in p plant never s shape calm i k x t at here)
 
-  next-taken : (k : ℕ) (d : Dir) (head : Bool) → has_more_behind d (Taken d (suc k == 0) head) ≡ true
+  next-taken : (k : ℕ) (d : Dir) (head : Bool) → train_in_dir_continues_behind d (Taken d (suc k == 0) head) ≡ true
   next-taken k d head = let no_tail : (suc k == 0) ≡ false = ne_eqb (suc k) 0 (λ e. absurd (omega arith)) in rw (no_tail, own_direction d) refl
 
-  before-taken : (k n : ℕ) (d : Dir) (tail : Bool) → suc k < n → has_more_ahead d (Taken d tail (k + 1 == n)) ≡ true
+  before-taken : (k n : ℕ) (d : Dir) (tail : Bool) → suc k < n → train_in_dir_continues_ahead d (Taken d tail (k + 1 == n)) ≡ true
   before-taken k n d tail less = let no_head : (k + 1 == n) ≡ false = ne_eqb (k + 1) n (λ e. absurd (omega arith)) in rw (no_head, own_direction d) refl
 
-  -- The conditions of `occupancy_is_consistent`, at an index of a body.
   head_fits : (i k x : ℕ) (t : Train) → slice_get s.trains i ≡ Some t → slice_get t.body k ≡ Some x
-      → ((k + 1 == length t.body) || is_some_and (mutual_section_ahead p (detected_position p s) x t.dir) (λ y. is_some_and (occupancy y) (has_more_behind t.dir))) ≡ true
+      → ((k + 1 == length t.body) || is_some_and (mutual_section_ahead p (detected_position p s) x t.dir) (λ y. is_some_and (occupancy y) (train_in_dir_continues_behind t.dir))) ≡ true
   head_fits i k x t at here = by_head (k + 1 == length t.body) refl
     where
-      by_head : (b : Bool) → (k + 1 == length t.body) ≡ b → (b || is_some_and (mutual_section_ahead p (detected_position p s) x t.dir) (λ y. is_some_and (occupancy y) (has_more_behind t.dir))) ≡ true
+      by_head : (b : Bool) → (k + 1 == length t.body) ≡ b → (b || is_some_and (mutual_section_ahead p (detected_position p s) x t.dir) (λ y. is_some_and (occupancy y) (train_in_dir_continues_behind t.dir))) ≡ true
       by_head true e = refl
       by_head false e =
           let within = slice_get_within t.body k x here in
@@ -92,7 +91,7 @@ module _ (p : PlantLists) (plant : IsPlant p) (never : IsAcyclic p) (s : State) 
           rw (joined, there) (next-taken k t.dir (suc k + 1 == length t.body))
 
   tail_fits : (i k x : ℕ) (t : Train) → slice_get s.trains i ≡ Some t → slice_get t.body k ≡ Some x
-      → ((k == 0) || is_some_and (mutual_section_ahead p (detected_position p s) x (opposite_direction t.dir)) (λ y. is_some_and (occupancy y) (has_more_ahead t.dir))) ≡ true
+      → ((k == 0) || is_some_and (mutual_section_ahead p (detected_position p s) x (opposite_direction t.dir)) (λ y. is_some_and (occupancy y) (train_in_dir_continues_ahead t.dir))) ≡ true
   tail_fits i zero x t at here = refl
   tail_fits i (suc k) x t at here =
       let within = slice_get_within t.body (suc k) x here in
@@ -103,16 +102,16 @@ module _ (p : PlantLists) (plant : IsPlant p) (never : IsAcyclic p) (s : State) 
       rw (no_tail, joined, there) (before-taken k (length t.body) t.dir (k == 0) within)
 
   pub told-fits : (x : ℕ) → x < length p.sections → occupancy_is_consistent p (detected_position p s) occupancy x (occupancy x) ≡ true
-  told-fits x within = let P : Option Occupancy → Type 0 = λ o. occupancy_is_consistent p (detected_position p s) occupancy x o ≡ true in subst P (sym (told x within)) (by_occupancy (occupancy_of p s x) refl)
+  told-fits x within = let P : Option Occupancy → Type 0 = λ o. occupancy_is_consistent p (detected_position p s) occupancy x o ≡ true in subst P (sym (told x within)) (by_occupancy (occupancy_or_crash p s x) refl)
     where
-      crashed : is_section_hazardous p s x ≡ false → occupancy_of p s x ≡ Crash → ⊥
+      crashed : is_section_hazardous p s x ≡ false → occupancy_or_crash p s x ≡ Crash → ⊥
       crashed safe e = by_found (find (has_x x) s.trains) (rw safe at e)
         where
           by_found : (o : Option Train) → occupancy_by_train_if_any x o ≡ Crash → ⊥
           by_found None f = cc
           by_found (Some t) f = cc
 
-      by_occupancy : (o : Occupancy) → occupancy_of p s x ≡ o → occupancy_is_consistent p (detected_position p s) occupancy x (Some o) ≡ true
+      by_occupancy : (o : Occupancy) → occupancy_or_crash p s x ≡ o → occupancy_is_consistent p (detected_position p s) occupancy x (Some o) ≡ true
       by_occupancy Vacant e = refl
       by_occupancy Crash e = absurd (crashed (calm-at p s x calm within) e)
       by_occupancy (Taken d tail head) e =
@@ -165,30 +164,30 @@ module _ (p : PlantLists) (plant : IsPlant p) (never : IsAcyclic p) (s : State) 
   body-begins : (i : ℕ) (t : Train) → slice_get s.trains i ≡ Some t → (a : ℕ) × (rest : List ℕ) × (t.body ≡ a ∷ rest)
   body-begins i t at = begins t.dir t.body (body-of p plant never s shape calm i t at)
     where
-      begins : (d : Dir) (body : List ℕ) → train_body_is_valid p (record { dir = d; body = body }) ≡ true → (a : ℕ) × (rest : List ℕ) × (body ≡ a ∷ rest)
+      begins : (d : Dir) (body : List ℕ) → has_nonempty_connected_body p (record { dir = d; body = body }) ≡ true → (a : ℕ) × (rest : List ℕ) × (body ≡ a ∷ rest)
       begins d [] h = cc
       begins d (a ∷ rest) h = (a, rest, refl)
 
   pub state-once : EachOnce s.trains
   state-once i j t at also =
       let begin = body-begins i t at in
-      let has : has_section begin.0 t.body ≡ true = section-from t.body 0 begin.0 (ap (λ body. slice_get body 0) begin.2) in
+      let has : contains_section begin.0 t.body ≡ true = section-from t.body 0 begin.0 (ap (λ body. slice_get body 0) begin.2) in
       alone p plant never s shape calm i j begin.0 t t at also has has
 
-  all-told : Within s.trains (trains_of p (detected_position p s) occupancy)
+  all-told : Within s.trains (trains_from_occupancies p (detected_position p s) occupancy)
   all-told i t at =
       let begin = body-begins i t at in
       let a = begin.0 in
       let within = body-known p t 0 a plant (body-of p plant never s shape calm i t at) (ap (λ body. slice_get body 0) begin.2) in
       filter_map-of (λ x. train_from_tail p (detected_position p s) occupancy x (occupancy x)) (range_with_len 0 (length p.sections)) a a t (range-at (length p.sections) a within) (own-train i a t begin.1 at begin.2)
 
-  all-there : Within (trains_of p (detected_position p s) occupancy) s.trains
+  all-there : Within (trains_from_occupancies p (detected_position p s) occupancy) s.trains
   all-there j u at =
       let from = filter_map-at (λ x. train_from_tail p (detected_position p s) occupancy x (occupancy x)) (range_with_len 0 (length p.sections)) j u at in
       let x = from.1 in
       let place = range_within (length p.sections) from.0 x from.2 in
       let is = train-is p (detected_position p s) occupancy x u from.3 in
-      let tail : occupancy_of p s x ≡ Taken is.0 true is.1 = same_Some _ _ (sym (told x place.1) ∙ is.2) in
+      let tail : occupancy_or_crash p s x ≡ Taken is.0 true is.1 = same_Some _ _ (sym (told x place.1) ∙ is.2) in
       let there : (i : ℕ) × (t : Train) × (k : ℕ) × (slice_get s.trains i ≡ Some t) × (slice_get t.body k ≡ Some x) = taken-in p plant never s shape calm x is.0 true is.1 tail in
       let begin = body-begins there.0 there.1 there.3 in
       let first : there.2 ≡ 0 = eqb-true there.2 0 (taken_is (sym (occupancy-in p plant never s shape calm there.0 there.2 x there.1 there.3 there.4) ∙ tail)).1 in
@@ -197,5 +196,5 @@ module _ (p : PlantLists) (plant : IsPlant p) (never : IsAcyclic p) (s : State) 
       let it : there.1 ≡ u = same_Some there.1 u (sym own ∙ ap (λ v. train_from_tail p (detected_position p s) occupancy v (occupancy v)) same ∙ from.3) in
       (there.0, there.3 ∙ ap Some it)
 
-  pub trains-told : IsPermutation s.trains (trains_of p (detected_position p s) occupancy)
-  trains-told = permuted s.trains (trains_of p (detected_position p s) occupancy) state-once (trains-once p (detected_position p s) occupancy) all-told all-there
+  pub trains-told : IsPermutation s.trains (trains_from_occupancies p (detected_position p s) occupancy)
+  trains-told = permuted s.trains (trains_from_occupancies p (detected_position p s) occupancy) state-once (trains-once p (detected_position p s) occupancy) all-told all-there

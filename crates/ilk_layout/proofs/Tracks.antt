@@ -4,7 +4,7 @@ use Rattle.std.proofs.lemmas.Bool.{and_from, and_parts, not-true}
 use Rattle.std.proofs.lemmas.Option.{same_Some}
 use Rattle.ilk_base.specs.Option.{is_some_and}
 use Rattle.ilk_base.proofs.Options.{some-and}
-use Rattle.ilk_plant.specs.Network.{has_section, same_direction}
+use Rattle.ilk_plant.specs.Network.{contains_section, same_direction}
 use Rattle.ilk_plant.specs.NetworkRules.{opposite_direction}
 use Rattle.ilk_plant.specs.Plant.{IsPlant, PlantLists, next_to}
 use Rattle.ilk_plant.specs.Shape.{is_connected_chain}
@@ -14,13 +14,12 @@ use Rattle.ilk_plant.specs.declared.state.Lie.{Lie}
 use Rattle.ilk_plant.proofs.Alike.{one_direction}
 use Rattle.ilk_routes.specs.Lies.{is_detected_moving}
 use Rattle.ilk_layout.specs.Decoded.{previous_body_section, section_behind_in_body, next_body_section, section_ahead_in_body}
-use Rattle.ilk_layout.specs.Wellformed.{has_more_ahead, has_more_behind, mutual_section_ahead, occupancy_is_consistent}
+use Rattle.ilk_layout.specs.Wellformed.{train_in_dir_continues_ahead, train_in_dir_continues_behind, mutual_section_ahead, occupancy_is_consistent}
 use Rattle.ilk_layout.specs.declared.values.Occupancy.{Occupancy}
 use Rattle.ilk_layout.specs.declared.values.Occupancy.TheVariants.{Vacant, Taken, Crash}
 use Rattle.ilk_layout.proofs.Chains.{GoesBack, IsWalk}
 use Rattle.ilk_layout.proofs.Plants.{ahead-neighbours_on, joined-back, joined-parts, turned-twice, walk-short}
 
--- A section of the plant that has a train.
 pub record IsTaken (p : PlantLists) (occupancy : ℕ → Option Occupancy) (x : ℕ) : Type 0 where
   pub dir : Dir
   pub tail : Bool
@@ -31,7 +30,7 @@ pub record IsTaken (p : PlantLists) (occupancy : ℕ → Option Occupancy) (x : 
 pub same_taken : {d e : Dir} {t u h k : Bool} → Some (Taken d t h) ≡ Some (Taken e u k) → (d ≡ e) × (t ≡ u) × (h ≡ k)
 same_taken e = (cc, cc, cc)
 
-more-behind : (d : Dir) (o : Occupancy) → has_more_behind d o ≡ true → (head : Bool) × (o ≡ Taken d false head)
+more-behind : (d : Dir) (o : Occupancy) → train_in_dir_continues_behind d o ≡ true → (head : Bool) × (o ≡ Taken d false head)
 more-behind d Vacant h = cc
 more-behind d Crash h = cc
 more-behind d (Taken e tail head) h =
@@ -40,7 +39,7 @@ more-behind d (Taken e tail head) h =
     let no_tail : tail ≡ false = not-true tail parts.1 in
     (head, ap (λ v. Taken v tail head) same ∙ ap (λ t. Taken d t head) no_tail)
 
-more-ahead : (d : Dir) (o : Occupancy) → has_more_ahead d o ≡ true → (tail : Bool) × (o ≡ Taken d tail false)
+more-ahead : (d : Dir) (o : Occupancy) → train_in_dir_continues_ahead d o ≡ true → (tail : Bool) × (o ≡ Taken d tail false)
 more-ahead d Vacant h = cc
 more-ahead d Crash h = cc
 more-ahead d (Taken e tail head) h =
@@ -74,11 +73,11 @@ module _ (p : PlantLists) (plant : IsPlant p) (never : IsAcyclic p) (lie : ℕ �
   pub demands : (x : ℕ) (d : Dir) (tail head : Bool) → x < length p.sections →
       occupancy x ≡ Some (Taken d tail head) →
       (not (is_some_and (lie x) is_detected_moving) ≡ true) ×
-      ((head || is_some_and (mutual_section_ahead p lie x d) (λ y. is_some_and (occupancy y) (has_more_behind d)))
+      ((head || is_some_and (mutual_section_ahead p lie x d) (λ y. is_some_and (occupancy y) (train_in_dir_continues_behind d)))
       ≡ true) ×
       ((tail
       || is_some_and (mutual_section_ahead p lie x (opposite_direction d))
-      (λ y. is_some_and (occupancy y) (has_more_ahead d))) ≡ true)
+      (λ y. is_some_and (occupancy y) (train_in_dir_continues_ahead d))) ≡ true)
   demands x d tail head within is =
       let P : Option Occupancy → Type 0 = λ o. occupancy_is_consistent p lie occupancy x o ≡ true in
       let all = subst P is (fits x within) in
@@ -88,13 +87,13 @@ module _ (p : PlantLists) (plant : IsPlant p) (never : IsAcyclic p) (lie : ℕ �
 
   pub step-forth : (x y : ℕ) → x < length p.sections → next_body_section p lie occupancy x ≡ Some y →
       (d : Dir) × (tail head : Bool) × (occupancy x ≡ Some (Taken d tail false)) ×
-      (mutual_section_ahead p lie x d ≡ Some y) × (y < length p.sections) × (has_section y (next_to p x d) ≡ true) ×
+      (mutual_section_ahead p lie x d ≡ Some y) × (y < length p.sections) × (contains_section y (next_to p x d) ≡ true) ×
       (occupancy y ≡ Some (Taken d false head))
   step-forth x y within e =
       let at : (d : Dir) × (tail : Bool) × (occupancy x ≡ Some (Taken d tail false)) × (mutual_section_ahead p lie x d ≡ Some y) = next_body_section-is p lie occupancy x y e in
       let d = at.0 in
-      let next = some-and (mutual_section_ahead p lie x d) (λ z. is_some_and (occupancy z) (has_more_behind d)) (demands x d at.1 false within at.2).1 in
-      let o = some-and (occupancy next.0) (has_more_behind d) next.2 in
+      let next = some-and (mutual_section_ahead p lie x d) (λ z. is_some_and (occupancy z) (train_in_dir_continues_behind d)) (demands x d at.1 false within at.2).1 in
+      let o = some-and (occupancy next.0) (train_in_dir_continues_behind d) next.2 in
       let behind = more-behind d o.0 o.2 in
       let same : next.0 ≡ y = same_Some next.0 y (sym next.1 ∙ at.3) in
       let beside = ahead-neighbours_on p lie x y d (joined-parts p lie x y d at.3).0 in
@@ -103,13 +102,13 @@ module _ (p : PlantLists) (plant : IsPlant p) (never : IsAcyclic p) (lie : ℕ �
   pub step-back : (x y : ℕ) → x < length p.sections → previous_body_section p lie occupancy x ≡ Some y →
       (d : Dir) × (tail head : Bool) × (occupancy x ≡ Some (Taken d false head)) ×
       (mutual_section_ahead p lie x (opposite_direction d) ≡ Some y) × (y < length p.sections) ×
-      (has_section y (next_to p x (opposite_direction d)) ≡ true) ×
+      (contains_section y (next_to p x (opposite_direction d)) ≡ true) ×
       (occupancy y ≡ Some (Taken d tail false))
   step-back x y within e =
       let at : (d : Dir) × (head : Bool) × (occupancy x ≡ Some (Taken d false head)) × (mutual_section_ahead p lie x (opposite_direction d) ≡ Some y) = previous_body_section-is p lie occupancy x y e in
       let d = at.0 in
-      let before = some-and (mutual_section_ahead p lie x (opposite_direction d)) (λ z. is_some_and (occupancy z) (has_more_ahead d)) (demands x d false at.1 within at.2).2 in
-      let o = some-and (occupancy before.0) (has_more_ahead d) before.2 in
+      let before = some-and (mutual_section_ahead p lie x (opposite_direction d)) (λ z. is_some_and (occupancy z) (train_in_dir_continues_ahead d)) (demands x d false at.1 within at.2).2 in
+      let o = some-and (occupancy before.0) (train_in_dir_continues_ahead d) before.2 in
       let ahead = more-ahead d o.0 o.2 in
       let same : before.0 ≡ y = same_Some before.0 y (sym before.1 ∙ at.3) in
       let beside = ahead-neighbours_on p lie x y (opposite_direction d) (joined-parts p lie x y (opposite_direction d) at.3).0 in
@@ -120,18 +119,18 @@ module _ (p : PlantLists) (plant : IsPlant p) (never : IsAcyclic p) (lie : ℕ �
   walk-forth x (y ∷ walk) d t h within is w =
       let at = step-forth x y within w.0 in
       let same : at.0 ≡ d = (same_taken (sym at.3 ∙ is)).0 in
-      let beside : has_section y (next_to p x d) ≡ true = ap (λ v. has_section y (next_to p x v)) (sym same) ∙ at.6 in
+      let beside : contains_section y (next_to p x d) ≡ true = ap (λ v. contains_section y (next_to p x v)) (sym same) ∙ at.6 in
       let there : occupancy y ≡ Some (Taken d false at.2) = at.7 ∙ ap (λ v. Some (Taken v false at.2)) same in
-      and_from (has_section y (next_to p x d)) (is_connected_chain p d y walk) beside (walk-forth y walk d false at.2 at.5 there w.1)
+      and_from (contains_section y (next_to p x d)) (is_connected_chain p d y walk) beside (walk-forth y walk d false at.2 at.5 there w.1)
 
   walk-back : (x : ℕ) (walk : List ℕ) (d : Dir) (t h : Bool) → x < length p.sections → occupancy x ≡ Some (Taken d t h) → IsWalk (previous_body_section p lie occupancy) x walk → is_connected_chain p (opposite_direction d) x walk ≡ true
   walk-back x [] d t h within is w = refl
   walk-back x (y ∷ walk) d t h within is w =
       let at = step-back x y within w.0 in
       let same : at.0 ≡ d = (same_taken (sym at.3 ∙ is)).0 in
-      let beside : has_section y (next_to p x (opposite_direction d)) ≡ true = ap (λ v. has_section y (next_to p x (opposite_direction v))) (sym same) ∙ at.6 in
+      let beside : contains_section y (next_to p x (opposite_direction d)) ≡ true = ap (λ v. contains_section y (next_to p x (opposite_direction v))) (sym same) ∙ at.6 in
       let there : occupancy y ≡ Some (Taken d at.1 false) = at.7 ∙ ap (λ v. Some (Taken v at.1 false)) same in
-      and_from (has_section y (next_to p x (opposite_direction d))) (is_connected_chain p (opposite_direction d) y walk) beside (walk-back y walk d at.1 false at.5 there w.1)
+      and_from (contains_section y (next_to p x (opposite_direction d))) (is_connected_chain p (opposite_direction d) y walk) beside (walk-back y walk d at.1 false at.5 there w.1)
 
   pub tracks : GoesBack (length p.sections) (IsTaken p occupancy) (next_body_section p lie occupancy) (previous_body_section p lie occupancy)
   tracks = record {

@@ -7,7 +7,7 @@ use Rattle.std.proofs.Math.Bool.{or-false}
 use Rattle.std.proofs.lemmas.List.Folds.{list_any-append}
 use Rattle.std.proofs.lemmas.List.Sums.{sum_by-append, sum_by-cons}
 use Rattle.ilk_base.proofs.Once.{EachOnce}
-use Rattle.ilk_plant.specs.Network.{has_section}
+use Rattle.ilk_plant.specs.Network.{contains_section}
 use Rattle.ilk_plant.specs.Plant.{PlantLists}
 use Rattle.ilk_plant.specs.State.{detected_position}
 use Rattle.ilk_plant.specs.declared.network.Section.{Section}
@@ -19,23 +19,23 @@ use Rattle.ilk_plant.specs.declared.state.Train.{Train}
 use Rattle.ilk_plant.proofs.InLists.{section-from}
 use Rattle.ilk_model.specs.Hazard.{is_section_hazardous, is_wrong_under_train, is_wrong_under_body}
 use Rattle.ilk_model.proofs.Straying.{is_wrong_under_body-has}
-use Rattle.ilk_layout.specs.Occupancy.{occupancy_of, occupancy_by_train, occupancy_by_train_if_any}
-use Rattle.ilk_layout.specs.Standing.{is_vacant_occupancy, is_point_wrong_between, is_point_wrong_under, section_before, occupancy_with_train_on}
+use Rattle.ilk_layout.specs.Occupancy.{occupancy_or_crash, occupancy_by_train, occupancy_by_train_if_any}
+use Rattle.ilk_layout.specs.Standing.{is_vacant_occupancy, is_point_wrong_between, is_point_wrong_under, section_before_index, occupancy_after_adding_on_sections}
 use Rattle.ilk_layout.specs.declared.values.Occupancy.TheVariants.{Crash}
 use Rattle.ilk_layout.proofs.Bodies.{pair-at}
 
-pub wrong-has : (p : PlantLists) (s : State) (x : ℕ) (body : List ℕ) → is_point_wrong_under p s x body ≡ true → has_section x body ≡ true
+pub wrong-has : (p : PlantLists) (s : State) (x : ℕ) (body : List ℕ) → is_point_wrong_under p s x body ≡ true → contains_section x body ≡ true
 wrong-has p s x body h = by_section (slice_get p.sections x) refl
   where
-    by_section : (o : Option Section) → slice_get p.sections x ≡ o → has_section x body ≡ true
+    by_section : (o : Option Section) → slice_get p.sections x ≡ o → contains_section x body ≡ true
     by_section None e = absurd (false≢true (rw e at h))
     by_section (Some (Linear down up b c)) e = absurd (false≢true (rw e at h))
     by_section (Some (Point stem plus minus faces)) e = is_wrong_under_body-has x plus minus (detected_position p s x) body (rw e at h)
 
-pub wrong-at : (p : PlantLists) (s : State) (body : List ℕ) (i x : ℕ) → EachOnce body → slice_get body i ≡ Some x → is_point_wrong_under p s x body ≡ is_point_wrong_between p s x (section_before body i) (slice_get body (i + 1))
+pub wrong-at : (p : PlantLists) (s : State) (body : List ℕ) (i x : ℕ) → EachOnce body → slice_get body i ≡ Some x → is_point_wrong_under p s x body ≡ is_point_wrong_between p s x (section_before_index body i) (slice_get body (i + 1))
 wrong-at p s body i x once at = by_section (slice_get p.sections x) refl (detected_position p s x) refl
   where
-    by_section : (o : Option Section) → slice_get p.sections x ≡ o → (l : Option Lie) → detected_position p s x ≡ l → is_point_wrong_under p s x body ≡ is_point_wrong_between p s x (section_before body i) (slice_get body (i + 1))
+    by_section : (o : Option Section) → slice_get p.sections x ≡ o → (l : Option Lie) → detected_position p s x ≡ l → is_point_wrong_under p s x body ≡ is_point_wrong_between p s x (section_before_index body i) (slice_get body (i + 1))
     by_section None e l f = rw e refl
     by_section (Some (Linear down up b c)) e l f = rw e refl
     by_section (Some (Point stem plus minus faces)) e None f = rw (e, f) refl
@@ -47,7 +47,7 @@ abbrev pub with_trains : State → List Train → State
 with_trains s trains = record s { trains = trains }
 
 abbrev pub has_x : ℕ → Train → Bool
-has_x x train = has_section x train.body
+has_x x train = contains_section x train.body
 
 wrong-more : (p : PlantLists) (s : State) (ts : List Train) (t : Train) (x : ℕ) → is_wrong_under_train p (with_trains s (ts ++ t ∷ [])) x ≡ (is_wrong_under_train p (with_trains s ts) x || is_point_wrong_under p s x t.body)
 wrong-more p s ts t x = by_section (slice_get p.sections x) refl
@@ -69,7 +69,7 @@ wrong-none p s ts x none = by_section (slice_get p.sections x) refl
     each : (ts : List Train) (plus minus : ℕ) (lie : Option Lie) → list_any (has_x x) ts ≡ false → list_any (λ (train : Train). is_wrong_under_body x plus minus lie train.body) ts ≡ false
     each [] plus minus lie none = refl
     each (t ∷ ts) plus minus lie none =
-        let parts = or_parts (has_section x t.body) (list_any (has_x x) ts) none in
+        let parts = or_parts (contains_section x t.body) (list_any (has_x x) ts) none in
         or_from (is_wrong_under_body x plus minus lie t.body)
         (list_any (λ (train : Train). is_wrong_under_body x plus minus lie train.body) ts)
         (false_from_ne_true (is_wrong_under_body x plus minus lie t.body)
@@ -119,19 +119,19 @@ find-other-more : (p : Train → Bool) (ts : List Train) (t : Train) → p t ≡
 find-other-more p [] t away = rw away refl
 find-other-more p (u ∷ ts) t away = ap (cond (p u) (Some u)) (find-other-more p ts t away)
 
-pub occupancy-more : (p : PlantLists) (s : State) (ts : List Train) (t : Train) (x : ℕ) → occupancy_of p (with_trains s (ts ++ t ∷ [])) x ≡ occupancy_with_train_on p s t t.body x (occupancy_of p (with_trains s ts) x)
+pub occupancy-more : (p : PlantLists) (s : State) (ts : List Train) (t : Train) (x : ℕ) → occupancy_or_crash p (with_trains s (ts ++ t ∷ [])) x ≡ occupancy_after_adding_on_sections p s t t.body x (occupancy_or_crash p (with_trains s ts) x)
 occupancy-more p s ts t x =
-    elim (cases_Bool (has_section x t.body)) [
+    elim (cases_Bool (contains_section x t.body)) [
       | inl has ↦ elim (cases_Bool (list_any (has_x x) ts)) [ inl some ↦ second has some | inr none ↦ first has none ]
       | inr away ↦ other away
     ]
   where
-    count : count_by (has_x x) (ts ++ t ∷ []) ≡ count_by (has_x x) ts + cond (has_section x t.body) 1 0
+    count : count_by (has_x x) (ts ++ t ∷ []) ≡ count_by (has_x x) ts + cond (contains_section x t.body) 1 0
     count = count-more (has_x x) ts t
 
-    other : has_section x t.body ≡ false → occupancy_of p (with_trains s (ts ++ t ∷ [])) x ≡ occupancy_with_train_on p s t t.body x (occupancy_of p (with_trains s ts) x)
+    other : contains_section x t.body ≡ false → occupancy_or_crash p (with_trains s (ts ++ t ∷ [])) x ≡ occupancy_after_adding_on_sections p s t t.body x (occupancy_or_crash p (with_trains s ts) x)
     other away =
-        let none : ◌≡◌ {A = ℕ} (cond (has_section x t.body) 1 0) 0 = ap (λ b. cond b 1 0) away in
+        let none : ◌≡◌ {A = ℕ} (cond (contains_section x t.body) 1 0) 0 = ap (λ b. cond b 1 0) away in
         let same : count_by (has_x x) (ts ++ t ∷ []) ≡ count_by (has_x x) ts = omega (arith, count, none) in
         let right : is_point_wrong_under p s x t.body ≡ false = false_from_ne_true (is_point_wrong_under p s x t.body) (λ h. false≢true (sym away ∙ wrong-has p s x t.body h)) in
         let wrong : is_wrong_under_train p (with_trains s (ts ++ t ∷ [])) x ≡ is_wrong_under_train p (with_trains s ts) x =
@@ -139,9 +139,9 @@ occupancy-more p s ts t x =
         let found : find (has_x x) (ts ++ t ∷ []) ≡ find (has_x x) ts = find-other-more (has_x x) ts t away in
         rw (same, wrong, found, away) refl
 
-    first : has_section x t.body ≡ true → list_any (has_x x) ts ≡ false → occupancy_of p (with_trains s (ts ++ t ∷ [])) x ≡ occupancy_with_train_on p s t t.body x (occupancy_of p (with_trains s ts) x)
+    first : contains_section x t.body ≡ true → list_any (has_x x) ts ≡ false → occupancy_or_crash p (with_trains s (ts ++ t ∷ [])) x ≡ occupancy_after_adding_on_sections p s t t.body x (occupancy_or_crash p (with_trains s ts) x)
     first has none =
-        let one : ◌≡◌ {A = ℕ} (cond (has_section x t.body) 1 0) 1 = ap (λ b. cond b 1 0) has in
+        let one : ◌≡◌ {A = ℕ} (cond (contains_section x t.body) 1 0) 1 = ap (λ b. cond b 1 0) has in
         let zero_before : count_by (has_x x) ts ≡ 0 = count-none (has_x x) ts none in
         let n : count_by (has_x x) (ts ++ t ∷ []) ≡ 1 = omega (arith, count, one, zero_before) in
         let wrong_before : is_wrong_under_train p (with_trains s ts) x ≡ false = wrong-none p s ts x none in
@@ -154,13 +154,13 @@ occupancy-more p s ts t x =
         turned true = refl
         turned false = refl
 
-    second : has_section x t.body ≡ true → list_any (has_x x) ts ≡ true → occupancy_of p (with_trains s (ts ++ t ∷ [])) x ≡ occupancy_with_train_on p s t t.body x (occupancy_of p (with_trains s ts) x)
+    second : contains_section x t.body ≡ true → list_any (has_x x) ts ≡ true → occupancy_or_crash p (with_trains s (ts ++ t ∷ [])) x ≡ occupancy_after_adding_on_sections p s t t.body x (occupancy_or_crash p (with_trains s ts) x)
     second has some =
-        let one : ◌≡◌ {A = ℕ} (cond (has_section x t.body) 1 0) 1 = ap (λ b. cond b 1 0) has in
+        let one : ◌≡◌ {A = ℕ} (cond (contains_section x t.body) 1 0) 1 = ap (λ b. cond b 1 0) has in
         let before : 0 < count_by (has_x x) ts = count-some (has_x x) ts some in
         let two : nat_lt 1 (count_by (has_x x) (ts ++ t ∷ [])) ≡ true = (let more : 1 < count_by (has_x x) (ts ++ t ∷ []) = omega (arith, count, one, before) in grind (arith, nat_tests)) in
         let found = find-some (has_x x) ts some in
-        let taken : is_vacant_occupancy (occupancy_of p (with_trains s ts) x) ≡ false = not_vacant (is_section_hazardous p (with_trains s ts) x) found.0 (find (has_x x) ts) found.1 in
+        let taken : is_vacant_occupancy (occupancy_or_crash p (with_trains s ts) x) ≡ false = not_vacant (is_section_hazardous p (with_trains s ts) x) found.0 (find (has_x x) ts) found.1 in
         rw (two, has, taken) refl
       where
         not_vacant : (b : Bool) (u : Train) (o : Option Train) → o ≡ Some u → is_vacant_occupancy (cond b Crash (occupancy_by_train_if_any x o)) ≡ false

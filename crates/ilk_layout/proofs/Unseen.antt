@@ -10,9 +10,9 @@ use Rattle.ilk_base.proofs.Lists.{item_at, slice_get-set_same}
 use Rattle.ilk_base.proofs.Once.{EachOnce}
 use Rattle.ilk_base.proofs.Positions.{is_some-position, position-at}
 use Rattle.ilk_base.proofs.Tested.{All-tested, list_all-from_All}
-use Rattle.ilk_plant.specs.Network.{has_section}
+use Rattle.ilk_plant.specs.Network.{contains_section}
 use Rattle.ilk_plant.specs.Plant.{IsPlant, PlantLists, board_of, section_inward_if_border, point_number}
-use Rattle.ilk_plant.specs.Shape.{train_body_is_valid}
+use Rattle.ilk_plant.specs.Shape.{has_nonempty_connected_body}
 use Rattle.ilk_plant.specs.Sound.{IsAcyclic}
 use Rattle.ilk_plant.specs.State.{has_lock_state, is_unlocked_and_vacant, is_occupied, detected_position}
 use Rattle.ilk_plant.specs.declared.network.Section.{Section}
@@ -38,7 +38,6 @@ use Rattle.ilk_layout.proofs.Orders.{Within, kept-at, once-removed, permuted, re
 use Rattle.ilk_layout.proofs.Told.{state-once}
 use Rattle.ilk_layout.proofs.Trains.{has_x, with_trains}
 
--- Two sequences of steps differ only in order if each step does.
 unseen-bind : {A : Type 0} (o : Option A) (f g : A → Option State) → ((x : A) → DifferInTrainOrderIfAny (f x) (g x)) → DifferInTrainOrderIfAny (option_and_then f o) (option_and_then g o)
 unseen-bind None f g each = tt
 unseen-bind (Some x) f g each = each x
@@ -57,7 +56,6 @@ within xs ys order i x at =
     let c : Contains ys x = Contains-permutation xs ys x order (i, slice_get_within xs i x at, get_or_from_slice_get xs i x x at) in
     (c.0, slice_get-get_or ys c.0 x c.1 ∙ ap Some c.2)
 
--- Two permutations stay permutations without the same item.
 without : (xs ys : List Train) (i j : ℕ) (u : Train) → EachOnce xs → EachOnce ys → IsPermutation xs ys → slice_get xs i ≡ Some u → slice_get ys j ≡ Some u → IsPermutation (remove xs i) (remove ys j)
 without xs ys i j u once once_too order at also =
     permuted (remove xs i) (remove ys j) (once-removed xs i once) (once-removed ys j once_too) (into xs ys i j once at also (within xs ys order)) (into ys xs j i once_too also at (within ys xs (IsPermutation-sym xs ys order)))
@@ -73,7 +71,6 @@ remove-set [] i y = refl
 remove-set (x ∷ xs) zero y = refl
 remove-set (x ∷ xs) (suc i) y = ap (λ l. x ∷ l) (remove-set xs i y)
 
--- They also stay permutations if that item is replaced.
 replaced : (xs ys : List Train) (i j : ℕ) (u v : Train) → EachOnce xs → EachOnce ys → IsPermutation xs ys → slice_get xs i ≡ Some u → slice_get ys j ≡ Some u → IsPermutation (set xs i v) (set ys j v)
 replaced xs ys i j u v once once_too order at also =
     let rest = without xs ys i j u once once_too order at also in
@@ -88,7 +85,6 @@ replaced xs ys i j u v once once_too order at also =
         let P : List Train → Type 0 = λ l. IsPermutation (set zs k v) (v ∷ l) in
         subst P (remove-set zs k v) (IsPermutation-remove (set zs k v) k v (slice_get_within (set zs k v) k v there) (sym (get_or_from_slice_get (set zs k v) k v v there)))
 
--- The same train is found in both lists, or none.
 abbrev FindsSame : (Train → Bool) → List Train → List Train → Type 0
 FindsSame test xs ys = ((position test xs ≡ None) × (position test ys ≡ None)) ⊎ ((i j : ℕ) × (u : Train) × (position test xs ≡ Some i) × (slice_get xs i ≡ Some u) × (position test ys ≡ Some j) × (slice_get ys j ≡ Some u))
 
@@ -120,22 +116,21 @@ finds-same test xs ys order one = by_first (position test xs) refl (position tes
         let same : v.0 ≡ u.0 = same_Some v.0 u.0 (sym back.1 ∙ ap (slice_get xs) place ∙ u.1) in
         inr (i, j, u.0, e, u.1, f, v.1 ∙ ap Some same)
 
--- A train found by its head, its tail or its only section has that section.
-head-has : (x : ℕ) (t : Train) → has_head_at x t ≡ true → has_section x t.body ≡ true
+head-has : (x : ℕ) (t : Train) → has_head_at x t ≡ true → contains_section x t.body ≡ true
 head-has x t h = last-has x t.body h
 
-tail-has : (x : ℕ) (t : Train) → has_movable_tail_at x t ≡ true → has_section x t.body ≡ true
+tail-has : (x : ℕ) (t : Train) → has_movable_tail_at x t ≡ true → contains_section x t.body ≡ true
 tail-has x t h = of t.body h
   where
-    of : (body : List ℕ) → is_first_of_several x body ≡ true → has_section x body ≡ true
+    of : (body : List ℕ) → is_first_of_several x body ≡ true → contains_section x body ≡ true
     of [] h = cc
     of (y ∷ []) h = cc
     of (y ∷ z ∷ rest) h = rw h refl
 
-only-has : (x : ℕ) (t : Train) → occupies_only x t ≡ true → has_section x t.body ≡ true
+only-has : (x : ℕ) (t : Train) → occupies_only x t ≡ true → contains_section x t.body ≡ true
 only-has x t h = of t.body h
   where
-    of : (body : List ℕ) → is_only_section x body ≡ true → has_section x body ≡ true
+    of : (body : List ℕ) → is_only_section x body ≡ true → contains_section x body ≡ true
     of [] h = cc
     of (y ∷ []) h = rw h refl
     of (y ∷ z ∷ rest) h = cc
@@ -154,9 +149,8 @@ module _ (p : PlantLists) (plant : IsPlant p) (never : IsAcyclic p) (s : State) 
   clear-same : is_unlocked_and_vacant t ≡ is_unlocked_and_vacant s
   clear-same i x = has_lock_state s x FreeLock && not (occupied-same i x)
 
-  -- The other order has no hazard either.
   hazardous-same : is_section_hazardous p t ≡ is_section_hazardous p s
-  hazardous-same i x = nat_lt 1 (sum_by-IsPermutation (λ (u : Train). cond (has_section x u.body) 1 0) s.trains ts order i) || wrong-same x i
+  hazardous-same i x = nat_lt 1 (sum_by-IsPermutation (λ (u : Train). cond (contains_section x u.body) 1 0) s.trains ts order i) || wrong-same x i
     where
       wrong-same : (x : ℕ) → is_wrong_under_train p t x ≡ is_wrong_under_train p s x
       wrong-same x = by_section (slice_get p.sections x) refl
@@ -174,7 +168,8 @@ module _ (p : PlantLists) (plant : IsPlant p) (never : IsAcyclic p) (s : State) 
       boards = calm.shape.boards;
       locks = calm.shape.locks;
       counts = calm.shape.counts;
-      bodies = list_all-from_All (train_body_is_valid p) ts (All-permutation (λ u. train_body_is_valid p u ≡ true) s.trains ts order (All-tested (train_body_is_valid p) (λ u. train_body_is_valid p u ≡ true) (λ u h. h) s.trains calm.shape.bodies));
+      bodies = list_all-from_All (has_nonempty_connected_body p) ts (All-permutation (λ u. has_nonempty_connected_body p u ≡ true) s.trains ts order (All-tested (has_nonempty_connected_body p) (λ u. has_nonempty_connected_body p u ≡ true)
+          (λ u h. h) s.trains calm.shape.bodies));
     };
     no_hazard = no-hazard p t (ap (λ f. find f (range_with_len 0 (length p.sections))) hazardous-same ∙ none-hazardous p s calm.no_hazard);
   }
@@ -185,10 +180,10 @@ module _ (p : PlantLists) (plant : IsPlant p) (never : IsAcyclic p) (s : State) 
   once-too : EachOnce ts
   once-too = state-once p plant never t still-calm.shape still-calm.no_hazard _ (λ x within_x. refl)
 
-  same-train : (x : ℕ) (test : Train → Bool) → ((u : Train) → test u ≡ true → has_section x u.body ≡ true) → FindsSame test s.trains ts
+  same-train : (x : ℕ) (test : Train → Bool) → ((u : Train) → test u ≡ true → contains_section x u.body ≡ true) → FindsSame test s.trains ts
   same-train x test has = finds-same test s.trains ts order (λ i j u v at also hu hv. alone p plant never s calm.shape calm.no_hazard i j x u v at also (has u hu) (has v hv))
 
-  unseen-found : (x : ℕ) (test : Train → Bool) → ((u : Train) → test u ≡ true → has_section x u.body ≡ true) →
+  unseen-found : (x : ℕ) (test : Train → Bool) → ((u : Train) → test u ≡ true → contains_section x u.body ≡ true) →
       (f g : ℕ → Train → Option State) →
       ((i j : ℕ) (u : Train) → slice_get s.trains i ≡ Some u → slice_get ts j ≡ Some u →
       DifferInTrainOrderIfAny (f i u) (g j u))

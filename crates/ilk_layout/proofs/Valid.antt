@@ -31,7 +31,7 @@ use Rattle.ilk_layout.specs.Variables.{detected_var, board_var, lock_var, occupa
 use Rattle.ilk_layout.specs.declared.values.Occupancy.{Occupancy}
 use Rattle.ilk_layout.specs.declared.values.Occupancy.TheVariants.{Vacant, Taken, Crash}
 use Rattle.ilk_layout.proofs.Parts.{get-fifth, get-first, get-fourth, get-second, get-third}
-use Rattle.ilk_layout.specs.Conditions.{is_point_detected, board_is, section_point_is_detected, listed_is_detected, lock_is, mode_is, no_train_at, occupancy_is, rel_is, seen_is, is_point_commanded, train_at}
+use Rattle.ilk_layout.specs.Conditions.{is_point_detected, is_board_aspect, section_point_is_detected, is_listed_point_detected, lock_is, mode_is, no_train_at, occupancy_is, is_released_count, is_seen_count, is_point_commanded, train_at}
 
 pub mode-small : (m : Mode) → mode_value m < 5
 mode-small Free = omega arith
@@ -154,12 +154,12 @@ module _ (p : PlantLists) where
       let there : 3 * r ≡ 3 * r + 0 = omega arith in
       value-valid (ranges_of_plant p) (3 * r) (mode_value m) 5 (ap (slice_get (ranges_of_plant p)) there ∙ route-range r 0 5 found.0 found.1 (omega arith) refl) (mode-small m)
 
-  pub seen_is-valid : (r k : ℕ) (route : Route) → slice_get p.routes r ≡ Some route → k ≤ length route.path → tree_valid (ranges_of_plant p) (seen_is r k) ≡ true
-  seen_is-valid r k route known few =
+  pub is_seen_count-valid : (r k : ℕ) (route : Route) → slice_get p.routes r ≡ Some route → k ≤ length route.path → tree_valid (ranges_of_plant p) (is_seen_count r k) ≡ true
+  is_seen_count-valid r k route known few =
       value-valid (ranges_of_plant p) (3 * r + 1) k (length route.path + 1) (route-range r 1 (length route.path + 1) route known (omega arith) refl) (omega arith)
 
-  pub rel_is-valid : (r k : ℕ) (route : Route) → slice_get p.routes r ≡ Some route → k ≤ length route.path → tree_valid (ranges_of_plant p) (rel_is r k) ≡ true
-  rel_is-valid r k route known few =
+  pub is_released_count-valid : (r k : ℕ) (route : Route) → slice_get p.routes r ≡ Some route → k ≤ length route.path → tree_valid (ranges_of_plant p) (is_released_count r k) ≡ true
+  is_released_count-valid r k route known few =
       value-valid (ranges_of_plant p) (3 * r + 2) k (length route.path + 1) (route-range r 2 (length route.path + 1) route known (omega arith) refl) (omega arith)
 
   pub is_point_detected-valid : (n : ℕ) (lie : Lie) → n < point_count p → tree_valid (ranges_of_plant p) (is_point_detected p n lie) ≡ true
@@ -175,8 +175,8 @@ module _ (p : PlantLists) where
       ∙ to_range-at (point_count p) n within)
       (position-small to)
 
-  pub board_is-valid : (m : ℕ) (aspect : Aspect) → m < length p.boards → tree_valid (ranges_of_plant p) (board_is p m aspect) ≡ true
-  board_is-valid m aspect within =
+  pub is_board_aspect-valid : (m : ℕ) (aspect : Aspect) → m < length p.boards → tree_valid (ranges_of_plant p) (is_board_aspect p m aspect) ≡ true
+  is_board_aspect-valid m aspect within =
       value-valid (ranges_of_plant p) (board_var p m) (aspect_value aspect) 2 (get-third _ _ _ _ occupancies _ _ _ _ la lb lc ld m within ∙ replicate-at (length p.boards) m 2 within) (aspect-small aspect)
 
   pub lock_is-valid : (x : ℕ) (hold : Hold) → x < length p.sections → tree_valid (ranges_of_plant p) (lock_is p x hold) ≡ true
@@ -201,8 +201,8 @@ module _ (p : PlantLists) where
       by_number (Some n) e =
           let known = point_number-below p x in let less = rw e at known in rw e (is_point_detected-valid n lie less)
 
-  pub listed_is_detected-valid : (listed : Listed) → tree_valid (ranges_of_plant p) (listed_is_detected p listed) ≡ true
-  listed_is_detected-valid listed = section_point_is_detected-valid listed.point (lie_from_position listed.at)
+  pub is_listed_point_detected-valid : (listed : Listed) → tree_valid (ranges_of_plant p) (is_listed_point_detected p listed) ≡ true
+  is_listed_point_detected-valid listed = section_point_is_detected-valid listed.point (lie_from_position listed.at)
 
 all_positive-routes : (routes : List Route) → list_all (λ range. nat_lt 0 range) (flat_map route_ranges routes) ≡ true
 all_positive-routes [] = refl

@@ -15,11 +15,10 @@ use Rattle.ilk_plant.specs.declared.state.RouteState.{RouteState}
 use Rattle.ilk_plant.specs.declared.state.State.{State}
 use Rattle.ilk_layout.specs.Image.{point_values, route_values}
 use Rattle.ilk_layout.specs.Values.{aspect_value, lock_value, detected_value, mode_value, commanded_value}
-use Rattle.ilk_layout.specs.Variables.{detected_var, board_var, lock_var, mode_var, occupancy_var, rel_var, seen_var, commanded_var}
+use Rattle.ilk_layout.specs.Variables.{detected_var, board_var, lock_var, mode_var, occupancy_var, released_count_var, seen_count_var, commanded_var}
 use Rattle.ilk_layout.proofs.Parts.{get-fifth, get-first, get-fourth, get-second, get-third, set-fifth, set-first, set-fourth, set-second, set-third}
 use Rattle.ilk_layout.proofs.Places.{get-at, get-mode, get-rel, get-seen, get-to, length-points, length-routes, set-at, set-mode, set-rel, set-seen, set-to}
 
--- The image of a state with other occupancies.
 abbrev pub image_with : State → List ℕ → List ℕ
 image_with s occupancies =
     flat_map route_values s.routes ++ (flat_map point_values s.points ++ (map aspect_value s.boards ++ (map lock_value s.locks ++ occupancies)))
@@ -55,13 +54,13 @@ module _ (p : PlantLists) (s : State) (e : List ℕ) (shape : HasShape p s) wher
       let count = shape.routes in
       get-first _ _ _ _ e _ _ _ _ la lb lc ld (3 * r) (omega arith) ∙ get-mode s.routes r now at
 
-  pub seen-at : (r : ℕ) (now : RouteState) → slice_get s.routes r ≡ Some now → slice_get (image_with s e) (seen_var r) ≡ Some now.seen
+  pub seen-at : (r : ℕ) (now : RouteState) → slice_get s.routes r ≡ Some now → slice_get (image_with s e) (seen_count_var r) ≡ Some now.seen
   seen-at r now at =
       let within = slice_get_within s.routes r now at in
       let count = shape.routes in
       get-first _ _ _ _ e _ _ _ _ la lb lc ld (3 * r + 1) (omega arith) ∙ get-seen s.routes r now at
 
-  pub rel-at : (r : ℕ) (now : RouteState) → slice_get s.routes r ≡ Some now → slice_get (image_with s e) (rel_var r) ≡ Some now.rel
+  pub rel-at : (r : ℕ) (now : RouteState) → slice_get s.routes r ≡ Some now → slice_get (image_with s e) (released_count_var r) ≡ Some now.rel
   rel-at r now at =
       let within = slice_get_within s.routes r now at in
       let count = shape.routes in
@@ -101,13 +100,13 @@ module _ (p : PlantLists) (s : State) (e : List ℕ) (shape : HasShape p s) wher
       let count = shape.routes in
       set-first _ _ _ _ e _ _ _ _ la lb lc ld (3 * r) (mode_value m) (omega arith) ∙ ap (λ u. u ++ (b ++ (c ++ (d ++ e)))) (set-mode s.routes r now m at)
 
-  pub seen-written : (r : ℕ) (now : RouteState) (k : ℕ) → slice_get s.routes r ≡ Some now → set (image_with s e) (seen_var r) k ≡ image_with (record s { routes = set s.routes r (record now { seen = k }) }) e
+  pub seen-written : (r : ℕ) (now : RouteState) (k : ℕ) → slice_get s.routes r ≡ Some now → set (image_with s e) (seen_count_var r) k ≡ image_with (record s { routes = set s.routes r (record now { seen = k }) }) e
   seen-written r now k at =
       let within = slice_get_within s.routes r now at in
       let count = shape.routes in
       set-first _ _ _ _ e _ _ _ _ la lb lc ld (3 * r + 1) k (omega arith) ∙ ap (λ u. u ++ (b ++ (c ++ (d ++ e)))) (set-seen s.routes r now k at)
 
-  pub rel-written : (r : ℕ) (now : RouteState) (k : ℕ) → slice_get s.routes r ≡ Some now → set (image_with s e) (rel_var r) k ≡ image_with (record s { routes = set s.routes r (record now { rel = k }) }) e
+  pub rel-written : (r : ℕ) (now : RouteState) (k : ℕ) → slice_get s.routes r ≡ Some now → set (image_with s e) (released_count_var r) k ≡ image_with (record s { routes = set s.routes r (record now { rel = k }) }) e
   rel-written r now k at =
       let within = slice_get_within s.routes r now at in
       let count = shape.routes in

@@ -11,12 +11,12 @@ use Rattle.ilk_layout.specs.Image.{image_of}
 use Rattle.ilk_layout.specs.Variables.{ranges_of_plant}
 use Rattle.ilk_layout.specs.Wellformed.{is_wellformed}
 
--- Holds if the state is well-formed and has no hazard.
+-- Holds if state `s` is well-formed for the plant (`HasShape`) and has no hazard.
 pub record IsWellFormedAndSafe (p : PlantLists) (s : State) : Type 0 where
   pub shape : HasShape p s
   pub no_hazard : hazard p s ≡ None
 
--- Holds if two states differ only in the order of trains.
+-- Holds if the trains of `s` and `t` are the same up to their order, and all else is equal.
 pub record DifferInTrainOrder (s t : State) : Type 0 where
   pub routes : t.routes ≡ s.routes
   pub points : t.points ≡ s.points
@@ -24,14 +24,14 @@ pub record DifferInTrainOrder (s t : State) : Type 0 where
   pub locks : t.locks ≡ s.locks
   pub trains : IsPermutation s.trains t.trains
 
--- The image of every well-formed state is in range.
+-- Each value in the image of a well-formed state is less than the number of values of its variable.
 abbrev pub ImagesAreInRange : PlantLists → Type 0
 ImagesAreInRange p = (s : State) → HasShape p s → IsTrue (in_ranges (image_of p s) (ranges_of_plant p))
 
 -- Two well-formed states without hazard that have the same image differ only in the order of
 -- trains.
-abbrev pub ImagesDetermineStates : PlantLists → Type 0
-ImagesDetermineStates p = (s t : State) → IsWellFormedAndSafe p s → IsWellFormedAndSafe p t → image_of p s ≡ image_of p t → DifferInTrainOrder s t
+abbrev pub ImagesDetermineExceptTrainOrder : PlantLists → Type 0
+ImagesDetermineExceptTrainOrder p = (s t : State) → IsWellFormedAndSafe p s → IsWellFormedAndSafe p t → image_of p s ≡ image_of p t → DifferInTrainOrder s t
 
 -- Holds if the values are the image of a well-formed state without hazard.
 pub record AreImageOfSafeState (p : PlantLists) (values : List ℕ) : Type 0 where
@@ -44,13 +44,14 @@ pub record AreImageOfSafeState (p : PlantLists) (values : List ℕ) : Type 0 whe
 abbrev pub WellformedIffImage : PlantLists → Type 0
 WellformedIffImage p = (values : List ℕ) → IsTrue (in_ranges values (ranges_of_plant p)) → IsTrue (is_wellformed p values) ↔ AreImageOfSafeState p values
 
--- Holds if both are `None`, or if both are states that differ only in the order of trains.
+-- Holds if both states are `None`, or if both exist and differ only in the order of trains.
 abbrev pub DifferInTrainOrderIfAny : Option State → Option State → Type 0
 DifferInTrainOrderIfAny None None = Unit {0}
 DifferInTrainOrderIfAny None (Some t) = ⊥
 DifferInTrainOrderIfAny (Some s) None = ⊥
 DifferInTrainOrderIfAny (Some s) (Some t) = DifferInTrainOrder s t
 
--- No event depends on the order of trains in a well-formed state without hazard.
+-- Well-formed states without hazard that differ only in the order of trains allow the same events.
+-- The next states also differ only in that order.
 abbrev pub EventsIgnoreTrainOrder : PlantLists → Type 0
 EventsIgnoreTrainOrder p = (s t : State) (event : Event) → IsWellFormedAndSafe p s → DifferInTrainOrder s t → DifferInTrainOrderIfAny (next p s event) (next p t event)

@@ -1,6 +1,6 @@
 -- The occupancy of a section.
 use Rattle.std.specs.Prelude.{ℕ, Bool, false, Option, Some, None, List, [], ◌∷◌, ◌==◌, find, if◌then◌else◌}
-use Rattle.ilk_plant.specs.Network.{has_section}
+use Rattle.ilk_plant.specs.Network.{contains_section}
 use Rattle.ilk_plant.specs.Plant.{PlantLists}
 use Rattle.ilk_plant.specs.declared.state.State.{State}
 use Rattle.ilk_plant.specs.declared.state.Train.{Train}
@@ -14,16 +14,18 @@ abbrev pub is_first : ℕ → List ℕ → Bool
 is_first x [] = false
 is_first x (y ∷ rest) = y == x
 
--- The occupancy of `x` by this train: its direction, and whether its tail and its head are at `x`.
+-- Returns the occupancy of `x` by this train: its direction, and whether its tail and its head are
+-- at `x`.
 abbrev pub occupancy_by_train : ℕ → Train → Occupancy
 occupancy_by_train x train = Taken train.dir (is_first x train.body) (is_last_section x train.body)
 
--- The occupancy of `x` by the train that has it in its body, or `Vacant` if there is none.
+-- Returns the occupancy of `x` by this train, or `Vacant` if there is no train.
 abbrev pub occupancy_by_train_if_any : ℕ → Option Train → Occupancy
 occupancy_by_train_if_any x None = Vacant
 occupancy_by_train_if_any x (Some train) = occupancy_by_train x train
 
--- `Crash` if `x` has a hazard; otherwise the occupancy by the train with `x` in its body.
-abbrev pub occupancy_of : PlantLists → State → ℕ → Occupancy
-occupancy_of p s x =
-    if is_section_hazardous p s x then Crash else occupancy_by_train_if_any x (find (λ train. has_section x train.body) s.trains)
+-- Returns the occupancy of `x`: `Crash` if `x` has a hazard, otherwise that by the train with `x`
+-- in its body.
+abbrev pub occupancy_or_crash : PlantLists → State → ℕ → Occupancy
+occupancy_or_crash p s x =
+    if is_section_hazardous p s x then Crash else occupancy_by_train_if_any x (find (λ train. contains_section x train.body) s.trains)

@@ -1,4 +1,5 @@
--- The numbers of values: the values of each type are numbered from 0 in the order of declaration.
+-- The numbers of values in an image: each type's values are numbered from 0 in the order of
+-- declaration.
 use Rattle.std.specs.Prelude.{ℕ, true, false, Option, List, [], ◌∷◌, ◌==◌, find}
 use Rattle.ilk_plant.specs.declared.network.Dir.TheVariants.{Up, Down}
 use Rattle.ilk_plant.specs.declared.network.Position.{Position}
@@ -39,8 +40,8 @@ lock_value FreeLock = 0
 lock_value LockedLock = 1
 lock_value UsedLock = 2
 
--- 0 for `Vacant`, 9 for `Crash`; otherwise 1, plus 4 for a down train, 2 for its tail and 1 for its
--- head.
+-- Returns 0 for `Vacant` and 9 for `Crash`; otherwise 1, plus 4 for a down train, 2 for its tail
+-- and 1 for its head.
 abbrev pub occupancy_value : Occupancy → ℕ
 occupancy_value Vacant = 0
 occupancy_value (Taken Up false false) = 1
@@ -53,17 +54,19 @@ occupancy_value (Taken Down true false) = 7
 occupancy_value (Taken Down true true) = 8
 occupancy_value Crash = 9
 
--- The value with this number among `all`, or `None`.
-abbrev pub from_value : {A : Type 0} → (A → ℕ) → List A → ℕ → Option A
-from_value value_of all number = find (λ a. value_of a == number) all
+-- Returns the first value of `all` that has this number. Returns `None` if there is none.
+abbrev pub first_with_value : {A : Type 0} → (A → ℕ) → List A → ℕ → Option A
+first_with_value value_of all number = find (λ a. value_of a == number) all
 
+-- Returns the detected position with this number. Returns `None` if there is none.
 abbrev pub detected_from_value : ℕ → Option Lie
-detected_from_value = from_value detected_value (LiesPlus ∷ LiesMinus ∷ Moving ∷ [])
+detected_from_value = first_with_value detected_value (LiesPlus ∷ LiesMinus ∷ Moving ∷ [])
 
 abbrev pub all_occupancies : List Occupancy
 all_occupancies =
     Vacant ∷ Taken Up false false ∷ Taken Up false true ∷ Taken Up true false ∷ Taken Up true true
     ∷ Taken Down false false ∷ Taken Down false true ∷ Taken Down true false ∷ Taken Down true true ∷ Crash ∷ []
 
+-- Returns the occupancy with this number. Returns `None` if there is none.
 abbrev pub occupancy_from_value : ℕ → Option Occupancy
-occupancy_from_value = from_value occupancy_value all_occupancies
+occupancy_from_value = first_with_value occupancy_value all_occupancies

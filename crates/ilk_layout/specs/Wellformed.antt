@@ -15,44 +15,49 @@ use Rattle.ilk_layout.specs.Variables.{detected_var, occupancy_var}
 use Rattle.ilk_layout.specs.declared.values.Occupancy.{Occupancy}
 use Rattle.ilk_layout.specs.declared.values.Occupancy.TheVariants.{Vacant, Taken, Crash}
 
--- The detected position of the point on section `x` by these values, or `None` if `x` has no point.
+-- Returns the detected position of the point on section `x` in these values. Returns `None` if `x`
+-- has no point.
 abbrev pub detected_in_values : PlantLists → List ℕ → ℕ → Option Lie
 detected_in_values p values x = do
   n ← point_number p x
   value ← slice_get values (detected_var p n)
   detected_from_value value
 
--- The occupancy of section `x` by these values.
+-- Returns the occupancy of section `x` in these values. Returns `None` if no occupancy has its
+-- value.
 abbrev pub occupancy_in_values : PlantLists → List ℕ → ℕ → Option Occupancy
 occupancy_in_values p values x = do
   value ← slice_get values (occupancy_var p x)
   occupancy_from_value value
 
--- The section to which `x` leads in direction `d`, given the positions of the points.
+-- Returns the section next to `x` in direction `d`, by the position `lie` of a point. Returns
+-- `None` if there is none.
 abbrev pub section_ahead : PlantLists → (ℕ → Option Lie) → ℕ → Dir → Option ℕ
 section_ahead p lie x d = do
   section ← slice_get p.sections x
   section_led_to section d (lie x)
 
--- The section after `x` in a body that runs in direction `d`. It is the section ahead of `x`, if
--- `x` is also ahead of it in the opposite direction.
+-- Returns the section ahead of `x` in direction `d`, if `x` is ahead of that section in the
+-- opposite direction. Otherwise returns `None`.
 abbrev pub mutual_section_ahead : PlantLists → (ℕ → Option Lie) → ℕ → Dir → Option ℕ
 mutual_section_ahead p lie x d = do
   y ← section_ahead p lie x d
   back ← section_ahead p lie y (opposite_direction d)
   then_some (back == x) y
 
--- Returns whether the section has a train in direction `d` that continues behind it.
-abbrev pub has_more_behind : Dir → Occupancy → Bool
-has_more_behind d Vacant = false
-has_more_behind d (Taken e tail head) = same_direction e d && not tail
-has_more_behind d Crash = false
+-- Returns whether a train in direction `d` is on the section and its tail isn't, so that it
+-- continues behind.
+abbrev pub train_in_dir_continues_behind : Dir → Occupancy → Bool
+train_in_dir_continues_behind d Vacant = false
+train_in_dir_continues_behind d (Taken e tail head) = same_direction e d && not tail
+train_in_dir_continues_behind d Crash = false
 
--- Returns whether the section has a train in direction `d` that continues ahead of it.
-abbrev pub has_more_ahead : Dir → Occupancy → Bool
-has_more_ahead d Vacant = false
-has_more_ahead d (Taken e tail head) = same_direction e d && not head
-has_more_ahead d Crash = false
+-- Returns whether a train in direction `d` is on the section and its head isn't, so that it
+-- continues ahead.
+abbrev pub train_in_dir_continues_ahead : Dir → Occupancy → Bool
+train_in_dir_continues_ahead d Vacant = false
+train_in_dir_continues_ahead d (Taken e tail head) = same_direction e d && not head
+train_in_dir_continues_ahead d Crash = false
 
 -- Returns whether the occupancy of `x` fits its neighbours. It is not `Crash`, and no point under a
 -- train is moving. Unless the train's head is at `x`, the next section of its body has a train in
@@ -64,8 +69,9 @@ occupancy_is_consistent p lie occupancy x (Some Vacant) = true
 occupancy_is_consistent p lie occupancy x (Some Crash) = false
 occupancy_is_consistent p lie occupancy x (Some (Taken d tail head)) =
     not (is_some_and (lie x) is_detected_moving)
-    && (head || is_some_and (mutual_section_ahead p lie x d) (λ y. is_some_and (occupancy y) (has_more_behind d)))
-    && (tail || is_some_and (mutual_section_ahead p lie x (opposite_direction d)) (λ y. is_some_and (occupancy y) (has_more_ahead d)))
+    && (head || is_some_and (mutual_section_ahead p lie x d) (λ y. is_some_and (occupancy y) (train_in_dir_continues_behind d)))
+    && (tail || is_some_and (mutual_section_ahead p lie x (opposite_direction d)) (λ y. is_some_and (occupancy y) (train_in_dir_continues_ahead d)))
 
+-- Returns whether the occupancy of each section, by the values of an image, fits its neighbours.
 abbrev pub is_wellformed : PlantLists → List ℕ → Bool
 is_wellformed p values = all_below (length p.sections) (λ x. occupancy_is_consistent p (detected_in_values p values) (occupancy_in_values p values) x (occupancy_in_values p values x))

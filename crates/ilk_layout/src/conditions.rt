@@ -9,14 +9,15 @@ use crate::values::{
     occupancy_value,
 };
 use crate::variable_numbers::{
-    board_var, commanded_var, detected_var, lock_var, mode_var, occupancy_var, rel_var, seen_var,
+    board_var, commanded_var, detected_var, lock_var, mode_var, occupancy_var, released_count_var,
+    seen_count_var,
 };
 use ilk_ir::Form;
 use ilk_plant::{Aspect, Hold, Lie, Listed, Mode, Plant, Position, point_number_at};
 use ilk_routes::lie_from_position;
 use std::alloc::{AllocError, Global};
 
-/// Returns the condition that route `r` is in `mode`.
+/// Returns a formula over the image: route `r` is in `mode`.
 pub fn mode_is(plant: &Plant, r: u32, mode: Mode) -> Form
     requires { r < length plant.now.routes }
     ensures { tree_of result ≡ conditions.mode_is r mode }
@@ -24,23 +25,24 @@ pub fn mode_is(plant: &Plant, r: u32, mode: Mode) -> Form
     Form::Is(mode_var(plant, r), mode_value(mode))
 }
 
-/// Returns the condition that `count` path sections of route `r` are seen.
-pub fn seen_is(plant: &Plant, r: u32, count: u8) -> Form
+/// Returns a formula over the image: `count` path sections of route `r` were seen occupied, in
+/// order.
+pub fn is_seen_count(plant: &Plant, r: u32, count: u8) -> Form
     requires { r < length plant.now.routes }
-    ensures { tree_of result ≡ conditions.seen_is r count }
+    ensures { tree_of result ≡ conditions.is_seen_count r count }
 {
-    Form::Is(seen_var(plant, r), count)
+    Form::Is(seen_count_var(plant, r), count)
 }
 
-/// Returns the condition that `count` path sections of route `r` are released.
-pub fn rel_is(plant: &Plant, r: u32, count: u8) -> Form
+/// Returns a formula over the image: `count` path sections of route `r` were released, in order.
+pub fn is_released_count(plant: &Plant, r: u32, count: u8) -> Form
     requires { r < length plant.now.routes }
-    ensures { tree_of result ≡ conditions.rel_is r count }
+    ensures { tree_of result ≡ conditions.is_released_count r count }
 {
-    Form::Is(rel_var(plant, r), count)
+    Form::Is(released_count_var(plant, r), count)
 }
 
-/// Returns the condition that point `n` is detected in position `lie`.
+/// Returns a formula over the image: point number `n` is detected in position `lie`.
 pub fn is_point_detected(plant: &Plant, n: u32, lie: Lie) -> Form
     requires { n < point_count plant.now }
     ensures { tree_of result ≡ conditions.is_point_detected plant.now n lie }
@@ -48,7 +50,7 @@ pub fn is_point_detected(plant: &Plant, n: u32, lie: Lie) -> Form
     Form::Is(detected_var(plant, n), detected_value(lie))
 }
 
-/// Returns the condition that point `n` is commanded to `position`.
+/// Returns a formula over the image: point number `n` is commanded to `position`.
 pub fn is_point_commanded(plant: &Plant, n: u32, position: Position) -> Form
     requires { n < point_count plant.now }
     ensures { tree_of result ≡ conditions.is_point_commanded plant.now n position }
@@ -56,15 +58,15 @@ pub fn is_point_commanded(plant: &Plant, n: u32, position: Position) -> Form
     Form::Is(commanded_var(plant, n), commanded_value(position))
 }
 
-/// Returns the condition that board `m` shows `aspect`.
-pub fn board_is(plant: &Plant, m: u32, aspect: Aspect) -> Form
+/// Returns a formula over the image: board `m` shows `aspect`.
+pub fn is_board_aspect(plant: &Plant, m: u32, aspect: Aspect) -> Form
     requires { m < length plant.now.boards }
-    ensures { tree_of result ≡ conditions.board_is plant.now m aspect }
+    ensures { tree_of result ≡ conditions.is_board_aspect plant.now m aspect }
 {
     Form::Is(board_var(plant, m), aspect_value(aspect))
 }
 
-/// Returns the condition that the lock of section `x` is `hold`.
+/// Returns a formula over the image: the lock of section `x` is `hold`.
 pub fn lock_is(plant: &Plant, x: u32, hold: Hold) -> Form
     requires { x < length plant.now.sections }
     ensures { tree_of result ≡ conditions.lock_is plant.now x hold }
@@ -72,7 +74,7 @@ pub fn lock_is(plant: &Plant, x: u32, hold: Hold) -> Form
     Form::Is(lock_var(plant, x), lock_value(hold))
 }
 
-/// Returns the condition that section `x` has this `occupancy`.
+/// Returns a formula over the image: section `x` has this `occupancy`.
 pub fn occupancy_is(plant: &Plant, x: u32, occupancy: Occupancy) -> Form
     requires { x < length plant.now.sections }
     ensures { tree_of result ≡ conditions.occupancy_is plant.now x occupancy }
@@ -87,7 +89,7 @@ pub fn negated(alloc: Global, form: Form) -> Result<Form, AllocError>
     Ok(Form::Not(Box::new(alloc, form)?))
 }
 
-/// Returns the condition that section `x` is vacant.
+/// Returns a formula over the image: section `x` is vacant.
 pub fn no_train_at(plant: &Plant, x: u32) -> Form
     requires { x < length plant.now.sections }
     ensures { tree_of result ≡ conditions.no_train_at plant.now x }
@@ -95,7 +97,8 @@ pub fn no_train_at(plant: &Plant, x: u32) -> Form
     occupancy_is(plant, x, Occupancy::Vacant)
 }
 
-/// Returns the condition that section `x` is not vacant. Fails only if memory runs out.
+/// Returns a formula over the image: section `x` has a train or a hazard. Fails only if memory runs
+/// out.
 pub fn train_at(alloc: Global, plant: &Plant, x: u32) -> Result<Form, AllocError>
     requires { x < length plant.now.sections }
     ensures { IfOk result (λ made. tree_of made ≡ conditions.train_at plant.now x) }
@@ -103,8 +106,8 @@ pub fn train_at(alloc: Global, plant: &Plant, x: u32) -> Result<Form, AllocError
     negated(alloc, no_train_at(plant, x))
 }
 
-/// Returns the condition that the point on section `x` is detected in position `lie`. It never
-/// holds if `x` has no point.
+/// Returns a formula over the image: the point on section `x` is detected in position `lie`. It
+/// never holds if `x` has no point.
 pub fn section_point_is_detected(plant: &Plant, x: u32, lie: Lie) -> Form
     ensures { tree_of result ≡ conditions.section_point_is_detected plant.now x lie }
 {
@@ -114,15 +117,16 @@ pub fn section_point_is_detected(plant: &Plant, x: u32, lie: Lie) -> Form
     }
 }
 
-/// Returns the condition that a listed point is detected in its listed position.
-pub fn listed_is_detected(plant: &Plant, listed: &Listed) -> Form
-    ensures { tree_of result ≡ conditions.listed_is_detected plant.now listed.now }
+/// Returns a formula over the image: the point of `listed` is detected in the position that a route
+/// lists for it.
+pub fn is_listed_point_detected(plant: &Plant, listed: &Listed) -> Form
+    ensures { tree_of result ≡ conditions.is_listed_point_detected plant.now listed.now }
 {
     section_point_is_detected(plant, listed.point, lie_from_position(listed.at))
 }
 
-/// Returns the condition that the point on section `x` is commanded to `position`. It never holds
-/// if `x` has no point.
+/// Returns a formula over the image: the point on section `x` is commanded to `position`. It never
+/// holds if `x` has no point.
 pub fn section_point_is_commanded(plant: &Plant, x: u32, position: Position) -> Form
     ensures { tree_of result ≡ conditions.section_point_is_commanded plant.now x position }
 {
@@ -132,9 +136,10 @@ pub fn section_point_is_commanded(plant: &Plant, x: u32, position: Position) -> 
     }
 }
 
-/// Returns the condition that a listed point is commanded to its listed position.
-pub fn listed_is_commanded(plant: &Plant, listed: &Listed) -> Form
-    ensures { tree_of result ≡ conditions.listed_is_commanded plant.now listed.now }
+/// Returns a formula over the image: the point of `listed` is commanded to the position that a
+/// route lists for it.
+pub fn is_listed_point_commanded(plant: &Plant, listed: &Listed) -> Form
+    ensures { tree_of result ≡ conditions.is_listed_point_commanded plant.now listed.now }
 {
     section_point_is_commanded(plant, listed.point, listed.at)
 }

@@ -1,8 +1,8 @@
 ghost use Rattle.std.specs.Prelude.{◌≡◌, ◌<◌, ◌+◌, IsTrue, Some, length, map, replicate, slice_index, IfOk};
 ghost use Rattle.std.specs.List.{range_with_len};
-ghost use Rattle.ilk_plant.specs.Shape.{HasShape, train_body_is_valid};
-ghost use Rattle.ilk_layout.specs.Occupancy.{occupancy_of};
-ghost use Rattle.ilk_layout.specs.Standing.{HasTrainAdded, occupancy_after_adding, is_before_or_after, is_vacant_occupancy, is_point_wrong_between, section_before};
+ghost use Rattle.ilk_plant.specs.Shape.{HasShape, has_nonempty_connected_body};
+ghost use Rattle.ilk_layout.specs.Occupancy.{occupancy_or_crash};
+ghost use Rattle.ilk_layout.specs.Standing.{AreOccupanciesAfterAdding, occupancy_after_adding_at_index, equals_before_or_after, is_vacant_occupancy, is_point_wrong_between, section_before_index};
 
 use crate::values::Occupancy;
 use ilk_base::Row;
@@ -15,15 +15,14 @@ fn is_vacant(occupancy: Occupancy) -> bool
     occupancy == Occupancy::Vacant
 }
 
-// Returns whether `before` or `after` is section `y`.
-fn is_before_or_after(y: u32, before: Option<u32>, after: Option<u32>) -> bool
-    ensures { result ≡ is_before_or_after y before after }
+fn equals_before_or_after(y: u32, before: Option<u32>, after: Option<u32>) -> bool
+    ensures { result ≡ equals_before_or_after y before after }
 {
     before == Some(y) || after == Some(y)
 }
 
-// Returns whether a body is `wrong` on the point on `x`, if `before` and `after` are next to `x` in
-// it.
+// Returns whether the point on `x` is wrong for a train with `before` and `after` next to `x` in
+// its body.
 fn is_point_wrong_between(
     plant: &Plant,
     s: &State,
@@ -38,16 +37,15 @@ fn is_point_wrong_between(
         Section::Linear { .. } => false,
         Section::Point { plus, minus, .. } => match detected_position(plant, s, x) {
             None => false,
-            Some(Lie::Plus) => is_before_or_after(minus, before, after),
-            Some(Lie::Minus) => is_before_or_after(plus, before, after),
+            Some(Lie::Plus) => equals_before_or_after(minus, before, after),
+            Some(Lie::Minus) => equals_before_or_after(plus, before, after),
             Some(Lie::Moving) => true,
         },
     }
 }
 
-// Returns the section before index `i` of a body, or `None` if there is none.
-fn section_before(body: &[u32], i: usize) -> Option<u32>
-    ensures { result ≡ section_before body.now i }
+fn section_before_index(body: &[u32], i: usize) -> Option<u32>
+    ensures { result ≡ section_before_index body.now i }
 {
     if i == 0 {
         None
@@ -56,8 +54,9 @@ fn section_before(body: &[u32], i: usize) -> Option<u32>
     }
 }
 
-// Returns the new occupancy of the section at index `i` of the train's body, if it was `before`.
-fn occupancy_after_adding(
+// Returns the occupancy of the section at index `i` of the train's body after the train is added,
+// if it was `before`.
+fn occupancy_after_adding_at_index(
     plant: &Plant,
     s: &State,
     train: &Train,
@@ -67,12 +66,13 @@ fn occupancy_after_adding(
     requires within { i < length train.now.body }
     requires known { slice_index train.now.body i < length plant.now.sections }
     ensures { result
-        ≡ occupancy_after_adding plant.now s.now train.now (slice_index train.now.body i) i before }
+        ≡ occupancy_after_adding_at_index plant.now s.now train.now (slice_index train.now.body i)
+        i before }
 {
     let body = train.body.as_slice();
     let next = body.get(i + 1).copied();
     if is_vacant(before)
-        && !is_point_wrong_between(plant, s, body[i], section_before(body, i), next)
+        && !is_point_wrong_between(plant, s, body[i], section_before_index(body, i), next)
     {
         Occupancy::Taken {
             dir: train.dir,
@@ -86,22 +86,21 @@ fn occupancy_after_adding(
 
 // Adds one train to the occupancies of its sections.
 fn put_train(plant: &Plant, s: &State, occupancies: &mut Row<Occupancy>, train: &Train)
-    requires body { IsTrue (train_body_is_valid plant.now train.now) }
+    requires body { IsTrue (has_nonempty_connected_body plant.now train.now) }
     requires sections { length occupancies.old ≡ length plant.now.sections }
-    ensures { HasTrainAdded plant.now s.now train.now train.now.body occupancies.old
+    ensures { AreOccupanciesAfterAdding plant.now s.now train.now train.now.body occupancies.old
         occupancies.new }
 {
     plant.prove_is_plant();
-    plant.prove_from_drafts();
+    plant.prove_sound_acyclic_drafts();
     let body = train.body.as_slice();
     for i in 0..body.len() {
         let x = body[i] as u64;
         let before = *occupancies.at(x);
-        *occupancies.at_mut(x) = occupancy_after_adding(plant, s, train, i, before);
+        *occupancies.at_mut(x) = occupancy_after_adding_at_index(plant, s, train, i, before);
     }
 }
 
-// Returns a row of `count` vacant sections.
 fn vacant(alloc: Global, count: u32) -> Result<Row<Occupancy>, AllocError>
     ensures { IfOk result (λ made. made ≡ replicate count Occupancy.Vacant) }
 {
@@ -122,7 +121,7 @@ pub(crate) fn occupancies(
     requires { HasShape plant.now s.now }
     ensures { IfOk result
         (λ made. made
-        ≡ map (occupancy_of plant.now s.now) (range_with_len 0 (length plant.now.sections))) }
+        ≡ map (occupancy_or_crash plant.now s.now) (range_with_len 0 (length plant.now.sections))) }
 {
     let mut made = vacant(alloc, plant.sections())?;
     for train in s.trains.as_slice() {

@@ -3,19 +3,20 @@ ghost use Rattle.ilk_layout.specs.Values as numbers;
 
 use ilk_plant::{Aspect, Dir, Hold, Lie, Mode, Position};
 
-/// The occupancy of a section.
+/// The occupancy of one section in an image: vacant, taken by one train, or a hazard.
 #[derive(Clone, Copy, PartialEq, Eq, Debug)]
 pub enum Occupancy {
-    /// No train is in the section.
+    /// No train is on the section.
     Vacant,
-    /// A train in direction `dir` is in the section. `tail` and `head` say whether its tail and its
+    /// A train in direction `dir` is on the section. `tail` and `head` say whether its tail and its
     /// head are there.
     Taken { dir: Dir, tail: bool, head: bool },
-    /// The section has a hazard.
+    /// The section has a hazard: two trains, or a train on a point that is moving or not set for
+    /// it.
     Crash,
 }
 
-/// Returns the value of `mode` in an image.
+/// Returns the number of a route's `mode` in an image.
 pub fn mode_value(mode: Mode) -> u8
     ensures { result ≡ numbers.mode_value mode }
 {
@@ -28,7 +29,7 @@ pub fn mode_value(mode: Mode) -> u8
     }
 }
 
-/// Returns the value of a detected position in an image.
+/// Returns the number of a point's detected position `lie` in an image.
 pub fn detected_value(lie: Lie) -> u8
     ensures { result ≡ numbers.detected_value lie }
 {
@@ -39,7 +40,7 @@ pub fn detected_value(lie: Lie) -> u8
     }
 }
 
-/// Returns the value of a commanded position in an image.
+/// Returns the number of a point's commanded `position` in an image.
 pub fn commanded_value(position: Position) -> u8
     ensures { result ≡ numbers.commanded_value position }
 {
@@ -49,7 +50,7 @@ pub fn commanded_value(position: Position) -> u8
     }
 }
 
-/// Returns the value of a board's aspect in an image.
+/// Returns the number of a board's `aspect` in an image.
 pub fn aspect_value(aspect: Aspect) -> u8
     ensures { result ≡ numbers.aspect_value aspect }
 {
@@ -59,7 +60,7 @@ pub fn aspect_value(aspect: Aspect) -> u8
     }
 }
 
-/// Returns the value of a lock in an image.
+/// Returns the number of a section's lock `hold` in an image.
 pub fn lock_value(hold: Hold) -> u8
     ensures { result ≡ numbers.lock_value hold }
 {
@@ -70,7 +71,7 @@ pub fn lock_value(hold: Hold) -> u8
     }
 }
 
-/// Returns the value of `occupancy` in an image.
+/// Returns the number of a section's `occupancy` in an image.
 pub fn occupancy_value(occupancy: Occupancy) -> u8
     ensures { result ≡ numbers.occupancy_value occupancy }
 {

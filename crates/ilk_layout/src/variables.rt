@@ -8,7 +8,6 @@ use ilk_ir::Ranges;
 use ilk_plant::{Plant, Route};
 use std::alloc::{AllocError, Global};
 
-// Adds `range` `count` times.
 fn push_equal(ranges: &mut Ranges, count: u32, range: u8) -> Result<(), AllocError>
     ensures { OnOk result (ranges.new ≡ ranges.old ++ replicate count range) }
 {
@@ -39,7 +38,6 @@ fn push_routes(ranges: &mut Ranges, plant: &Plant) -> Result<(), AllocError>
     Ok(())
 }
 
-// Adds the ranges of `count` points.
 fn push_points(ranges: &mut Ranges, count: u32) -> Result<(), AllocError>
     ensures { OnOk result (ranges.new ≡ ranges.old ++ points_ranges count) }
 {
@@ -50,8 +48,8 @@ fn push_points(ranges: &mut Ranges, count: u32) -> Result<(), AllocError>
     Ok(())
 }
 
-/// Returns the number of values of each variable of the plant, in order. Fails only if memory runs
-/// out.
+/// Returns how many values each variable of the plant has, in the variables' order. Fails only if
+/// memory runs out.
 pub fn ranges(alloc: Global, plant: &Plant) -> Result<Ranges, AllocError>
     ensures { IfOk result (λ ranges. ranges ≡ ranges_of_plant plant.now) }
 {

@@ -1,4 +1,3 @@
--- The working clause and its hints, through the resolutions with reasons.
 use Rattle.std.proofs.Common.{◌≡◌, ℕ, ◌+◌, suc, inl, inr, true, false, ◌&&◌, not, eqb, List, [], ◌∷◌, refl, sym, ap, ◌∙◌, subst, Option, Some, add-one}
 use Rattle.std.specs.List.{filter}
 use Rattle.std.specs.Prelude.{slice_get}

@@ -1,10 +1,9 @@
--- Conflicts on small trails.
 use Rattle.std.proofs.Common.{◌≡◌, List, [], ◌∷◌, true, false, refl, Some, None}
 use Rattle.ilk_cnf.specs.Literal.{Literal, positive_lit, negative_lit}
 use Rattle.ilk_log.specs.Derived.{is_derived}
 use Rattle.ilk_trail.specs.declared.entry.Entry.{Entry}
 use Rattle.ilk_learn.specs.Learning.{learned_step}
-use Rattle.ilk_learn.specs.Asserting.{back_level, is_asserting}
+use Rattle.ilk_learn.specs.Asserting.{back_level, is_false_in_asserting_order}
 
 -- 1 is decided at level 1 and 2 at level 2; 3 and 4 follow from 2, and clause 2 is false.
 abbrev clauses : List (List Literal)
@@ -23,7 +22,7 @@ taught = refl
 shown : is_derived 4 clauses (learned_step clauses entries 2) ≡ true
 shown = refl
 
-asserts : is_asserting entries (learned_step clauses entries 2).clause ≡ true
+asserts : is_false_in_asserting_order entries (learned_step clauses entries 2).clause ≡ true
 asserts = refl
 
 back : back_level entries (learned_step clauses entries 2).clause ≡ 1

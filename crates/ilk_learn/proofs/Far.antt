@@ -1,4 +1,3 @@
--- The progress of the walk, measured by the number of entries left.
 use Rattle.std.proofs.Common.{◌≡◌, ℕ, suc, inl, inr, Bool, true, false, ◌&&◌, not, eqb, List, [], ◌∷◌, refl, sym, ap, ◌∙◌, subst, Some, None, length, take, reverse}
 use Rattle.std.specs.Prelude.{nat_lt, slice_get}
 use Rattle.std.specs.List.{filter}
@@ -12,8 +11,8 @@ use Rattle.ilk_trail.specs.Trail.{TrailList, level_of}
 use Rattle.ilk_trail.specs.Laws.{IsTrail, lits_of, is_set}
 use Rattle.ilk_learn.specs.Resolvent.{without_variable}
 use Rattle.ilk_learn.specs.Levels.{is_current, with_highest_first}
-use Rattle.ilk_learn.specs.Learning.{has_one_current, is_implication_point, in_asserting_order, resolved_with_reason, resolved_to_point, learned_step}
-use Rattle.ilk_learn.specs.Hand.{WorkingClauseHoldsStep, HasWalkedTo, IsConflict, all_set, conflict_walk_start}
+use Rattle.ilk_learn.specs.Learning.{has_one_current, has_var_and_one_current, clause_in_asserting_order, resolved_with_reason_if_needed, resolved_to_point, learned_step}
+use Rattle.ilk_learn.specs.Hand.{WorkingClauseHoldsStep, ConflictWalkEndedAt, IsConflictOfCurrentLevel, are_in_range_and_set, step_from_conflict_clause}
 use Rattle.ilk_learn.specs.declared.hand.WorkingClause.{WorkingClause}
 use Rattle.ilk_learn.proofs.Members.{kept-from}
 use Rattle.ilk_learn.proofs.Highest.{all-from, lone-passes}
@@ -23,22 +22,21 @@ use Rattle.ilk_learn.proofs.Laws.{has-point, walking-start}
 use Rattle.ilk_learn.proofs.Holding.{same-level}
 use Rattle.ilk_cnf.proofs.SameLiterals.{same-lit, has-var, is_lit_over-clause}
 
--- The working clause with `i` entries left.
 pub record Far (f : Formula) (t : TrailList) (h : WorkingClause) (c i : ℕ) : Type 0 where
   pub step : Step
   pub walking : Walking f.vars f.clauses t.entries (reverse (take i t.entries)) step
   pub keeps : WorkingClauseHoldsStep t h step
   pub goes : resolved_to_point f.clauses t.entries (reverse (take i t.entries)) step ≡ learned_step f.clauses t.entries c
 
-pub far-start : (f : Formula) (t : TrailList) (h : WorkingClause) (c : ℕ) → IsFormula f → IsTrail t → IsConflict f t c → WorkingClauseHoldsStep t h (conflict_walk_start f.clauses c) → Far f t h c (length t.entries)
+pub far-start : (f : Formula) (t : TrailList) (h : WorkingClause) (c : ℕ) → IsFormula f → IsTrail t → IsConflictOfCurrentLevel f t c → WorkingClauseHoldsStep t h (step_from_conflict_clause f.clauses c) → Far f t h c (length t.entries)
 far-start f t h c form trail k keeps =
     let w = walking-start f t c form trail k.reasons k.conflict k.below in
-    let P : List Entry → Type 0 = λ es. Walking f.vars f.clauses t.entries (reverse es) (conflict_walk_start f.clauses c) in
+    let P : List Entry → Type 0 = λ es. Walking f.vars f.clauses t.entries (reverse es) (step_from_conflict_clause f.clauses c) in
     record {
-      step = conflict_walk_start f.clauses c;
+      step = step_from_conflict_clause f.clauses c;
       walking = subst P (sym (take-length t.entries)) w;
       keeps = keeps;
-      goes = ap (λ (es : List Entry). resolved_to_point f.clauses t.entries (reverse es) (conflict_walk_start f.clauses c)) (take-length t.entries);
+      goes = ap (λ (es : List Entry). resolved_to_point f.clauses t.entries (reverse es) (step_from_conflict_clause f.clauses c)) (take-length t.entries);
     }
 
 pub far-walking : (f : Formula) (t : TrailList) (h : WorkingClause) (c n i : ℕ) (e : Entry) → (k : Far f t h c n) → n ≡ suc i → slice_get t.entries i ≡ Some e → Walking f.vars f.clauses t.entries (e ∷ reverse (take i t.entries)) k.step
@@ -53,10 +51,10 @@ entry-current f t h c n i e trail k q at =
 
 pub far-next : (f : Formula) (t : TrailList) (h new : WorkingClause) (c n i : ℕ) (e : Entry) → IsFormula f →
     (k : Far f t h c n) → n ≡ suc i → slice_get t.entries i ≡ Some e →
-    is_implication_point t.entries e.lit k.step.clause ≡ false → WorkingClauseHoldsStep t new (resolved_with_reason f.clauses e k.step) →
+    has_var_and_one_current t.entries e.lit k.step.clause ≡ false → WorkingClauseHoldsStep t new (resolved_with_reason_if_needed f.clauses e k.step) →
     Far f t new c i
 far-next f t h new c n i e form k q at p keeps = record {
-  step = resolved_with_reason f.clauses e k.step;
+  step = resolved_with_reason_if_needed f.clauses e k.step;
   walking = walking-next f.vars f.clauses t.entries e (reverse (take i t.entries)) k.step (record { within = form.within; differ = form.differ }) (far-walking f t h c n i e k q at) p;
   keeps = keeps;
   goes = sym (ap (λ (es : List Entry). resolved_to_point f.clauses t.entries es k.step) (ap (λ (m : ℕ). reverse (take m t.entries)) q ∙ reverse-one-more t.entries i e at) ∙ rw p refl) ∙ k.goes;
@@ -72,16 +70,16 @@ filter-same p q (m ∷ c) f =
       | inr t ↦ (let u : p m ≡ false = e ∙ t in rw (t, u) r)
     ]
 
-lower-set : (f : Formula) (t : TrailList) (h : WorkingClause) (es : List Entry) (s : Step) → Walking f.vars f.clauses t.entries es s → WorkingClauseHoldsStep t h s → all_set t h.lower.items ≡ true
+lower-set : (f : Formula) (t : TrailList) (h : WorkingClause) (es : List Entry) (s : Step) → Walking f.vars f.clauses t.entries es s → WorkingClauseHoldsStep t h s → are_in_range_and_set t h.lower.items ≡ true
 lower-set f t h es s w k =
     let q : Literal → Bool = λ m. not (is_current t.entries m) in
-    ap (all_set t) k.holds.rest
+    ap (are_in_range_and_set t) k.holds.rest
     ∙ all-from (λ (m : Literal). is_lit_over t.vars m && is_set t.entries m.var) (filter q s.clause) (λ m a. (let b = (kept-from q s.clause m a).0 in
     and_from (is_lit_over t.vars m) (is_set t.entries m.var) (is_lit_over-clause t.vars s.clause m k.holds.within b) (has-var (negated_lit m) (lits_of t.entries) (w.within (negated_lit m) (w.hand.denied m b)))))
 
 pub far-point : (f : Formula) (t : TrailList) (h : WorkingClause) (c n i : ℕ) (e : Entry) → IsTrail t →
     (k : Far f t h c n) → n ≡ suc i → slice_get t.entries i ≡ Some e →
-    is_implication_point t.entries e.lit k.step.clause ≡ true → HasWalkedTo t f.clauses c h (Some e.lit)
+    has_var_and_one_current t.entries e.lit k.step.clause ≡ true → ConflictWalkEndedAt t f.clauses c h (Some e.lit)
 far-point f t h c n i e trail k q at p =
     let es = reverse (take i t.entries) in
     let s = k.step in
@@ -91,7 +89,7 @@ far-point f t h c n i e trail k q at p =
     let has = has-point f.vars f.clauses t.entries e es s w parts.0 in
     let current = entry-current f t h c n i e trail k q at in
     let lower : without_variable e.lit.var s.clause ≡ h.lower.items = filter-same (λ m. not (eqb m.var e.lit.var)) (λ m. not (is_current t.entries m)) s.clause (λ m a. ap not (agree m a has current one.1)) ∙ sym k.keeps.holds.rest in
-    let found : resolved_to_point f.clauses t.entries (e ∷ es) s ≡ record s { clause = in_asserting_order t.entries e.lit s.clause } = rw p refl in
+    let found : resolved_to_point f.clauses t.entries (e ∷ es) s ≡ record s { clause = clause_in_asserting_order t.entries e.lit s.clause } = rw p refl in
     record {
       set = lower-set f t h (e ∷ es) s w k.keeps;
       is = sym k.goes
@@ -113,7 +111,7 @@ far-point f t h c n i e trail k q at p =
       ])
     ]
 
-pub far-end : (f : Formula) (t : TrailList) (h : WorkingClause) (c : ℕ) → Far f t h c 0 → HasWalkedTo t f.clauses c h None
+pub far-end : (f : Formula) (t : TrailList) (h : WorkingClause) (c : ℕ) → Far f t h c 0 → ConflictWalkEndedAt t f.clauses c h None
 far-end f t h c k = record {
   set = lower-set f t h [] k.step k.walking k.keeps;
   is = sym k.goes ∙ ap (λ (hs : List ℕ). let r : Step = record { clause = []; hints = hs } in r) k.keeps.hinted;

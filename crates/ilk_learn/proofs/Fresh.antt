@@ -10,7 +10,7 @@ use Rattle.ilk_trail.specs.declared.entry.Entry.{Entry}
 use Rattle.ilk_trail.specs.Trail.{entries_up_to, level_of}
 use Rattle.ilk_trail.specs.Laws.{lits_of}
 use Rattle.ilk_learn.specs.Levels.{level_at, is_current, highest_level}
-use Rattle.ilk_learn.specs.Asserting.{back_level, has_first_at_level, is_asserting}
+use Rattle.ilk_learn.specs.Asserting.{back_level, has_first_at_level, is_false_in_asserting_order}
 use Rattle.ilk_learn.proofs.Members.{var-of, kept-from}
 use Rattle.ilk_learn.proofs.Derived.{false-at, negated_lit-of}
 use Rattle.ilk_learn.proofs.Highest.{below-highest}
@@ -67,7 +67,8 @@ not-entries_up_to k es l d h =
           omega (arith, level, same, h, f.4))
     ]
 
-pub fresh : (clauses : List (List Literal)) (es : List Entry) (c : List Literal) → has_distinct_vars (lits_of es) ≡ true → is_asserting es c ≡ true → is_saturated clauses (lits_of (entries_up_to (back_level es c) es)) ≡ true → IsEmpowering clauses c
+pub fresh : (clauses : List (List Literal)) (es : List Entry) (c : List Literal) → has_distinct_vars (lits_of es) ≡ true → is_false_in_asserting_order es c ≡ true → is_saturated clauses (lits_of (entries_up_to (back_level es c) es)) ≡
+    true → IsEmpowering clauses c
 fresh clauses es [] d a k = absurd (cc)
 fresh clauses es (l ∷ c) d a k =
     let top = highest_level es c in

@@ -1,4 +1,3 @@
--- The literals of a clause by their levels.
 use Rattle.std.proofs.Common.{◌≡◌, ℕ, ◌≤◌, inl, inr, Bool, true, false, not, eqb, List, [], ◌∷◌, ◌++◌, refl, sym, ap, ◌∙◌, Option, Some, None, arith, length}
 use Rattle.std.specs.List.{filter, find, list_all, list_any}
 use Rattle.std.specs.Prelude.{nat_le}

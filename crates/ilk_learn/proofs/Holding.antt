@@ -1,4 +1,3 @@
--- Updates of the working clause's fields.
 use Rattle.std.proofs.Common.{◌≡◌, ℕ, ◌+◌, ◌-◌, ◌^◌, ◌<◌, ◌≤◌, zero, suc, inl, inr, Bool, true, false, ◌&&◌, ◌||◌, not, eqb, List, [], ◌∷◌, ◌++◌, refl, sym, ap, ◌∙◌, subst, Option, Some, arith, length, take, set, get_or, add-one, option_map, length-append, append-nil}
 use Rattle.std.specs.Prelude.{slice_get, unwrap_or}
 use Rattle.std.specs.List.{filter}
@@ -23,7 +22,7 @@ use Rattle.ilk_trail.proofs.Entries.{found}
 use Rattle.ilk_trail.proofs.Literals.{is_clause_over-push, count_of_vars}
 use Rattle.ilk_learn.specs.Resolvent.{without_variable, with_lit_of_new_var, with_lits_of_new_vars}
 use Rattle.ilk_learn.specs.Levels.{level_at, is_current}
-use Rattle.ilk_learn.specs.Hand.{FieldsHoldClause, all_set}
+use Rattle.ilk_learn.specs.Hand.{FieldsHoldClause, are_in_range_and_set}
 use Rattle.ilk_learn.proofs.Members.{differ-kept, within-kept, kept-at, none-without, var-push}
 use Rattle.ilk_learn.proofs.Derived.{false-at}
 use Rattle.ilk_learn.proofs.Highest.{all-from}
@@ -111,7 +110,7 @@ joined-more k d i x h = ap (λ (n : ℕ). with_lits_of_new_vars k (take n d)) (a
 pub joined-whole : (k d : List Literal) (n : ℕ) → n ≡ length d → with_lits_of_new_vars k (take n d) ≡ with_lits_of_new_vars k d
 joined-whole k d n e = ap (λ (m : ℕ). with_lits_of_new_vars k (take m d)) e ∙ ap (with_lits_of_new_vars k) (take-length d)
 
-pub set-at : (t : TrailList) (d : List Literal) (i : ℕ) (l : Literal) → all_set t d ≡ true → slice_get d i ≡ Some l → (is_lit_over t.vars l ≡ true) × (is_set t.entries l.var ≡ true)
+pub set-at : (t : TrailList) (d : List Literal) (i : ℕ) (l : Literal) → are_in_range_and_set t d ≡ true → slice_get d i ≡ Some l → (is_lit_over t.vars l ≡ true) × (is_set t.entries l.var ≡ true)
 set-at t d i l h at = and_parts (is_lit_over t.vars l) (is_set t.entries l.var) (list_all-slice_get (λ (m : Literal). is_lit_over t.vars m && is_set t.entries m.var) d i l h at)
 
 pub same-level : (es : List Entry) (l m : Literal) → l.var ≡ m.var → is_current es l ≡ is_current es m
@@ -185,7 +184,7 @@ holds-drop t marks current lower c l h w k u =
 pub reason-known : (f : Formula) (t : TrailList) (v r : ℕ) → IsFormula f → f.vars ≡ t.vars →
     HasReasons f.clauses t.entries → is_set t.entries v ≡ true →
     option_map (λ (e : Entry). e.reason) (entry_of t.entries v) ≡ Some (Some r) →
-    (r < length f.clauses) × (all_set t (nth_clause_or_empty f.clauses r) ≡ true)
+    (r < length f.clauses) × (are_in_range_and_set t (nth_clause_or_empty f.clauses r) ≡ true)
 reason-known f t v r form same reasons set h =
     let x = found t.entries v set in
     let why : x.entry.reason ≡ Some r = same_Some x.entry.reason (Some r) (sym (ap (option_map (λ (e : Entry). e.reason)) x.first) ∙ h) in

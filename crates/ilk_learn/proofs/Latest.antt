@@ -1,4 +1,3 @@
--- The entries of a trail, latest first.
 use Rattle.std.proofs.Common.{◌≡◌, ℕ, ◌≤◌, zero, suc, inl, inr, Bool, true, false, ◌||◌, not, eqb, List, [], ◌∷◌, ◌++◌, refl, sym, ap, ◌∙◌, subst, Some, arith, length, take, reverse}
 use Rattle.std.specs.List.{slice_get}
 use Rattle.std.proofs.Math.Seq.{take-length}
@@ -9,12 +8,12 @@ use Rattle.ilk_base.proofs.Lists.{item_at}
 use Rattle.ilk_cnf.specs.Literal.{Literal, negated_lit, same_lit, has_lit, has_var, has_distinct_vars}
 use Rattle.ilk_log.specs.Propagation.{is_falsified}
 use Rattle.ilk_log.specs.Fresh.{other_lits}
-use Rattle.ilk_watches.specs.Reasons.{nth_clause_or_empty, is_reason, HasReasons}
+use Rattle.ilk_watches.specs.Reasons.{nth_clause_or_empty, clause_forces_lit, HasReasons}
 use Rattle.ilk_trail.specs.declared.entry.Entry.{Entry}
-use Rattle.ilk_trail.specs.Trail.{TrailList, entry_of, last_level, level_of}
-use Rattle.ilk_trail.specs.Laws.{IsTrail, lits_of, is_next_level, has_rising_levels}
+use Rattle.ilk_trail.specs.Trail.{TrailList, entry_of, last_level_or, level_of}
+use Rattle.ilk_trail.specs.Laws.{IsTrail, lits_of, may_follow_level, each_may_follow_level}
 use Rattle.ilk_trail.proofs.Entries.{lits_of-push, found, set-at}
-use Rattle.ilk_trail.proofs.Levels.{last_level-push, has_rising_levels-front, next-level}
+use Rattle.ilk_trail.proofs.Levels.{last_level_or-push, each_may_follow_level-front, next-level}
 use Rattle.ilk_trail.proofs.Literals.{has_distinct_vars-front}
 use Rattle.ilk_learn.specs.Levels.{level_at}
 use Rattle.ilk_learn.proofs.Derived.{false-from, false-at}
@@ -24,11 +23,10 @@ abbrev pub top_level : List Entry → ℕ
 top_level [] = 0
 top_level (e ∷ es) = e.level
 
--- Facts about an entry of the trail `all`, and those before it.
 pub record IsLatest (clauses : List (List Literal)) (all : List Entry) (e : Entry) (es : List Entry) : Type 0 where
-  pub forced : (r : ℕ) → e.reason ≡ Some r → is_reason clauses (lits_of es) e.lit r ≡ true
+  pub forced : (r : ℕ) → e.reason ≡ Some r → clause_forces_lit clauses (lits_of es) e.lit r ≡ true
   pub unset : has_var e.lit.var (lits_of es) ≡ false
-  pub next : is_next_level (top_level es) e ≡ true
+  pub next : may_follow_level (top_level es) e ≡ true
   pub level : level_at all e.lit ≡ e.level
 
 abbrev pub Latest : List (List Literal) → List Entry → List Entry → Type 0
@@ -82,11 +80,11 @@ take-one-more (x ∷ es) (suc n) e h = ap (λ ys. x ∷ ys) (take-one-more es n 
 pub reverse-one-more : {X : Type 0} (es : List X) (n : ℕ) (e : X) → slice_get es n ≡ Some e → reverse (take (suc n) es) ≡ e ∷ reverse (take n es)
 reverse-one-more es n e h = ap reverse (take-one-more es n e h) ∙ reverse-append (take n es) (e ∷ [])
 
-pub top-reverse : (es : List Entry) (n : ℕ) → n ≤ length es → top_level (reverse (take n es)) ≡ last_level 0 (take n es)
+pub top-reverse : (es : List Entry) (n : ℕ) → n ≤ length es → top_level (reverse (take n es)) ≡ last_level_or 0 (take n es)
 top-reverse es zero h = refl
 top-reverse es (suc n) h =
     let x = item_at es n (omega arith) in
-    ap top_level (reverse-one-more es n x.0 x.1) ∙ sym (last_level-push 0 (take n es) x.0) ∙ ap (last_level 0) (sym (take-one-more es n x.0 x.1))
+    ap top_level (reverse-one-more es n x.0 x.1) ∙ sym (last_level_or-push 0 (take n es) x.0) ∙ ap (last_level_or 0) (sym (take-one-more es n x.0 x.1))
 
 differ-front : (es : List Entry) (n : ℕ) → has_distinct_vars (lits_of es) ≡ true → has_distinct_vars (lits_of (take n es)) ≡ true
 differ-front es zero h = refl
@@ -105,12 +103,12 @@ differ-front (e ∷ es) (suc n) h =
         let p = or_parts (eqb e.lit.var v) (has_var v (lits_of es)) h in
         or_from (eqb e.lit.var v) (has_var v (lits_of (take n es))) p.0 (var-front es n v p.1)
 
-has_rising_levels-take : (k : ℕ) (es : List Entry) (n : ℕ) → has_rising_levels k es ≡ true → has_rising_levels k (take n es) ≡ true
-has_rising_levels-take k es zero h = refl
-has_rising_levels-take k [] (suc n) h = refl
-has_rising_levels-take k (e ∷ es) (suc n) h =
-    let p = and_parts (is_next_level k e) (has_rising_levels e.level es) h in
-    and_from (is_next_level k e) (has_rising_levels e.level (take n es)) p.0 (has_rising_levels-take e.level es n p.1)
+each_may_follow_level-take : (k : ℕ) (es : List Entry) (n : ℕ) → each_may_follow_level k es ≡ true → each_may_follow_level k (take n es) ≡ true
+each_may_follow_level-take k es zero h = refl
+each_may_follow_level-take k [] (suc n) h = refl
+each_may_follow_level-take k (e ∷ es) (suc n) h =
+    let p = and_parts (may_follow_level k e) (each_may_follow_level e.level es) h in
+    and_from (may_follow_level k e) (each_may_follow_level e.level (take n es)) p.0 (each_may_follow_level-take e.level es n p.1)
 
 one-place : (es : List Entry) (i j : ℕ) (x y : Entry) → has_distinct_vars (lits_of es) ≡ true → slice_get es i ≡ Some x → slice_get es j ≡ Some y → x.lit.var ≡ y.lit.var → x ≡ y
 one-place [] i j x y d h k e = absurd (cc)
@@ -135,7 +133,7 @@ entry-at es i e d h =
 pub level-entry : (es : List Entry) (i : ℕ) (e : Entry) → has_distinct_vars (lits_of es) ≡ true → slice_get es i ≡ Some e → level_at es e.lit ≡ e.level
 level-entry es i e d h = rw (entry-at es i e d h) refl
 
-reason-reverse : (clauses : List (List Literal)) (es : List Entry) (l : Literal) (r : ℕ) → is_reason clauses (lits_of es) l r ≡ true → is_reason clauses (lits_of (reverse es)) l r ≡ true
+reason-reverse : (clauses : List (List Literal)) (es : List Entry) (l : Literal) (r : ℕ) → clause_forces_lit clauses (lits_of es) l r ≡ true → clause_forces_lit clauses (lits_of (reverse es)) l r ≡ true
 reason-reverse clauses es l r h =
     let d = nth_clause_or_empty clauses r in
     let p = and_parts (has_lit l d) (is_falsified (lits_of es) (other_lits l d)) h in
@@ -149,11 +147,11 @@ latest-take clauses t (suc n) r k h =
     let e = x.0 in
     let differ : has_distinct_vars (lits_of (take n es ++ e ∷ [])) ≡ true = ap (λ (ys : List Entry). has_distinct_vars (lits_of ys)) (sym (take-one-more es n e x.1)) ∙ differ-front es (suc n) k.once in
     let apart = has_distinct_vars-front (lits_of (take n es)) e.lit (ap has_distinct_vars (sym (lits_of-push (take n es) e)) ∙ differ) in
-    let climbing : has_rising_levels 0 (take n es ++ e ∷ []) ≡ true = ap (has_rising_levels 0) (sym (take-one-more es n e x.1)) ∙ has_rising_levels-take 0 es (suc n) k.climbing in
+    let climbing : each_may_follow_level 0 (take n es ++ e ∷ []) ≡ true = ap (each_may_follow_level 0) (sym (take-one-more es n e x.1)) ∙ each_may_follow_level-take 0 es (suc n) k.climbing in
     let here : IsLatest clauses es e (reverse (take n es)) = record {
       forced = λ c q. reason-reverse clauses (take n es) e.lit c (r n e c x.1 q);
       unset = var-reverse e.lit.var (take n es) ∙ apart.1;
-      next = ap (λ (l : ℕ). is_next_level l e) (top-reverse es n (omega arith)) ∙ (has_rising_levels-front 0 (take n es) e climbing).1;
+      next = ap (λ (l : ℕ). may_follow_level l e) (top-reverse es n (omega arith)) ∙ (each_may_follow_level-front 0 (take n es) e climbing).1;
       level = level-entry es n e k.once x.1;
     } in
     let P : List Entry → Type 0 = λ ys. Latest clauses es ys in
@@ -165,4 +163,4 @@ latest clauses t r k =
     subst P (take-length t.entries) (latest-take clauses t (length t.entries) r k (omega arith))
 
 pub top-is : (es : List Entry) → top_level (reverse es) ≡ level_of es
-top-is es = ap (λ (ys : List Entry). top_level (reverse ys)) (sym (take-length es)) ∙ top-reverse es (length es) (omega arith) ∙ ap (last_level 0) (take-length es)
+top-is es = ap (λ (ys : List Entry). top_level (reverse ys)) (sym (take-length es)) ∙ top-reverse es (length es) (omega arith) ∙ ap (last_level_or 0) (take-length es)

@@ -1,4 +1,3 @@
--- Properties of learned clauses.
 use Rattle.std.proofs.Common.{◌≡◌, ◌⊎◌, ℕ, ◌+◌, ◌-◌, ◌<◌, ◌≤◌, inl, inr, Bool, true, false, ◌&&◌, not, eqb, List, [], ◌∷◌, refl, sym, ap, ◌∙◌, arith, length, reverse}
 use Rattle.std.specs.Prelude.{nat_lt}
 use Rattle.std.specs.List.{list_any, filter}
@@ -17,8 +16,8 @@ use Rattle.ilk_trail.specs.Laws.{IsTrail, lits_of}
 use Rattle.ilk_cnf.proofs.Gates.{negated_lit-negated_lit}
 use Rattle.ilk_learn.specs.Resolvent.{without_variable}
 use Rattle.ilk_learn.specs.Levels.{level_at, is_current, highest_level, with_highest_first}
-use Rattle.ilk_learn.specs.Learning.{has_one_current, in_asserting_order, learned_step}
-use Rattle.ilk_learn.specs.Asserting.{has_first_at_level, is_asserting}
+use Rattle.ilk_learn.specs.Learning.{has_one_current, clause_in_asserting_order, learned_step}
+use Rattle.ilk_learn.specs.Asserting.{has_first_at_level, is_false_in_asserting_order}
 use Rattle.ilk_learn.proofs.Members.{var-of, no-var, same-var, differ-kept, from-without, in-without}
 use Rattle.ilk_learn.proofs.Derived.{false-from, false-at, in_hand-start, in_hand-derived}
 use Rattle.ilk_learn.proofs.Highest.{highest-below, with_highest_first-from, with_highest_first-has, with_highest_first-differ, with_highest_first-begins, lone-passes}
@@ -36,14 +35,14 @@ has-point n clauses all e es s w h =
       | inr y ↦ absurd (no-var (lits_of es) (negated_lit x.0) (ap (λ (v : ℕ). has_var v (lits_of es)) x.1 ∙ w.latest.0.unset) y)
     ]
 
-point-from : (all : List Entry) (e : Entry) (c : List Literal) (m : Literal) → has_lit (negated_lit e.lit) c ≡ true → has_lit m (in_asserting_order all e.lit c) ≡ true → has_lit m c ≡ true
+point-from : (all : List Entry) (e : Entry) (c : List Literal) (m : Literal) → has_lit (negated_lit e.lit) c ≡ true → has_lit m (clause_in_asserting_order all e.lit c) ≡ true → has_lit m c ≡ true
 point-from all e c m p h =
     elim (or_cases (same_lit m (negated_lit e.lit)) (has_lit m (with_highest_first all (without_variable e.lit.var c))) h) [
       | inl x ↦ ap (λ (l : Literal). has_lit l c) (lit-is m (negated_lit e.lit) x) ∙ p
       | inr x ↦ (from-without e.lit.var c m (with_highest_first-from all (without_variable e.lit.var c) m x)).0
     ]
 
-point-has : (all : List Entry) (e : Entry) (c : List Literal) (m : Literal) → has_distinct_vars c ≡ true → has_lit (negated_lit e.lit) c ≡ true → has_lit m c ≡ true → has_lit m (in_asserting_order all e.lit c) ≡ true
+point-has : (all : List Entry) (e : Entry) (c : List Literal) (m : Literal) → has_distinct_vars c ≡ true → has_lit (negated_lit e.lit) c ≡ true → has_lit m c ≡ true → has_lit m (clause_in_asserting_order all e.lit c) ≡ true
 point-has all e c m d p h =
     let rest = with_highest_first all (without_variable e.lit.var c) in
     elim (cases_eq m.var e.lit.var) [
@@ -51,7 +50,7 @@ point-has all e c m d p h =
       | inr v ↦ or_right (same_lit m (negated_lit e.lit)) (has_lit m rest) (with_highest_first-has all (without_variable e.lit.var c) m (differ-kept (λ l. not (eqb l.var e.lit.var)) c d) (in-without e.lit.var c m h v))
     ]
 
-point-differ : (all : List Entry) (e : Entry) (c : List Literal) → has_distinct_vars c ≡ true → has_distinct_vars (in_asserting_order all e.lit c) ≡ true
+point-differ : (all : List Entry) (e : Entry) (c : List Literal) → has_distinct_vars c ≡ true → has_distinct_vars (clause_in_asserting_order all e.lit c) ≡ true
 point-differ all e c d =
     let rest = with_highest_first all (without_variable e.lit.var c) in
     let apart : has_var e.lit.var rest ≡ false = elim (cases_Bool (has_var e.lit.var rest)) [
@@ -123,7 +122,7 @@ point-derived n clauses all s a =
     let p = and_parts (has_var e.lit.var c) (has_one_current all c) a.point in
     let has = has-point n clauses all e a.before a.step a.walking p.0 in
     ap (is_derived n clauses) a.is
-    ∙ in_hand-derived n clauses (e ∷ a.before) a.step (in_asserting_order all e.lit c) a.walking.hand
+    ∙ in_hand-derived n clauses (e ∷ a.before) a.step (clause_in_asserting_order all e.lit c) a.walking.hand
     (λ m h. point-from all e c m has h) (λ m h. point-has all e c m a.walking.hand.differ has h)
     (point-differ all e c a.walking.hand.differ)
 
@@ -142,7 +141,7 @@ learned_step-derived f t c form trail reasons conflict below =
       | inr a ↦ end-derived f.vars f.clauses t.entries _ a
     ]
 
-point-asserting : (n : ℕ) (clauses : List (List Literal)) (all : List Entry) (s : Step) → AtPoint n clauses all s → is_asserting all s.clause ≡ true
+point-asserting : (n : ℕ) (clauses : List (List Literal)) (all : List Entry) (s : Step) → AtPoint n clauses all s → is_false_in_asserting_order all s.clause ≡ true
 point-asserting n clauses all s a =
     let e = a.entry in
     let c = a.step.clause in
@@ -153,7 +152,7 @@ point-asserting n clauses all s a =
     let rest = with_highest_first all (without_variable e.lit.var c) in
     let level : level_at all e.lit ≡ level_of all = w.latest.0.level ∙ walking-level n clauses all e a.before a.step w in
     let current : is_current all (negated_lit e.lit) ≡ true = eq-eqb (level_at all e.lit) (level_of all) level in
-    let falsified : is_falsified (lits_of all) (in_asserting_order all e.lit c) ≡ true = false-from (lits_of all) (in_asserting_order all e.lit c) (λ m h. w.within (negated_lit m) (w.hand.denied m (point-from all e c m has h))) in
+    let falsified : is_falsified (lits_of all) (clause_in_asserting_order all e.lit c) ≡ true = false-from (lits_of all) (clause_in_asserting_order all e.lit c) (λ m h. w.within (negated_lit m) (w.hand.denied m (point-from all e c m has h))) in
     let other : (m : Literal) → has_lit m rest ≡ true → level_at all m ≤ level_of all - 1 = λ m h. (let q = from-without e.lit.var c m (with_highest_first-from all (without_variable e.lit.var c) m h) in
     let le : level_at all m ≤ e.level = latest-level clauses all (e ∷ a.before) (negated_lit m) w.latest (w.hand.denied m q.0) in
     let ne : level_at all m ≡ level_of all → ⊥ = λ z. q.1 (ap (λ (l : Literal). l.var) (lone-passes (is_current all) c m (negated_lit e.lit) one.1 q.0 (eq-eqb (level_at all m) (level_of all) z) has current)) in
@@ -161,10 +160,10 @@ point-asserting n clauses all s a =
     let pos = ltb-true 0 (level_of all) one.0 in
     let lower : highest_level all rest < level_of all = omega (arith, highest-below all rest (level_of all - 1) other, pos) in
     let begins = with_highest_first-begins all (without_variable e.lit.var c) (differ-kept (λ l. not (eqb l.var e.lit.var)) c w.hand.differ) in
-    ap (λ (x : Step). is_asserting all x.clause) a.is
+    ap (λ (x : Step). is_false_in_asserting_order all x.clause) a.is
     ∙ and_from _ (has_first_at_level all (highest_level all rest) rest)
     (and_from _ (nat_lt (highest_level all rest) (level_of all))
-    (and_from (is_falsified (lits_of all) (in_asserting_order all e.lit c))
+    (and_from (is_falsified (lits_of all) (clause_in_asserting_order all e.lit c))
     (is_current all (negated_lit e.lit)) falsified current)
     (lt-ltb (highest_level all rest) (level_of all) lower)) begins
 
@@ -172,7 +171,7 @@ pub learned_step-asserting : (f : Formula) (t : TrailList) (c : ℕ) → IsFormu
     HasReasons f.clauses t.entries → is_conflict f.clauses (lits_of t.entries) c ≡ true →
     0 < level_of t.entries →
     is_conflict f.clauses (lits_of (entries_up_to (level_of t.entries - 1) t.entries)) c ≡ false →
-    is_asserting t.entries (learned_step f.clauses t.entries c).clause ≡ true
+    is_false_in_asserting_order t.entries (learned_step f.clauses t.entries c).clause ≡ true
 learned_step-asserting f t c form trail reasons conflict pos below =
     elim (ends f t c form trail reasons conflict (λ _. below)) [
       | inl a ↦ point-asserting f.vars f.clauses t.entries _ a

@@ -1,10 +1,9 @@
--- The working clause, entry by entry, from a conflict to an asserting clause.
 use Rattle.std.proofs.Common.{◌≡◌, ℕ, ◌+◌, ◌-◌, inl, inr, true, false, ◌&&◌, ◌||◌, not, eqb, List, [], ◌∷◌, ◌++◌, refl, sym, ap, ◌∙◌, subst, Some, length, get_or, option_map, append-nil, append_assoc}
 use Rattle.std.specs.Prelude.{nat_lt, slice_get}
 use Rattle.std.specs.Prelude.{Result, Ok, Err, OnOk, reverse}
 use Rattle.std.proofs.lemmas.List.{reverse-append}
 use Rattle.ilk_log.specs.declared.step.Step.{Step}
-use Rattle.ilk_learn.specs.Learning.{resolved_with_reason}
+use Rattle.ilk_learn.specs.Learning.{resolved_with_reason_if_needed}
 use Rattle.ilk_learn.specs.declared.hand.WorkingClause.{WorkingClause}
 use Rattle.std.proofs.lemmas.Bool.{and_parts, and_from, or_parts, or_from, ltb-true, cases_Bool, eqb-true, eqb-false, ne_eqb, not-true}
 use Rattle.std.proofs.lemmas.Option.{same_Some, slice_get-get_or}
@@ -19,11 +18,11 @@ use Rattle.ilk_trail.specs.Trail.{TrailList, entry_of, level_of}
 use Rattle.ilk_trail.specs.Laws.{lits_of, is_set}
 use Rattle.ilk_learn.specs.Resolvent.{with_lits_of_new_vars, resolvent}
 use Rattle.ilk_learn.specs.Levels.{is_current, highest_level}
-use Rattle.ilk_learn.specs.Asserting.{has_first_at_level, is_asserting}
-use Rattle.ilk_learn.specs.Hand.{FieldsHoldClause, IsConflict, WorkingClauseHoldsStep, all_set, conflict_walk_start}
+use Rattle.ilk_learn.specs.Asserting.{has_first_at_level, is_false_in_asserting_order}
+use Rattle.ilk_learn.specs.Hand.{FieldsHoldClause, IsConflictOfCurrentLevel, WorkingClauseHoldsStep, are_in_range_and_set, step_from_conflict_clause}
 use Rattle.ilk_learn.proofs.Derived.{false-at}
 use Rattle.ilk_learn.proofs.Highest.{all-from}
-use Rattle.ilk_learn.proofs.Walk.{resolved_with_reason-is, resolved_with_reason-not}
+use Rattle.ilk_learn.proofs.Walk.{resolved_with_reason_if_needed-is, resolved_with_reason_if_needed-not}
 use Rattle.ilk_cnf.proofs.SameLiterals.{has-var, is_lit_over-clause}
 
 pub both-ok : {T E P Q R : Type 0} (r : Result T E) → OnOk r P → OnOk r Q → (P → Q → R) → OnOk r R
@@ -39,29 +38,29 @@ entry-var (x ∷ es) v e h =
     ]
 
 pub keeps-same : (t : TrailList) (clauses : List (List Literal)) (h : WorkingClause) (e : Entry) (s : Step) (v : ℕ) → entry_of t.entries v ≡ Some e → get_or h.marks.items v false ≡ false → WorkingClauseHoldsStep t h s
-    → WorkingClauseHoldsStep t h (resolved_with_reason clauses e s)
+    → WorkingClauseHoldsStep t h (resolved_with_reason_if_needed clauses e s)
 keeps-same t clauses h e s v at m k =
     let q = entry-var t.entries v e at in
     let none : has_var e.lit.var s.clause ≡ false = sym (k.holds.marked e.lit.var) ∙ ap (λ (w : ℕ). get_or h.marks.items w false) q ∙ m in
     let P : Step → Type 0 = λ x. WorkingClauseHoldsStep t h x in
-    subst P (sym (resolved_with_reason-not clauses e s none)) k
+    subst P (sym (resolved_with_reason_if_needed-not clauses e s none)) k
 
-pub keeps-resolved_with_reason :
+pub keeps-resolved_with_reason_if_needed :
     (t : TrailList) (clauses : List (List Literal)) (old new : WorkingClause) (e : Entry) (s : Step) (v r : ℕ) →
     entry_of t.entries v ≡ Some e →
     option_map (λ (x : Entry). x.reason) (entry_of t.entries v) ≡ Some (Some r) →
     get_or old.marks.items v false ≡ true → WorkingClauseHoldsStep t old s →
     ((k : List Literal) → FieldsHoldClause t old.marks.items old.current old.lower.items k → has_var v k ≡ true →
     FieldsHoldClause t new.marks.items new.current new.lower.items (resolvent v k (nth_clause_or_empty clauses r))) →
-    new.hints.items ≡ old.hints.items ++ (r + 1) ∷ [] → WorkingClauseHoldsStep t new (resolved_with_reason clauses e s)
-keeps-resolved_with_reason t clauses old new e s v r at why m k f g =
+    new.hints.items ≡ old.hints.items ++ (r + 1) ∷ [] → WorkingClauseHoldsStep t new (resolved_with_reason_if_needed clauses e s)
+keeps-resolved_with_reason_if_needed t clauses old new e s v r at why m k f g =
     let q = entry-var t.entries v e at in
     let has : has_var v s.clause ≡ true = sym (k.holds.marked v) ∙ m in
     let has-e : has_var e.lit.var s.clause ≡ true = ap (λ (w : ℕ). has_var w s.clause) q ∙ has in
     let reason : e.reason ≡ Some r = same_Some e.reason (Some r) (sym (ap (option_map (λ (x : Entry). x.reason)) at) ∙ why) in
     let P : Step → Type 0 = λ x. WorkingClauseHoldsStep t new x in
     let Q : ℕ → Type 0 = λ w. FieldsHoldClause t new.marks.items new.current new.lower.items (resolvent w s.clause (nth_clause_or_empty clauses r)) in
-    subst P (sym (resolved_with_reason-is clauses e s r has-e reason)) (record {
+    subst P (sym (resolved_with_reason_if_needed-is clauses e s r has-e reason)) (record {
       holds = subst Q (sym q) (f s.clause k.holds has);
       hinted = ap (λ (hs : List ℕ). (r + 1) ∷ hs) k.hinted ∙ sym (ap reverse g ∙ reverse-append old.hints.items ((r + 1) ∷ []));
     })
@@ -84,7 +83,7 @@ joined-apart k (l ∷ d) h =
 pub joined-alone : (d : List Literal) → has_distinct_vars d ≡ true → with_lits_of_new_vars [] d ≡ d
 joined-alone d h = joined-apart [] d h
 
-pub conflict-set : (f : Formula) (t : TrailList) (c : ℕ) → IsFormula f → IsConflict f t c → (all_set t (nth_clause_or_empty f.clauses c) ≡ true) × (has_distinct_vars (nth_clause_or_empty f.clauses c) ≡ true)
+pub conflict-set : (f : Formula) (t : TrailList) (c : ℕ) → IsFormula f → IsConflictOfCurrentLevel f t c → (are_in_range_and_set t (nth_clause_or_empty f.clauses c) ≡ true) × (has_distinct_vars (nth_clause_or_empty f.clauses c) ≡ true)
 conflict-set f t c form k =
     let d = nth_clause_or_empty f.clauses c in
     let p = and_parts (nat_lt c (length f.clauses)) (is_falsified (lits_of t.entries) d) k.conflict in
@@ -96,9 +95,9 @@ conflict-set f t c form k =
       list_all-slice_get has_distinct_vars f.clauses c d form.differ at,
     )
 
-pub started-keeps : (f : Formula) (t : TrailList) (h : WorkingClause) (c : ℕ) → IsFormula f → IsConflict f t c →
+pub started-keeps : (f : Formula) (t : TrailList) (h : WorkingClause) (c : ℕ) → IsFormula f → IsConflictOfCurrentLevel f t c →
     FieldsHoldClause t h.marks.items h.current h.lower.items (with_lits_of_new_vars [] (nth_clause_or_empty f.clauses c)) →
-    h.hints.items ≡ (c + 1) ∷ [] → WorkingClauseHoldsStep t h (conflict_walk_start f.clauses c)
+    h.hints.items ≡ (c + 1) ∷ [] → WorkingClauseHoldsStep t h (step_from_conflict_clause f.clauses c)
 started-keeps f t h c form k holds hints =
     let P : List Literal → Type 0 = λ x. FieldsHoldClause t h.marks.items h.current h.lower.items x in
     record {
@@ -106,7 +105,7 @@ started-keeps f t h c form k holds hints =
       hinted = sym (ap reverse hints);
     }
 
-pub asserting-set : (es : List Entry) (c : List Literal) (i : ℕ) (l : Literal) → is_asserting es c ≡ true → slice_get c i ≡ Some l → is_set es l.var ≡ true
+pub asserting-set : (es : List Entry) (c : List Literal) (i : ℕ) (l : Literal) → is_false_in_asserting_order es c ≡ true → slice_get c i ≡ Some l → is_set es l.var ≡ true
 asserting-set es [] i l h at = absurd (cc)
 asserting-set es (m ∷ c) i l h at =
     let top = highest_level es c in

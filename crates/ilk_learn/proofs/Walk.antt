@@ -1,4 +1,3 @@
--- The end of the walk from the latest entry on.
 use Rattle.std.proofs.Common.{◌≡◌, ◌⊎◌, ℕ, ◌+◌, ◌<◌, ◌≤◌, zero, suc, inl, inr, true, false, eqb, List, [], ◌∷◌, refl, sym, ap, ◌∙◌, subst, Option, Some, None, arith, length}
 use Rattle.std.specs.Prelude.{nat_lt, unwrap_or, slice_get}
 use Rattle.std.specs.List.{filter, list_all}
@@ -17,7 +16,7 @@ use Rattle.ilk_trail.specs.Laws.{lits_of}
 use Rattle.ilk_trail.proofs.Levels.{next-level}
 use Rattle.ilk_learn.specs.Resolvent.{with_lits_of_new_vars, resolvent}
 use Rattle.ilk_learn.specs.Levels.{level_at, is_current}
-use Rattle.ilk_learn.specs.Learning.{has_one_current, is_implication_point, in_asserting_order, resolved_with_reason, resolved_to_point}
+use Rattle.ilk_learn.specs.Learning.{has_one_current, has_var_and_one_current, clause_in_asserting_order, resolved_with_reason_if_needed, resolved_to_point}
 use Rattle.ilk_learn.proofs.Members.{joined-left, in-without}
 use Rattle.ilk_learn.proofs.Derived.{InHand, in_hand-skip, in_hand-resolve}
 use Rattle.ilk_learn.proofs.Highest.{another-passes}
@@ -32,7 +31,6 @@ pub record AreClauses (n : ℕ) (clauses : List (List Literal)) : Type 0 where
   pub within : are_clauses_over n clauses ≡ true
   pub differ : list_all has_distinct_vars clauses ≡ true
 
--- The progress of the walk: the entries that are left, latest first, and the working clause.
 pub record Walking (n : ℕ) (clauses : List (List Literal)) (all es : List Entry) (s : Step) : Type 0 where
   pub latest : Latest clauses all es
   pub low : top_level es ≤ level_of all
@@ -40,33 +38,31 @@ pub record Walking (n : ℕ) (clauses : List (List Literal)) (all es : List Entr
   pub current : HasCurrent all s.clause
   pub within : (m : Literal) → has_lit m (lits_of es) ≡ true → has_lit m (lits_of all) ≡ true
 
--- The walk ends at the first unique implication point.
 pub record AtPoint (n : ℕ) (clauses : List (List Literal)) (all : List Entry) (result : Step) : Type 0 where
   pub entry : Entry
   pub before : List Entry
   pub step : Step
   pub walking : Walking n clauses all (entry ∷ before) step
-  pub point : is_implication_point all entry.lit step.clause ≡ true
-  pub is : result ≡ record step { clause = in_asserting_order all entry.lit step.clause }
+  pub point : has_var_and_one_current all entry.lit step.clause ≡ true
+  pub is : result ≡ record step { clause = clause_in_asserting_order all entry.lit step.clause }
 
--- At level 0 the walk ends with no entry left.
 pub record AtEnd (n : ℕ) (clauses : List (List Literal)) (all : List Entry) (result : Step) : Type 0 where
   pub step : Step
   pub walking : Walking n clauses all [] step
   pub is : result ≡ record step { clause = [] }
 
-pub resolved_with_reason-not : (clauses : List (List Literal)) (e : Entry) (s : Step) → has_var e.lit.var s.clause ≡ false → resolved_with_reason clauses e s ≡ s
-resolved_with_reason-not clauses e s h = rw h (go e.reason)
+pub resolved_with_reason_if_needed-not : (clauses : List (List Literal)) (e : Entry) (s : Step) → has_var e.lit.var s.clause ≡ false → resolved_with_reason_if_needed clauses e s ≡ s
+resolved_with_reason_if_needed-not clauses e s h = rw h (go e.reason)
   where
     go : (o : Option ℕ) → unwrap_or (o >>= (λ (r : ℕ). then_some false (let t : Step = record { clause = resolvent e.lit.var s.clause (nth_clause_or_empty clauses r); hints = (r + 1) ∷ s.hints } in t))) s ≡ s
     go None = refl
     go (Some r) = refl
 
-pub resolved_with_reason-is : (clauses : List (List Literal)) (e : Entry) (s : Step) (r : ℕ) →
+pub resolved_with_reason_if_needed-is : (clauses : List (List Literal)) (e : Entry) (s : Step) (r : ℕ) →
     has_var e.lit.var s.clause ≡ true → e.reason ≡ Some r →
-    resolved_with_reason clauses e s
+    resolved_with_reason_if_needed clauses e s
     ≡ record { clause = resolvent e.lit.var s.clause (nth_clause_or_empty clauses r); hints = (r + 1) ∷ s.hints }
-resolved_with_reason-is clauses e s r h q = rw (q, h) refl
+resolved_with_reason_if_needed-is clauses e s r h q = rw (q, h) refl
 
 pub stands : (clauses : List (List Literal)) (r : ℕ) (l : Literal) → has_lit l (nth_clause_or_empty clauses r) ≡ true → slice_get clauses r ≡ Some (nth_clause_or_empty clauses r)
 stands [] r l h = absurd (cc)
@@ -114,7 +110,7 @@ has-reason n clauses all e es s latest low k c h = go e.reason refl
 pub walking-next :
     (n : ℕ) (clauses : List (List Literal)) (all : List Entry) (e : Entry) (es : List Entry) (s : Step) →
     AreClauses n clauses → Walking n clauses all (e ∷ es) s →
-    is_implication_point all e.lit s.clause ≡ false → Walking n clauses all es (resolved_with_reason clauses e s)
+    has_var_and_one_current all e.lit s.clause ≡ false → Walking n clauses all es (resolved_with_reason_if_needed clauses e s)
 walking-next n clauses all e es s a w p = (let after = next in record {
   latest = w.latest.1;
   low = omega (arith, (next-level (top_level es) e w.latest.0.next).0, w.low);
@@ -123,9 +119,9 @@ walking-next n clauses all e es s a w p = (let after = next in record {
   within = λ m h. w.within m (or_right (same_lit m e.lit) (has_lit m (lits_of es)) h);
 })
   where
-    next : InHand n clauses es (resolved_with_reason clauses e s) × HasCurrent all (resolved_with_reason clauses e s).clause
+    next : InHand n clauses es (resolved_with_reason_if_needed clauses e s) × HasCurrent all (resolved_with_reason_if_needed clauses e s).clause
     next = elim (cases_Bool (has_var e.lit.var s.clause)) [
-      | inr u ↦ (let q = sym (resolved_with_reason-not clauses e s u) in
+      | inr u ↦ (let q = sym (resolved_with_reason_if_needed-not clauses e s u) in
           let P : Step → Type 0 = λ t. InHand n clauses es t × HasCurrent all t.clause in
           subst P q (in_hand-skip n clauses e es s w.hand u, w.current))
       | inl u ↦ (let many : has_one_current all s.clause ≡ false = elim (and_cases (has_var e.lit.var s.clause) (has_one_current all s.clause) p) [ inl x ↦ absurd (true≢false (sym u ∙ x)) | inr x ↦ x ] in
@@ -135,7 +131,7 @@ walking-next n clauses all e es s a w p = (let after = next in record {
           let at = stands clauses r.0 e.lit parts.0 in
           let differ = list_all-slice_get has_distinct_vars clauses r.0 d a.differ at in
           let within = list_all-slice_get (is_clause_over n) clauses r.0 d a.within at in
-          let q = sym (resolved_with_reason-is clauses e s r.0 u r.1) in
+          let q = sym (resolved_with_reason_if_needed-is clauses e s r.0 u r.1) in
           let P : Step → Type 0 = λ t. InHand n clauses es t × HasCurrent all t.clause in
           subst P q (
             in_hand-resolve n clauses e es s r.0 d w.hand at parts.0 parts.1 differ within (latest-differ clauses all es w.latest.1) w.latest.0.unset,
@@ -146,7 +142,7 @@ walking-next n clauses all e es s a w p = (let after = next in record {
 pub walking-reason :
     (n : ℕ) (clauses : List (List Literal)) (all : List Entry) (e : Entry) (es : List Entry) (s : Step) →
     Walking n clauses all (e ∷ es) s → has_var e.lit.var s.clause ≡ true →
-    is_implication_point all e.lit s.clause ≡ false →
+    has_var_and_one_current all e.lit s.clause ≡ false →
     (r : ℕ) × (e.reason ≡ Some r) × (slice_get clauses r ≡ Some (nth_clause_or_empty clauses r)) ×
     (has_lit e.lit (nth_clause_or_empty clauses r) ≡ true) ×
     (is_falsified (lits_of es) (other_lits e.lit (nth_clause_or_empty clauses r)) ≡ true)
@@ -170,11 +166,11 @@ pub walk : (n : ℕ) (clauses : List (List Literal)) (all es : List Entry) (s : 
     → AtPoint n clauses all (resolved_to_point clauses all es s) ⊎ AtEnd n clauses all (resolved_to_point clauses all es s)
 walk n clauses all [] s a w = inr (record { step = s; walking = w; is = refl })
 walk n clauses all (e ∷ es) s a w =
-    elim (cases_Bool (is_implication_point all e.lit s.clause)) [
+    elim (cases_Bool (has_var_and_one_current all e.lit s.clause)) [
       | inl p ↦ inl (record { entry = e; before = es; step = s; walking = w; point = p; is = rw p refl })
       | inr p ↦ (let P : Step → Type 0 = λ t. AtPoint n clauses all t ⊎ AtEnd n clauses all t in
-          let goes : resolved_to_point clauses all (e ∷ es) s ≡ resolved_to_point clauses all es (resolved_with_reason clauses e s) = rw p refl in
-          subst P (sym goes) (walk n clauses all es (resolved_with_reason clauses e s) a (walking-next n clauses all e es s a w p)))
+          let goes : resolved_to_point clauses all (e ∷ es) s ≡ resolved_to_point clauses all es (resolved_with_reason_if_needed clauses e s) = rw p refl in
+          subst P (sym goes) (walk n clauses all es (resolved_with_reason_if_needed clauses e s) a (walking-next n clauses all e es s a w p)))
     ]
 
 pub end-level : (n : ℕ) (clauses : List (List Literal)) (all : List Entry) (s : Step) → Walking n clauses all [] s → level_of all ≡ 0

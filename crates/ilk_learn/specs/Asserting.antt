@@ -1,4 +1,3 @@
--- Clauses that force their first literal after backjumping.
 use Rattle.std.specs.Prelude.{ℕ, ◌==◌, Bool, true, false, ◌&&◌, nat_lt, List, [], ◌∷◌}
 use Rattle.ilk_cnf.specs.Literal.{Literal}
 use Rattle.ilk_log.specs.Propagation.{is_falsified}
@@ -7,19 +6,20 @@ use Rattle.ilk_trail.specs.Trail.{level_of}
 use Rattle.ilk_trail.specs.Laws.{lits_of}
 use Rattle.ilk_learn.specs.Levels.{level_at, is_current, highest_level}
 
--- The highest level of the literals after the first.
+-- Returns the level to go back to: the highest level of the literals after the first.
 abbrev pub back_level : List Entry → List Literal → ℕ
 back_level entries [] = 0
 back_level entries (l ∷ ls) = highest_level entries ls
 
--- Returns whether the first of these literals, if there is one, was set at level `k`.
+-- Returns whether the first of these literals was set at level `k`. Returns `true` if there are
+-- none.
 abbrev pub has_first_at_level : List Entry → ℕ → List Literal → Bool
 has_first_at_level entries k [] = true
 has_first_at_level entries k (l ∷ ls) = level_at entries l == k
 
--- Returns whether all literals of a clause are false, the first set at the current level, the
--- others lower, and the second, if any, at the highest of their levels.
-abbrev pub is_asserting : List Entry → List Literal → Bool
-is_asserting entries [] = false
-is_asserting entries (l ∷ ls) =
+-- Returns whether all literals of a clause are false, the first since the current level and the
+-- others at lower levels. The second, if there is one, must have the highest of these.
+abbrev pub is_false_in_asserting_order : List Entry → List Literal → Bool
+is_false_in_asserting_order entries [] = false
+is_false_in_asserting_order entries (l ∷ ls) =
     is_falsified (lits_of entries) (l ∷ ls) && is_current entries l && nat_lt (highest_level entries ls) (level_of entries) && has_first_at_level entries (highest_level entries ls) ls

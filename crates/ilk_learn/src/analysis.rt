@@ -1,5 +1,3 @@
-//! Builds the learned clause from the working clause at the end of the walk.
-
 ghost use Rattle.std.specs.Prelude.{◌≡◌, ◌-◌, ◌<◌, false, [], ◌∷◌, ◌++◌, find, reverse, IfOk, IsTrue};
 ghost use Rattle.std.specs.Bool.{◌==◌};
 ghost use Rattle.ilk_watches.specs.Chained.{formula_of};
@@ -14,32 +12,32 @@ ghost use Rattle.ilk_trail.specs.Laws.{lits_of};
 ghost use Rattle.ilk_learn.specs.Resolvent.{without_variable};
 ghost use Rattle.ilk_learn.specs.Levels.{with_highest_first, highest_level, level_at};
 ghost use Rattle.ilk_learn.specs.Learning.{learned_step};
-ghost use Rattle.ilk_learn.specs.Asserting.{back_level, is_asserting};
-ghost use Rattle.ilk_learn.specs.Hand.{IsConflict, WorkingClauseHoldsStep, all_set, conflict_walk_start};
+ghost use Rattle.ilk_learn.specs.Asserting.{back_level, is_false_in_asserting_order};
+ghost use Rattle.ilk_learn.specs.Hand.{IsConflictOfCurrentLevel, WorkingClauseHoldsStep, are_in_range_and_set, step_from_conflict_clause};
 
 use crate::hand::WorkingClause;
 use ilk_cnf::{Lit, Lits};
 use ilk_log::{Hints, Step};
 use ilk_trail::Trail;
-use ilk_watches::Clauses;
+use ilk_watches::NumberedClauses;
 use std::alloc::{AllocError, Global};
 
-/// The result of a conflict above level 0.
+/// What a search learns from a conflict above level 0.
 #[derive(Drop)]
 pub struct Learned {
-    /// The clause, with the literal that it forces first, and the hints that derive it.
+    /// The learned clause, its forced literal first, with the hints that derive it.
     pub step: Step,
     /// The level to go back to, at which the clause forces its first literal.
     pub level: u64,
 }
 
-/// Returns the clause learned from clause `conflict`, whose literals are all false above level 0,
-/// and weren't at the level below. It is the clause at the first unique implication point of the
-/// current level. It is derived by its hints and forces its first literal at the returned level. It
-/// is fresh if propagation had ended at that level.
+/// Returns the clause learned from clause `conflict`, at the first unique implication point, with
+/// its hints and the level to go back to. All literals of `conflict` must be false, but not at the
+/// level below the current one, which is above 0. At the returned level, the learned clause forces
+/// its first literal. It is fresh if propagation was complete there.
 pub fn learn(
     alloc: Global,
-    clauses: &Clauses,
+    clauses: &NumberedClauses,
     trail: &Trail,
     conflict: u64,
 ) -> Result<Learned, AllocError>
@@ -56,7 +54,8 @@ pub fn learn(
     ensures level { IfOk result (λ l. l.level ≡ back_level trail.now.entries l.step.clause) }
     ensures derived { IfOk result
         (λ l. IsTrue (is_derived clauses.now.vars clauses.now.clauses l.step)) }
-    ensures asserting { IfOk result (λ l. IsTrue (is_asserting trail.now.entries l.step.clause)) }
+    ensures asserting { IfOk result (λ l.
+        IsTrue (is_false_in_asserting_order trail.now.entries l.step.clause)) }
     ensures fresh { IfOk result
         (λ l.
         IsTrue (is_saturated clauses.now.clauses
@@ -70,11 +69,11 @@ pub fn learn(
     Ok(Learned { step, level })
 }
 
-/// Returns the empty clause with its hints, if all literals of clause `conflict` are false at level
-/// 0.
+/// Returns the step that derives the empty clause from clause `conflict`, whose literals must all
+/// be false at level 0.
 pub fn refute(
     alloc: Global,
-    clauses: &Clauses,
+    clauses: &NumberedClauses,
     trail: &Trail,
     conflict: u64,
 ) -> Result<Step, AllocError>
@@ -94,18 +93,17 @@ pub fn refute(
     analysed(alloc, clauses, trail, conflict)
 }
 
-// Returns the clause learned from a conflict, at any level.
 fn analysed(
     alloc: Global,
-    clauses: &Clauses,
+    clauses: &NumberedClauses,
     trail: &Trail,
     conflict: u64,
 ) -> Result<Step, AllocError>
-    requires { IsConflict (formula_of clauses.now) trail.now conflict }
+    requires { IsConflictOfCurrentLevel (formula_of clauses.now) trail.now conflict }
     ensures { IfOk result (λ s. s ≡ learned_step clauses.now.clauses trail.now.entries conflict) }
 {
     let mut hand = started(alloc, clauses, trail, conflict)?;
-    let point = hand.resolve_backwards(clauses, trail, conflict)?;
+    let point = hand.find_first_uip_by_resolution(clauses, trail, conflict)?;
     let clause = match point {
         Some(lit) => clause_at_point(alloc, trail, lit, hand.lower.as_slice())?,
         None => Lits::new(alloc),
@@ -114,16 +112,15 @@ fn analysed(
     Ok(Step { clause, hints })
 }
 
-// Creates the working clause from clause `conflict`.
 fn started(
     alloc: Global,
-    clauses: &Clauses,
+    clauses: &NumberedClauses,
     trail: &Trail,
     conflict: u64,
 ) -> Result<WorkingClause, AllocError>
-    requires { IsConflict (formula_of clauses.now) trail.now conflict }
+    requires { IsConflictOfCurrentLevel (formula_of clauses.now) trail.now conflict }
     ensures { IfOk result (λ h. WorkingClauseHoldsStep trail.now h
-        (conflict_walk_start clauses.now.clauses conflict)) }
+        (step_from_conflict_clause clauses.now.clauses conflict)) }
 {
     let _count = clauses.count();
     let mut hand = WorkingClause::new(alloc, trail, clauses.vars())?;
@@ -132,15 +129,13 @@ fn started(
     Ok(hand)
 }
 
-// Returns the clause that begins with the opposite of `lit`, then a literal of the highest level of
-// `lower`, then the others.
 fn clause_at_point(
     alloc: Global,
     trail: &Trail,
     lit: Lit,
     lower: &[Lit],
 ) -> Result<Lits, AllocError>
-    requires { IsTrue (all_set trail.now lower.now) }
+    requires { IsTrue (are_in_range_and_set trail.now lower.now) }
     ensures { IfOk result (λ c. c ≡ negated_lit lit
         ∷ with_highest_first trail.now.entries lower.now) }
 {
@@ -152,7 +147,6 @@ fn clause_at_point(
     }
 }
 
-// Returns `clause` with `first` and then the other literals appended.
 fn with_first(mut clause: Lits, first: Lit, lits: &[Lit]) -> Result<Lits, AllocError>
     ensures { IfOk result (λ c. c ≡ clause ++ (first ∷ without_variable first.var lits.now)) }
 {
@@ -165,9 +159,8 @@ fn with_first(mut clause: Lits, first: Lit, lits: &[Lit]) -> Result<Lits, AllocE
     Ok(clause)
 }
 
-// Returns the first literal of the highest level, or `None` if there are no literals.
 fn first_highest(trail: &Trail, lits: &[Lit]) -> Option<Lit>
-    requires { IsTrue (all_set trail.now lits.now) }
+    requires { IsTrue (are_in_range_and_set trail.now lits.now) }
     ensures { result
         ≡ find (λ l. level_at trail.now.entries l == highest_level trail.now.entries lits.now)
         lits.now }
@@ -181,9 +174,8 @@ fn first_highest(trail: &Trail, lits: &[Lit]) -> Option<Lit>
     None
 }
 
-// Returns the highest level of the literals, or 0 if there are none.
 fn top_level(trail: &Trail, lits: &[Lit]) -> u64
-    requires { IsTrue (all_set trail.now lits.now) }
+    requires { IsTrue (are_in_range_and_set trail.now lits.now) }
     ensures { result ≡ highest_level trail.now.entries lits.now }
 {
     let mut top = 0;
@@ -195,7 +187,7 @@ fn top_level(trail: &Trail, lits: &[Lit]) -> u64
 
 fn level_below(trail: &Trail, clause: &Lits) -> u64
     requires within { IsTrue (is_clause_over trail.now.vars clause.now) }
-    requires asserting { IsTrue (is_asserting trail.now.entries clause.now) }
+    requires asserting { IsTrue (is_false_in_asserting_order trail.now.entries clause.now) }
     ensures { result ≡ back_level trail.now.entries clause.now }
 {
     if clause.len() < 2 {
@@ -204,7 +196,6 @@ fn level_below(trail: &Trail, clause: &Lits) -> u64
     trail.level_of(*clause.at(1))
 }
 
-// Returns the hints in reverse order, in memory of exactly their size.
 fn turned(alloc: Global, hints: &[u64]) -> Result<Hints, AllocError>
     ensures { IfOk result (λ h. h ≡ reverse hints.now) }
 {

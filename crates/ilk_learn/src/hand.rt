@@ -1,5 +1,3 @@
-//! The working clause, which is resolved with the reasons of entries.
-
 ghost use Rattle.std.specs.Prelude.{◌≡◌, ◌+◌, ◌-◌, ◌<◌, ◌^◌, true, false, [], ◌∷◌, ◌++◌, List, Some, length, slice_index_or, IfOk, OnOk, IsTrue};
 ghost use Rattle.ilk_watches.specs.Chained.{formula_of};
 ghost use Rattle.ilk_watches.specs.Reasons.{nth_clause_or_empty, HasReasons};
@@ -11,22 +9,22 @@ ghost use Rattle.ilk_trail.specs.Trail.{entry_of};
 ghost use Rattle.ilk_trail.specs.Laws.{is_set};
 ghost use Rattle.ilk_learn.specs.Resolvent.{with_lit_of_new_var, with_lits_of_new_vars, resolvent};
 ghost use Rattle.ilk_learn.specs.Levels.{is_current};
-ghost use Rattle.ilk_learn.specs.Learning.{is_implication_point, resolved_with_reason};
-ghost use Rattle.ilk_learn.specs.Hand.{WorkingClauseHolds, IsConflict, WorkingClauseHoldsStep, HasWalkedTo, all_set, conflict_walk_start};
+ghost use Rattle.ilk_learn.specs.Learning.{has_var_and_one_current, resolved_with_reason_if_needed};
+ghost use Rattle.ilk_learn.specs.Hand.{WorkingClauseHolds, IsConflictOfCurrentLevel, WorkingClauseHoldsStep, ConflictWalkEndedAt, are_in_range_and_set, step_from_conflict_clause};
 
 use ilk_cnf::Lit;
 use ilk_trail::Trail;
-use ilk_watches::Clauses;
+use ilk_watches::NumberedClauses;
 use smallvec::SmallVec;
 use std::alloc::{AllocError, Global};
 
 // The number of lower literals, and of hints, that fit into `WorkingClause` itself.
 const SHORT: usize = 16;
 
-/// A clause under resolution, and the hints that derive it. Up to 16 lower literals and up to 16
-/// hints need no allocation of their own.
+/// The clause of a conflict while it is resolved with reasons, and the hints that derive it. Up to
+/// 16 lower literals and 16 hints need no allocation.
 #[derive(Drop)]
-pub struct WorkingClause {
+pub(crate) struct WorkingClause {
     // By variable: whether the clause has a literal of it.
     pub marks: Vec<bool>,
     // The number of its literals that were set at the current level.
@@ -76,16 +74,17 @@ impl WorkingClause {
         Ok(())
     }
 
-    /// Adds the literals of clause `c` over variables that the working clause does not have.
+    /// Adds the literals of clause number `c` over variables that the working clause does not have.
     pub fn add_lits_of_new_vars(
         &mut self,
-        clauses: &Clauses,
+        clauses: &NumberedClauses,
         trail: &Trail,
         c: u64,
     ) -> Result<(), AllocError>
         requires held { (k : List Literal) × WorkingClauseHolds trail.now self.old k }
         requires known { c < length clauses.now.clauses }
-        requires set { IsTrue (all_set trail.now (nth_clause_or_empty clauses.now.clauses c)) }
+        requires set { IsTrue (are_in_range_and_set trail.now
+            (nth_clause_or_empty clauses.now.clauses c)) }
         ensures holds { OnOk result
             ((k : List Literal) → WorkingClauseHolds trail.now self.old k →
             WorkingClauseHolds trail.now self.new
@@ -98,10 +97,9 @@ impl WorkingClause {
         Ok(())
     }
 
-    // Resolves with clause `reason` on the variable of `lit`.
     fn resolve(
         &mut self,
-        clauses: &Clauses,
+        clauses: &NumberedClauses,
         trail: &Trail,
         lit: Lit,
         reason: u64,
@@ -112,7 +110,8 @@ impl WorkingClause {
         requires current { IsTrue (is_current trail.now.entries lit) }
         requires known { reason < length clauses.now.clauses }
         requires numbered { reason + 1 < 2 ^ 64 }
-        requires set { IsTrue (all_set trail.now (nth_clause_or_empty clauses.now.clauses reason)) }
+        requires set { IsTrue (are_in_range_and_set trail.now
+            (nth_clause_or_empty clauses.now.clauses reason)) }
         ensures holds { OnOk result
             ((k : List Literal) → WorkingClauseHolds trail.now self.old k →
             IsTrue (has_var lit.var k) →
@@ -129,7 +128,7 @@ impl WorkingClause {
     }
 
     // Passes the entry of `lit`. If the clause has its variable, resolves with its reason.
-    fn pass(&mut self, clauses: &Clauses, trail: &Trail, lit: Lit) -> Result<(), AllocError>
+    fn pass(&mut self, clauses: &NumberedClauses, trail: &Trail, lit: Lit) -> Result<(), AllocError>
         requires held { (s : StepValue) × WorkingClauseHoldsStep trail.now self.old s }
         requires reasons { HasReasons clauses.now.clauses trail.now.entries }
         requires vars { clauses.now.vars ≡ trail.now.vars }
@@ -141,7 +140,7 @@ impl WorkingClause {
             ((e : Entry) (s : StepValue) → entry_of trail.now.entries lit.var ≡ Some e →
             WorkingClauseHoldsStep trail.now self.old s →
             WorkingClauseHoldsStep trail.now self.new
-            (resolved_with_reason clauses.now.clauses e s)) }
+            (resolved_with_reason_if_needed clauses.now.clauses e s)) }
     {
         let _count = clauses.count();
         if self.marks[lit.var() as usize] {
@@ -158,27 +157,27 @@ impl WorkingClause {
         requires held { (c : List Literal) × WorkingClauseHolds trail.now self.now c }
         requires within { IsTrue (is_lit_over trail.now.vars lit) }
         ensures { (c : List Literal) → WorkingClauseHolds trail.now self.now c →
-            result ≡ is_implication_point trail.now.entries lit c }
+            result ≡ has_var_and_one_current trail.now.entries lit c }
     {
         let marked = self.marks[lit.var() as usize];
         let level = trail.level();
         marked && (level > 0 && self.current == 1)
     }
 
-    /// Walks back from the latest entry, and resolves with the reason of each entry whose variable
-    /// the clause has. Stops at the first implication point and returns its literal. Returns `None`
-    /// if there is none.
-    pub fn resolve_backwards(
+    /// Resolves with the reasons of the entries, latest first, if the clause has their variables.
+    /// Stops at the first unique implication point and returns its literal, or `None` if there is
+    /// none.
+    pub fn find_first_uip_by_resolution(
         &mut self,
-        clauses: &Clauses,
+        clauses: &NumberedClauses,
         trail: &Trail,
         conflict: u64,
     ) -> Result<Option<Lit>, AllocError>
-        requires conflict { IsConflict (formula_of clauses.now) trail.now conflict }
+        requires conflict { IsConflictOfCurrentLevel (formula_of clauses.now) trail.now conflict }
         requires held { WorkingClauseHoldsStep trail.now self.old
-            (conflict_walk_start clauses.now.clauses conflict) }
+            (step_from_conflict_clause clauses.now.clauses conflict) }
         ensures { IfOk result
-            (λ point. HasWalkedTo trail.now clauses.now.clauses conflict self.new point) }
+            (λ point. ConflictWalkEndedAt trail.now clauses.now.clauses conflict self.new point) }
     {
         let _clauses = clauses.count();
         let mut i = trail.count();

@@ -6,7 +6,7 @@ use Rattle.std.proofs.lemmas.Bool.Decides.{nat_tests}
 use Rattle.std.proofs.lemmas.Slice.Eq.{bytes_eq-Decides}
 use Rattle.ilk_base.specs.Result.{◌>>=◌}
 use Rattle.ilk_lines.specs.Lines.{Bytes}
-use Rattle.ilk_lines.specs.Reading.{ParsedPrefix, strip_first_line, item_values_from_lines, leading_values, prepend_or_stop}
+use Rattle.ilk_lines.specs.Reading.{ParsedPrefix, expect_first_line, item_values_from_lines, leading_values, prepend_or_empty}
 use Rattle.ilk_base.proofs.Results.{err_is}
 use Rattle.ilk_lines.proofs.InOrder.{told_with, values_left}
 
@@ -47,9 +47,8 @@ fails_next n m read next line lines goes fails = record {
 same_bytes : (bytes : Bytes) → bytes_eq bytes bytes ≡ true
 same_bytes bytes = (bytes_eq-Decides bytes bytes).1 refl
 
--- A wanted line, then the next reader.
 abbrev pub after_then : {T : Type 0} → Bytes → ℕ → Reader T → Reader T
-after_then wanted n next lines bytes = strip_first_line wanted n lines >>= (λ more. next more bytes)
+after_then wanted n next lines bytes = expect_first_line wanted n lines >>= (λ more. next more bytes)
 
 after_passes : {T : Type 0} (wanted : Bytes) (n : ℕ) (next : Reader T) (line : Bytes) → bytes_eq line wanted ≡ true → (more : List Bytes) (bytes : Bytes) → after_then wanted n next (line ∷ more) bytes ≡ next more bytes
 after_passes wanted n next line same more bytes = ap (λ b. cond {A = Result (List Bytes) ℕ} b (Ok more) (Err n) >>= (λ ls. next ls bytes)) same
@@ -76,11 +75,9 @@ after_by_line wanted n next by = record { fills = after_fills wanted n next by.f
 abbrev with_value : {A : Type 0} → A → ParsedPrefix A → ParsedPrefix A
 with_value v part = record part { values = v ∷ part.values }
 
--- Lines for items, then the next reader.
 abbrev pub each_then : {A T : Type 0} → (ℕ → Bytes → Option A) → List ℕ → ℕ → (ParsedPrefix A → Bytes → Result T ℕ) → Reader T
 each_then value items n next lines bytes = item_values_from_lines value items n lines >>= (λ part. next part bytes)
 
--- The next reader after these values.
 abbrev pub part_reader : {A T : Type 0} → (ParsedPrefix A → Bytes → Result T ℕ) → List A → ℕ → Reader T
 part_reader next values number lines bytes = next (record { values = values; number = number; lines = lines }) bytes
 
@@ -100,7 +97,7 @@ each_refuses :
     value x line ≡ None → (more : List Bytes) (bytes : Bytes) →
     each_then value (x ∷ items) n next (line ∷ more) bytes ≡ Err (n + 0)
 each_refuses {A = A} value x items n next line none more bytes =
-    ap (λ (o : Option A). told_with (x ∷ items) n (line ∷ more) (prepend_or_stop o (values_left value items more)) >>= (λ part. next part bytes)) none
+    ap (λ (o : Option A). told_with (x ∷ items) n (line ∷ more) (prepend_or_empty o (values_left value items more)) >>= (λ part. next part bytes)) none
     ∙ ap (λ (r : Result (ParsedPrefix A) ℕ). r >>= (λ part. next part bytes)) (no_values x items n (line ∷ more))
 
 told_more : {A T : Type 0} (x : ℕ) (items : List ℕ) (n : ℕ) (line : Bytes) (more : List Bytes) (v : A) (values : List A) (next : ParsedPrefix A → Bytes → Result T ℕ) (bytes : Bytes)
@@ -124,7 +121,7 @@ each_goes :
     each_then value (x ∷ items) n next (line ∷ more) bytes
     ≡ each_then value items (n + 1) (λ part. next (with_value v part)) more bytes
 each_goes value x items n next line v some more bytes =
-    ap (λ o. told_with (x ∷ items) n (line ∷ more) (prepend_or_stop o (values_left value items more)) >>= (λ part. next part bytes)) some
+    ap (λ o. told_with (x ∷ items) n (line ∷ more) (prepend_or_empty o (values_left value items more)) >>= (λ part. next part bytes)) some
     ∙ told_more x items n line more v (values_left value items more) next bytes
 
 abbrev pub HasLine : {A : Type 0} → (ℕ → Bytes → Option A) → ℕ → Type 0
@@ -172,9 +169,8 @@ each_by_line {A = A} value (x ∷ items) n next has by =
     each_more value x items n next (has zero x refl) (λ v. each_by_line value items (n + 1) (λ part. next (with_value v part)) (λ i y at. has (suc i) y at)
     (λ values. let P : ℕ → Type 0 = λ k. IsByLine k (part_reader next (v ∷ values) k) in subst P same (by (v ∷ values))))
 
--- Lines with values, a wanted line, then the next reader.
 abbrev taken_then : {A T : Type 0} → Bytes → ℕ → (List A → ℕ → Reader T) → List Bytes → Bytes → List A → Result T ℕ
-taken_then wanted n next lines bytes values = strip_first_line wanted (n + length values) (drop (length values) lines) >>= (λ more. next values (n + length values + 1) more bytes)
+taken_then wanted n next lines bytes values = expect_first_line wanted (n + length values) (drop (length values) lines) >>= (λ more. next values (n + length values + 1) more bytes)
 
 abbrev pub leading_then : {A T : Type 0} → (Bytes → Option A) → Bytes → ℕ → (List A → ℕ → Reader T) → Reader T
 leading_then value wanted n next lines bytes = taken_then wanted n next lines bytes (leading_values value lines)
@@ -188,8 +184,8 @@ leading_goes :
 leading_goes {A = A} value wanted n next line v some more bytes =
     let values : List A = leading_values value more in
     let number : n + length (v ∷ values) ≡ n + 1 + length values = omega arith in
-    ap (λ (o : Option A). taken_then wanted n next (line ∷ more) bytes (prepend_or_stop o values)) some
-    ∙ ap (λ k. strip_first_line wanted k (drop (length values) more) >>= (λ ls. next (v ∷ values) (k + 1) ls bytes)) number
+    ap (λ (o : Option A). taken_then wanted n next (line ∷ more) bytes (prepend_or_empty o values)) some
+    ∙ ap (λ k. expect_first_line wanted k (drop (length values) more) >>= (λ ls. next (v ∷ values) (k + 1) ls bytes)) number
 
 leading_stops :
     {A T : Type 0} (value : Bytes → Option A) (wanted : Bytes) (n : ℕ) (next : List A → ℕ → Reader T)
@@ -199,8 +195,8 @@ leading_stops :
     ≡ after_then wanted n (next [] (n + 1)) (line ∷ more) bytes
 leading_stops {A = A} value wanted n next line none more bytes =
     let number : n + 0 ≡ n = omega arith in
-    ap (λ (o : Option A). taken_then wanted n next (line ∷ more) bytes (prepend_or_stop o (leading_values value more))) none
-    ∙ ap (λ k. strip_first_line wanted k (line ∷ more) >>= (λ ls. next [] (k + 1) ls bytes)) number
+    ap (λ (o : Option A). taken_then wanted n next (line ∷ more) bytes (prepend_or_empty o (leading_values value more))) none
+    ∙ ap (λ k. expect_first_line wanted k (line ∷ more) >>= (λ ls. next [] (k + 1) ls bytes)) number
 
 leading_fills : {A T : Type 0} (value : Bytes → Option A) (wanted : Bytes) (n : ℕ) (next : List A → ℕ → Reader T) → value wanted ≡ None → Fills (next [] (n + 1)) → Fills (leading_then value wanted n next)
 leading_fills value wanted n next none (more, t, e) =

@@ -4,7 +4,7 @@ use Rattle.std.specs.List.{position_from, position_or_len, onto_first}
 use Rattle.std.proofs.lemmas.Bool.{ltb-true}
 use Rattle.std.proofs.lemmas.Iterator.Adapters.{position_from-zero}
 use Rattle.std.proofs.lemmas.List.Splits.{slice_split_first}
-use Rattle.ilk_lines.specs.Reading.{expect_end}
+use Rattle.ilk_lines.specs.Reading.{expect_end_of_text}
 use Rattle.ilk_lines.specs.Lines.{unterminated_tail, last_part, lines_of, parts_at, parts_but_last}
 
 none_by : (b : Bool) (c i x : ℕ) (xs : List ℕ) →
@@ -48,12 +48,12 @@ lines_cut text line rest e = by_parts (parts_follow 10 rest)
 pub lines_none : (text line : List ℕ) → parts_at 10 text ≡ line ∷ [] → lines_of text ≡ []
 lines_none text line e = ap parts_but_last e
 
-pub not_at_end : (n : ℕ) (text : List ℕ) → 0 < length text → expect_end n (lines_of text) (unterminated_tail text) ≡ Err n
+pub not_at_end : (n : ℕ) (text : List ℕ) → 0 < length text → expect_end_of_text n (lines_of text) (unterminated_tail text) ≡ Err n
 not_at_end n [] some = absurd (omega arith)
 not_at_end n (b ∷ text) some = by_first (b == 10) (parts_follow 10 text)
   where
     ends : List (List ℕ) → Type 0
-    ends parts = expect_end n (parts_but_last parts) (last_part parts) ≡ Err n
+    ends parts = expect_end_of_text n (parts_but_last parts) (last_part parts) ≡ Err n
 
     by_first : (yes : Bool) → ((part : List ℕ) × (parts : List (List ℕ)) × (parts_at 10 text ≡ part ∷ parts)) → ends (cond yes ([] ∷ parts_at 10 text) (onto_first b (parts_at 10 text)))
     by_first true (part, parts, follows) = rw follows refl

@@ -5,7 +5,7 @@ use Rattle.std.proofs.lemmas.Bool.Decides.{Decides-eqb}
 use Rattle.std.proofs.lemmas.List.Elements.{All-nil, All-cons}
 use Rattle.std.proofs.lemmas.Slice.Eq.{bytes_eq-Decides}
 use Rattle.ilk_lines.specs.Lines.{Bytes}
-use Rattle.ilk_lines.specs.Reading.{ParsedPrefix, strip_first_line, expect_end, item_values_from_lines, prepend_or_stop}
+use Rattle.ilk_lines.specs.Reading.{ParsedPrefix, expect_first_line, expect_end_of_text, item_values_from_lines, prepend_or_empty}
 use Rattle.ilk_lines.specs.Written.{LacksByte, lines_of_items}
 use Rattle.ilk_base.proofs.Results.{ok_is}
 use Rattle.ilk_lines.proofs.InOrder.{told_with, values_left}
@@ -36,7 +36,7 @@ value_first :
     value x line ≡ o →
     ((j : ℕ) (w : A) → slice_get rest j ≡ Some w →
     (y : ℕ) × (other : Bytes) × (slice_get items j ≡ Some y) × (value y other ≡ Some w)) →
-    (i : ℕ) (v : A) → slice_get (prepend_or_stop o rest) i ≡ Some v →
+    (i : ℕ) (v : A) → slice_get (prepend_or_empty o rest) i ≡ Some v →
     (y : ℕ) × (other : Bytes) × (slice_get (x ∷ items) i ≡ Some y) × (value y other ≡ Some v)
 value_first value x items line rest None this later i v e = cc
 value_first value x items line rest (Some w) this later zero v e = (x, line, refl, this ∙ e)
@@ -50,14 +50,13 @@ value_at value [] lines i v e = cc
 value_at value (x ∷ items) [] i v e = cc
 value_at value (x ∷ items) (line ∷ lines) i v e = value_first value x items line (values_left value items lines) (value x line) refl (λ j w. value_at value items lines j w) i v e
 
--- The lines written for values have these values.
 values_back : {A : Type 0} (value : ℕ → Bytes → Option A) (line_of : ℕ → A → Bytes) (items : List ℕ) (values : List A) (rest : List Bytes) → length values ≡ length items
     → ((i x : ℕ) (v : A) → slice_get items i ≡ Some x → slice_get values i ≡ Some v → value x (line_of x v) ≡ Some v) → values_left value items (lines_of_items line_of items values ++ rest) ≡ values
 values_back value line_of [] [] rest same holds = refl
 values_back value line_of [] (v ∷ values) rest same holds = cc
 values_back value line_of (x ∷ items) [] rest same holds = cc
 values_back value line_of (x ∷ items) (v ∷ values) rest same holds =
-    ap (λ o. prepend_or_stop o (values_left value items (lines_of_items line_of items values ++ rest))) (holds 0 x v refl refl)
+    ap (λ o. prepend_or_empty o (values_left value items (lines_of_items line_of items values ++ rest))) (holds 0 x v refl refl)
     ∙ ap (λ vs. v ∷ vs) (values_back value line_of items values rest (omega arith) (λ i y w at here. holds (suc i) y w at here))
 
 lines_past : {A : Type 0} (line_of : ℕ → A → Bytes) (items : List ℕ) (values : List A) (rest : List Bytes) → length values ≡ length items → drop (length items) (lines_of_items line_of items values ++ rest) ≡ rest
@@ -82,9 +81,9 @@ each_lines value line_of holds [] lines all = refl
 each_lines value line_of holds (x ∷ items) [] all = cc
 each_lines {A = A} value line_of holds (x ∷ items) (line ∷ lines) all = by_value (value x line) refl all (λ fits. each_lines value line_of holds items lines fits)
   where
-    by_value : (o : Option A) → value x line ≡ o → length (prepend_or_stop o (values_left value items lines)) ≡ suc (length items)
+    by_value : (o : Option A) → value x line ≡ o → length (prepend_or_empty o (values_left value items lines)) ≡ suc (length items)
         → (length (values_left value items lines) ≡ length items → lines ≡ lines_of_items line_of items (values_left value items lines) ++ drop (length items) lines)
-        → line ∷ lines ≡ lines_of_items line_of (x ∷ items) (prepend_or_stop o (values_left value items lines)) ++ drop (length items) lines
+        → line ∷ lines ≡ lines_of_items line_of (x ∷ items) (prepend_or_empty o (values_left value items lines)) ++ drop (length items) lines
     by_value None this fits rest = cc
     by_value (Some v) this fits rest =
         let fewer : length (values_left value items lines) ≡ length items = omega arith in
@@ -109,18 +108,18 @@ told_lines value line_of holds items n lines part e =
     each_lines value line_of holds items lines (ap length (sym ok.0) ∙ ok.1)
     ∙ ap (λ vs. lines_of_items line_of items vs ++ drop (length items) lines) (sym ok.0) ∙ ap (λ ls. lines_of_items line_of items part.values ++ ls) (sym (each_rest value items n lines part e))
 
-pub strip_first_line-joins : (wanted : Bytes) (n : ℕ) (lines more : List Bytes) → strip_first_line wanted n lines ≡ Ok more → lines ≡ wanted ∷ more
-strip_first_line-joins wanted n [] more e = cc
-strip_first_line-joins wanted n (line ∷ lines) more e = by_test (bytes_eq line wanted) refl e
+pub expect_first_line-joins : (wanted : Bytes) (n : ℕ) (lines more : List Bytes) → expect_first_line wanted n lines ≡ Ok more → lines ≡ wanted ∷ more
+expect_first_line-joins wanted n [] more e = cc
+expect_first_line-joins wanted n (line ∷ lines) more e = by_test (bytes_eq line wanted) refl e
   where
     by_test : (b : Bool) → bytes_eq line wanted ≡ b → cond {A = Result (List Bytes) ℕ} b (Ok lines) (Err n) ≡ Ok more → line ∷ lines ≡ wanted ∷ more
     by_test true same that = ap (λ l. l ∷ lines) ((bytes_eq-Decides line wanted).0 same) ∙ ap (λ ls. wanted ∷ ls) (ok_is that)
     by_test false differs that = cc
 
-pub expect_end-ends : (n : ℕ) (more : List Bytes) (bytes : Bytes) → expect_end n more bytes ≡ Ok tt → (more ≡ []) × (bytes ≡ [])
-expect_end-ends n [] [] e = (refl, refl)
-expect_end-ends n [] (b ∷ bytes) e = cc
-expect_end-ends n (line ∷ more) bytes e = cc
+pub expect_end_of_text-ends : (n : ℕ) (more : List Bytes) (bytes : Bytes) → expect_end_of_text n more bytes ≡ Ok tt → (more ≡ []) × (bytes ≡ [])
+expect_end_of_text-ends n [] [] e = (refl, refl)
+expect_end_of_text-ends n [] (b ∷ bytes) e = cc
+expect_end_of_text-ends n (line ∷ more) bytes e = cc
 
 pub each_plain : {A : Type 0} (line_of : ℕ → A → Bytes) (items : List ℕ) (values : List A) → ((i x : ℕ) (v : A) → slice_get items i ≡ Some x → slice_get values i ≡ Some v → LacksByte 10 (line_of x v))
     → All (LacksByte 10) (lines_of_items line_of items values)

@@ -5,16 +5,15 @@ use Rattle.std.specs.Prelude.{◌↔◌, nat_lt}
 use Rattle.std.proofs.lemmas.Bool.Decides.{nat_tests}
 use Rattle.ilk_base.specs.Result.{◌>>=◌}
 use Rattle.ilk_base.proofs.Results.{err_is, ok_no_err}
-use Rattle.ilk_lines.specs.FirstBad.{BeginsSomeText, IsFirstBadLine, IsWritten, IsWrittenFor}
+use Rattle.ilk_lines.specs.FirstBad.{BeginsSomeText, IsFirstBadLine, IsTextWrittenForSome, IsTextWrittenFor}
 use Rattle.ilk_lines.specs.Lines.{Bytes, unterminated_tail, lines_of}
-use Rattle.ilk_lines.specs.Reading.{expect_end}
+use Rattle.ilk_lines.specs.Reading.{expect_end_of_text}
 use Rattle.ilk_lines.specs.Written.{text_of}
 use Rattle.ilk_lines.proofs.ByLine.{FailsAt, Fills, IsByLine, Reader, fails_first}
 use Rattle.ilk_lines.proofs.TextLines.{text-lines}
 
--- The end of a text, then a value.
 abbrev pub end_then : {T : Type 0} → T → ℕ → Reader T
-end_then t n lines bytes = expect_end n lines bytes >>= (λ none. Ok t)
+end_then t n lines bytes = expect_end_of_text n lines bytes >>= (λ none. Ok t)
 
 pub end_by_line : {T : Type 0} (t : T) (n : ℕ) → IsByLine n (end_then t n)
 end_by_line {T = T} t n = record { fills = fills; fails = fails }
@@ -27,11 +26,10 @@ end_by_line {T = T} t n = record { fills = fills; fails = fails }
     fails [] (b ∷ bytes) m e = fails_first n m (end_then t n) [] (sym (err_is e)) (λ some. absurd (omega arith)) fills
     fails (line ∷ lines) bytes m e = fails_first n m (end_then t n) (line ∷ lines) (sym (err_is e)) (λ some more others. ap (λ k. Err k) (err_is e)) fills
 
--- The result of reading a text.
 abbrev pub from_text : {T : Type 0} → Reader T → Bytes → Result T ℕ
 from_text read text = read (lines_of text) (unterminated_tail text)
 
--- The reader reads exactly the texts that are written.
+-- Holds if the reader reads exactly the texts that are written.
 pub record ReadsWritten {T : Type 0} (Has : T → Type 0) (lines_for : T → List Bytes) (read : Reader T) : Type 0 where
   pub back : (t : T) → Has t → from_text read (text_of (lines_for t)) ≡ Ok t
   pub has : (lines : List Bytes) (bytes : Bytes) (t : T) → read lines bytes ≡ Ok t → Has t
@@ -39,7 +37,7 @@ pub record ReadsWritten {T : Type 0} (Has : T → Type 0) (lines_for : T → Lis
   pub none_after : (lines : List Bytes) (bytes : Bytes) (t : T) → read lines bytes ≡ Ok t → bytes ≡ []
 
 pub text_exactly : {T : Type 0} (Has : T → Type 0) (lines_for : T → List Bytes) (read : Reader T) → ReadsWritten Has lines_for read →
-    (text : Bytes) (t : T) → (from_text read text ≡ Ok t) ↔ IsWrittenFor Has lines_for t text
+    (text : Bytes) (t : T) → (from_text read text ≡ Ok t) ↔ IsTextWrittenFor Has lines_for t text
 text_exactly Has lines_for read reads text t = (
   λ e. (
     reads.has (lines_of text) (unterminated_tail text) t e,
@@ -51,7 +49,6 @@ text_exactly Has lines_for read reads text t = (
   λ is. ap (from_text read) is.1 ∙ reads.back t is.0,
 )
 
--- The lines of a value are read as the value.
 pub lines_exactly : {T : Type 0} (Has : T → Type 0) (lines_for : T → List Bytes) (read : Reader T) → ReadsWritten Has lines_for read → (t : T) → Has t → read (lines_for t) [] ≡ Ok t
 lines_exactly Has lines_for read reads t is =
     let text : Bytes = text_of (lines_for t) in
@@ -95,7 +92,6 @@ named_first Has lines_for read reads by text n e =
           ok_no_err (sym tells ∙ (λ i. read (some.3 i) []) ∙ refused));
     }
 
--- The first bad line is unique.
 one_first : {T : Type 0} (Has : T → Type 0) (lines_for : T → List Bytes) (text : Bytes) (m n : ℕ) → IsFirstBadLine Has lines_for text m → IsFirstBadLine Has lines_for text n → m ≡ n
 one_first Has lines_for text m n a b = by_order (nat_lt m n) (nat_lt n m) refl refl
   where

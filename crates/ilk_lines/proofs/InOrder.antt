@@ -5,18 +5,16 @@ use Rattle.std.proofs.lemmas.Grind.{common_steps}
 use Rattle.std.proofs.lemmas.List.{drop-drop, drop_more, length_push}
 use Rattle.std.proofs.lemmas.Option.{same_Some}
 use Rattle.ilk_lines.specs.Lines.{Bytes}
-use Rattle.ilk_lines.specs.Reading.{ParsedPrefix, item_values_from_lines, leading_values, prepend_or_stop}
+use Rattle.ilk_lines.specs.Reading.{ParsedPrefix, item_values_from_lines, leading_values, prepend_or_empty}
 
--- The value of the first line for item `x`, and the lines after it.
 abbrev pub one_told : {A : Type 0} → (ℕ → Bytes → Option A) → ℕ → List Bytes → Option (A × List Bytes)
 one_told value x [] = None
 one_told value x (line ∷ more) = option_map (λ v. (v, more)) (value x line)
 
--- The values of the lines left, one for each item left.
 abbrev pub values_left : {A : Type 0} → (ℕ → Bytes → Option A) → List ℕ → List Bytes → List A
 values_left value items lines = leading_values (λ pair. value pair.0 pair.1) (zip items lines)
 
--- The state of reading: values taken, items and lines left.
+-- Holds at one moment of reading, with these values taken, and these items and lines left.
 pub record IsAt {A : Type 0} (value : ℕ → Bytes → Option A) (items : List ℕ) (n : ℕ) (lines : List Bytes) (taken : List A) (left : List ℕ) (number : ℕ) (rest : List Bytes) : Type 0 where
   pub values_are : values_left value items lines ≡ taken ++ values_left value left rest
   pub counts_are : length taken + length left ≡ length items
@@ -41,7 +39,7 @@ at_next {A = A} value items n lines taken new x left following number next (line
         let rests : after ≡ more = ap (λ q. q.1) pair in
         let long : length new ≡ length taken + 1 = ap length f ∙ length_push taken v in
         record {
-          values_are = at.values_are ∙ ap (λ xs. taken ++ values_left value xs (line ∷ after)) e ∙ ap (λ o. taken ++ prepend_or_stop o (values_left value following after)) this
+          values_are = at.values_are ∙ ap (λ xs. taken ++ values_left value xs (line ∷ after)) e ∙ ap (λ o. taken ++ prepend_or_empty o (values_left value following after)) this
               ∙ ap (λ u. taken ++ u ∷ values_left value following after) same ∙ ap (λ ls. taken ++ v ∷ values_left value following ls) rests
               ∙ sym (append_assoc taken (v ∷ []) (values_left value following more)) ∙ ap (λ xs. xs ++ values_left value following more) (sym f);
           counts_are = let c = at.counts_are in let d : length left ≡ length following + 1 = ap length e ∙ omega arith in omega arith;
@@ -49,7 +47,6 @@ at_next {A = A} value items n lines taken new x left following number next (line
           number_is = let c = at.number_is in omega arith;
         }
 
--- The result for these values.
 abbrev pub told_with : {A : Type 0} → List ℕ → ℕ → List Bytes → List A → Result (ParsedPrefix A) ℕ
 told_with items n lines values = if length values == length items then Ok (record { values = values; number = n + length items; lines = drop (length items) lines }) else Err (n + length values)
 
@@ -57,11 +54,10 @@ nothing_left : {A : Type 0} (value : ℕ → Bytes → Option A) (x : ℕ) (foll
 nothing_left value x following [] none = refl
 nothing_left {A = A} value x following (line ∷ after) none = by_value (value x line) none
   where
-    by_value : (o : Option A) → option_map {U = A × List Bytes} (λ w. (w, after)) o ≡ None → prepend_or_stop o (values_left value following after) ≡ []
+    by_value : (o : Option A) → option_map {U = A × List Bytes} (λ w. (w, after)) o ≡ None → prepend_or_empty o (values_left value following after) ≡ []
     by_value None that = refl
     by_value (Some w) that = cc
 
--- A missing line, or one without its item's value, is bad.
 pub at_bad :
     {A : Type 0} (value : ℕ → Bytes → Option A) (items : List ℕ) (n : ℕ) (lines : List Bytes) (taken : List A)
     (x : ℕ) (left following : List ℕ) (number : ℕ) (rest : List Bytes) →

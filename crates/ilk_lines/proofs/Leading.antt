@@ -3,13 +3,13 @@ use Rattle.std.proofs.Common.{◌≡◌, ℕ, ◌+◌, ◌≤◌, All, Option, S
 use Rattle.std.proofs.lemmas.List.{drop-drop, length-append, length-drop}
 use Rattle.std.proofs.lemmas.List.Elements.{All-nil, All-cons}
 use Rattle.ilk_lines.specs.Lines.{Bytes}
-use Rattle.ilk_lines.specs.LinesLeft.{TookFirstLines, LinesLeft}
-use Rattle.ilk_lines.specs.Reading.{leading_values, prepend_or_stop}
+use Rattle.ilk_lines.specs.LinesLeft.{TookFirstLines, RemainingLinesAndTail}
+use Rattle.ilk_lines.specs.Reading.{leading_values, prepend_or_empty}
 
 pub taken_one : {A : Type 0} (whole taken left rest new : List A) (x : A) → whole ≡ taken ++ left → left ≡ x ∷ rest → new ≡ taken ++ x ∷ [] → whole ≡ new ++ rest
 taken_one whole taken left rest new x e f g = e ∙ ap (λ xs. taken ++ xs) f ∙ sym (append_assoc taken (x ∷ []) rest) ∙ ap (λ xs. xs ++ rest) (sym g)
 
-onto_all : {A : Type 0} (value : Bytes → Option A) (P : A → Type 0) (line : Bytes) (o : Option A) → value line ≡ o → (rest : List A) → ((l : Bytes) (v : A) → value l ≡ Some v → P v) → All P rest → All P (prepend_or_stop o rest)
+onto_all : {A : Type 0} (value : Bytes → Option A) (P : A → Type 0) (line : Bytes) (o : Option A) → value line ≡ o → (rest : List A) → ((l : Bytes) (v : A) → value l ≡ Some v → P v) → All P rest → All P (prepend_or_empty o rest)
 onto_all value P line None this rest holds later = All-nil P
 onto_all value P line (Some v) this rest holds later = All-cons P v rest (holds line v this) later
 
@@ -25,7 +25,7 @@ leading_lines value line_of holds [] = refl
 leading_lines {A = A} value line_of holds (line ∷ lines) = by_value (value line) refl (leading_lines value line_of holds lines)
   where
     by_value : (o : Option A) → value line ≡ o → lines ≡ map line_of (leading_values value lines) ++ drop (length (leading_values value lines)) lines
-        → line ∷ lines ≡ map line_of (prepend_or_stop o (leading_values value lines)) ++ drop (length (prepend_or_stop o (leading_values value lines))) (line ∷ lines)
+        → line ∷ lines ≡ map line_of (prepend_or_empty o (leading_values value lines)) ++ drop (length (prepend_or_empty o (leading_values value lines))) (line ∷ lines)
     by_value None this rest = refl
     by_value (Some v) this rest = ap (λ l. l ∷ lines) (holds line v this) ∙ ap (λ ls. line_of v ∷ ls) rest
 
@@ -34,12 +34,12 @@ pub leading_back :
     (rest : List Bytes) →
     All (λ v. value (line_of v) ≡ Some v) values → value last ≡ None →
     leading_values value (map line_of values ++ last ∷ rest) ≡ values
-leading_back value line_of [] last rest told none = ap (λ o. prepend_or_stop o (leading_values value rest)) none
+leading_back value line_of [] last rest told none = ap (λ o. prepend_or_empty o (leading_values value rest)) none
 leading_back value line_of (v ∷ values) last rest told none =
-    ap (λ o. prepend_or_stop o (leading_values value (map line_of values ++ last ∷ rest))) (told zero v (omega arith))
+    ap (λ o. prepend_or_empty o (leading_values value (map line_of values ++ last ∷ rest))) (told zero v (omega arith))
     ∙ ap (λ vs. v ∷ vs) (leading_back value line_of values last rest (λ k d within. told (suc k) d (omega arith)) none)
 
-pub takes_one : (n : ℕ) (old left rest : LinesLeft) (line : Bytes) → TookFirstLines n old left → left.lines ≡ line ∷ rest.lines → rest.number ≡ left.number + 1 → rest.after ≡ left.after → TookFirstLines (n + 1) old rest
+pub takes_one : (n : ℕ) (old left rest : RemainingLinesAndTail) (line : Bytes) → TookFirstLines n old left → left.lines ≡ line ∷ rest.lines → rest.number ≡ left.number + 1 → rest.after ≡ left.after → TookFirstLines (n + 1) old rest
 takes_one n old left rest line taken e f g =
     let long : length (line ∷ rest.lines) ≡ length (drop n old.lines) = ap length (sym e ∙ taken.lines) in
     record {

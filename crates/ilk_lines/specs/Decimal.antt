@@ -1,4 +1,4 @@
--- Decimal numbers with one spelling each: no sign, and no leading zero except in 0 itself.
+-- Decimal numbers with one spelling each.
 use Rattle.std.specs.Prelude.{ℕ, Bool, ◌==◌, ◌&&◌, ◌||◌, Option, length, nat_le, not, slice_index}
 use Rattle.std.specs.Char.{is_ascii_digit}
 use Rattle.std.specs.List.{list_all}
@@ -11,6 +11,7 @@ use Rattle.ilk_lines.specs.Lines.{Bytes}
 abbrev pub is_decimal : Bytes → Bool
 is_decimal word = list_all is_ascii_digit word && not (length word == 0) && (length word == 1 || not (slice_index word 0 == 48))
 
--- The number that a word writes in decimal, if it is at most `limit`.
+-- Returns the number that a word writes in decimal, if it is at most `limit`. Otherwise returns
+-- `None`.
 abbrev pub decimal_up_to : ℕ → Bytes → Option ℕ
 decimal_up_to limit word = then_some (is_decimal word && nat_le (digits_value 10 word) limit) (digits_value 10 word)

@@ -1,17 +1,16 @@
--- Lines and words as they are written.
 use Rattle.std.specs.Prelude.{ℕ, ◌≡◌, Bool, false, List, [], ◌∷◌, ◌++◌, ◌==◌, flat_map, map, zip}
 use Rattle.std.specs.List.{list_any}
 use Rattle.ilk_lines.specs.Lines.{Bytes}
 
--- The text of these lines, each ended by one line feed.
+-- Returns the text of these lines, with one line feed after each.
 abbrev pub text_of : List Bytes → Bytes
 text_of lines = flat_map (λ line. line ++ 10 ∷ []) lines
 
--- A word, one space and the rest.
+-- Returns the word, one space and the rest.
 abbrev pub join_word_and_rest : Bytes → Bytes → Bytes
 join_word_and_rest word rest = word ++ 32 ∷ rest
 
--- The words with one space between each two.
+-- Returns the line of these words, with one space between each two.
 abbrev pub line_of : List Bytes → Bytes
 line_of [] = []
 line_of (word ∷ []) = word
@@ -25,6 +24,6 @@ has_byte c text = list_any (λ b. b == c) text
 abbrev pub LacksByte : ℕ → Bytes → Type 0
 LacksByte c text = has_byte c text ≡ false
 
--- One line for each item with its value.
+-- Returns the lines that `line` gives for each item and its value, in order.
 abbrev pub lines_of_items : {A : Type 0} → (ℕ → A → Bytes) → List ℕ → List A → List Bytes
 lines_of_items line items values = map (λ pair. line pair.0 pair.1) (zip items values)

@@ -1,14 +1,14 @@
 ghost use Rattle.std.specs.Prelude.{◌≡◌, ◌<◌, ◌+◌, ◌^◌, [], ◌∷◌, length, OnOk, IfOk, IfErr, OnErr, IfSome, IfNone, Ok, Err};
 ghost use Rattle.ilk_lines.specs.LinesLeft.{lines_numbered_from};
-ghost use Rattle.ilk_lines.specs.Reading.{strip_first_line, expect_end};
+ghost use Rattle.ilk_lines.specs.Reading.{expect_first_line, expect_end_of_text};
 ghost use Rattle.ilk_lines.specs.declared.fault.LineFault.TheVariants.{BadLine};
 
 use crate::LineFault;
 use crate::parts::first_line;
 use std::marker::Model;
 
-/// The unread lines of a text, each ended by a line feed, with the number of the first of them.
-/// Contracts see the number, the lines, and the bytes after the last line feed.
+/// The unread lines of a text, and the number of the first of them. Contracts see the number, the
+/// lines, and the bytes after the last line feed.
 #[derive(Drop)]
 pub struct Lines<'a> {
     rest: &'a [u8],
@@ -17,9 +17,9 @@ pub struct Lines<'a> {
 
 impl<'a> Model for Lines<'a> {
     ghost use Rattle.std.specs.Prelude.{◌<◌, ◌+◌, ◌^◌, length};
-    ghost use Rattle.ilk_lines.specs.LinesLeft.{LinesLeft, lines_numbered_from};
+    ghost use Rattle.ilk_lines.specs.LinesLeft.{RemainingLinesAndTail, lines_numbered_from};
 
-    ghost Value = { LinesLeft };
+    ghost Value = { RemainingLinesAndTail };
 
     ghost view = { λ l. lines_numbered_from l.number l.rest.now };
 
@@ -27,7 +27,7 @@ impl<'a> Model for Lines<'a> {
 }
 
 impl<'a> Lines<'a> {
-    /// Creates the lines of a text, numbered from 1.
+    /// Creates a reader of all lines of `text`, numbered from 1.
     pub fn from_text(text: &'a [u8]) -> Lines<'a>
         ensures { result ≡ lines_numbered_from 1 text.now }
     {
@@ -44,7 +44,8 @@ impl<'a> Lines<'a> {
         self.number
     }
 
-    /// Returns the next line and the lines after it. Returns `None` if and only if no line is left.
+    /// Returns the next line and a reader of the lines after it. Returns `None` if and only if no
+    /// line is left.
     pub fn split_first(&self) -> Option<(&'a [u8], Lines<'a>)>
         ensures lines { IfSome result (λ first. self.now.lines ≡ first.0.now ∷ first.1.lines) }
         ensures after { IfSome result (λ first. first.1.after ≡ self.now.after) }
@@ -72,7 +73,7 @@ impl<'a> Lines<'a> {
         Some(line)
     }
 
-    /// Reads the next line. If no line is left, the line with the next number is bad.
+    /// Reads the next line. If no line is left, fails with the number that it would have.
     pub fn require_line(&mut self) -> Result<&'a [u8], LineFault>
         ensures line { IfOk result (λ line. self.old.lines ≡ line.now ∷ self.new.lines) }
         ensures after { self.new.after ≡ self.old.after }
@@ -87,14 +88,15 @@ impl<'a> Lines<'a> {
         }
     }
 
-    /// Reads the next line, which must be `wanted`; otherwise that line is bad.
+    /// Reads the next line, which must be `wanted`. Otherwise fails with that line's number, and
+    /// reads nothing.
     pub fn expect_line(&mut self, wanted: &[u8]) -> Result<(), LineFault>
         ensures ok { OnOk result
-            (strip_first_line wanted.now self.old.number self.old.lines ≡ Ok self.new.lines) }
+            (expect_first_line wanted.now self.old.number self.old.lines ≡ Ok self.new.lines) }
         ensures after { self.new.after ≡ self.old.after }
         ensures number { OnOk result (self.new.number ≡ self.old.number + 1) }
         ensures bad { OnErr result
-            (strip_first_line wanted.now self.old.number self.old.lines ≡ Err self.old.number) }
+            (expect_first_line wanted.now self.old.number self.old.lines ≡ Err self.old.number) }
         ensures same { OnErr result (self.new ≡ self.old) }
         ensures fault { IfErr result (λ fault. fault ≡ BadLine self.old.number) }
     {
@@ -107,13 +109,15 @@ impl<'a> Lines<'a> {
         }
     }
 
-    /// Checks that neither a line nor a byte is left; otherwise the next line is bad.
+    /// Checks that neither a line nor a byte is left. Otherwise fails with the number of the next
+    /// line.
     #[tactic(auto, using(crate::proofs::Cuts::not_at_end))]
-    pub fn check_at_end(&self) -> Result<(), LineFault>
+    pub fn expect_end_of_text(&self) -> Result<(), LineFault>
         ensures ok { OnOk result
-            (expect_end self.now.number self.now.lines self.now.after ≡ Ok tt) }
+            (expect_end_of_text self.now.number self.now.lines self.now.after ≡ Ok tt) }
         ensures bad { OnErr result
-            (expect_end self.now.number self.now.lines self.now.after ≡ Err self.now.number) }
+            (expect_end_of_text self.now.number self.now.lines self.now.after ≡
+            Err self.now.number) }
         ensures fault { IfErr result (λ fault. fault ≡ BadLine self.now.number) }
     {
         if self.rest.is_empty() {

@@ -21,7 +21,6 @@ pub fn is_decimal(word: &[u8]) -> bool
     all_digits(word) && !word.is_empty() && (word.len() == 1 || word[0] != b'0')
 }
 
-// Returns the number with one more digit at its end, if it is at most `limit`.
 fn with_digit(number: u64, digit: u64, limit: u64) -> Option<u64>
     ensures { result ≡ then_some (nat_le (number * 10 + digit) limit) (number * 10 + digit) }
 {
@@ -30,8 +29,8 @@ fn with_digit(number: u64, digit: u64, limit: u64) -> Option<u64>
 }
 
 #[tactic(auto, using(crate::proofs::Numbers::over_limit))]
-/// Returns the number that `word` writes in decimal, if it is at most `limit`. Returns `None` if
-/// and only if the word isn't a decimal number or its number is greater, even too great for `u64`.
+/// Returns the number that `word` writes in decimal, if it is at most `limit`. Otherwise returns
+/// `None`, also if the number is too great for `u64`.
 pub fn decimal_up_to(word: &[u8], limit: u64) -> Option<u64>
     ensures { result ≡ decimal_up_to limit word.now }
 {
@@ -45,8 +44,8 @@ pub fn decimal_up_to(word: &[u8], limit: u64) -> Option<u64>
     Some(number)
 }
 
-/// Adds `number` in decimal at the end of `text`. If memory runs out, the contents of `text` are
-/// unspecified.
+/// Appends `number` in decimal to `text`. If memory runs out, fails and leaves the contents of
+/// `text` unspecified.
 pub fn push_decimal(text: &mut String, number: u64) -> Result<(), AllocError>
     ensures { OnOk result (string_bytes text.new ≡ string_bytes text.old ++ decimal number) }
 {

@@ -1,5 +1,5 @@
 ghost use Rattle.std.specs.Prelude.{ℕ, ◌≡◌, ◌<◌, ◌≤◌, ◌^◌, length, Option, Ok, IfOk, OnOk};
-ghost use Rattle.ilk_lines.specs.Answers.{MatchesPrefixResult, prefix_with_rest};
+ghost use Rattle.ilk_lines.specs.Answers.{PrefixMatchesUnlessOutOfMemory, parsed_prefix_from_parts};
 ghost use Rattle.ilk_lines.specs.Lines.{Bytes};
 ghost use Rattle.ilk_lines.specs.LinesLeft.{TookFirstLines};
 ghost use Rattle.ilk_lines.specs.Reading.{item_values_from_lines, leading_values, parsed_prefix};
@@ -8,12 +8,13 @@ use crate::{LineFault, Lines};
 use ilk_base::Row;
 use std::alloc::{AllocError, Global};
 
-/// Reads one line for each item, in order, and returns their values: `tell` returns the value of an
-/// item and its line. The first missing line, or line without a value, is bad. If `tell` computes
-/// the function `value`, the result is that of the definition `item_values_from_lines` for `value`.
-/// In every case the lines read are the first ones, at most one for each item, and the others are
-/// left.
-pub fn read_lines<T: Drop, F: Fn(u32, &[u8]) -> Option<T>>(
+/// Reads one line for each item, in order, and returns their values. `tell` returns the value of an
+/// item and its line, or `None` if the line is bad. Fails with the number of the first line that is
+/// missing or bad, or if memory runs out. Later lines are left.
+///
+/// If `tell` computes `value`, the result is that of the definition `item_values_from_lines` for
+/// `value`.
+pub fn read_one_line_per_item<T: Drop, F: Fn(u32, &[u8]) -> Option<T>>(
     alloc: Global,
     lines: &mut Lines,
     items: &[u32],
@@ -22,7 +23,7 @@ pub fn read_lines<T: Drop, F: Fn(u32, &[u8]) -> Option<T>>(
     requires { F.IsAlwaysCallable tell }
     ensures told { (value : ℕ → Bytes → Option T) →
         ((x : ℕ) (line : _) (v : _) → x < 2 ^ 32 → F.post tell x line v → v ≡ value x line.now) →
-        MatchesPrefixResult (item_values_from_lines value items.now lines.old.number
+        PrefixMatchesUnlessOutOfMemory (item_values_from_lines value items.now lines.old.number
         lines.old.lines)
         lines.new result }
     ensures after { OnOk result (lines.new.after ≡ lines.old.after) }
@@ -42,10 +43,10 @@ pub fn read_lines<T: Drop, F: Fn(u32, &[u8]) -> Option<T>>(
     Ok(values)
 }
 
-/// Reads the next lines as long as they have values, and returns these: `tell` returns the value of
-/// a line, or an error if memory runs out. If it computes the function `value`, the result is that
-/// of the definition `parsed_prefix` for `value`. In every case the lines read are the first ones,
-/// each with a value, and the others are left.
+/// Reads lines as long as `tell` returns a value for them, and returns these values. The first line
+/// without a value, and all after it, are left. Fails only if memory runs out.
+///
+/// If `tell` computes `value`, the result is that of the definition `parsed_prefix` for `value`.
 pub fn read_while_some<T: Drop, F: Fn(&[u8]) -> Result<Option<T>, AllocError>>(
     alloc: Global,
     lines: &mut Lines,
@@ -56,7 +57,7 @@ pub fn read_while_some<T: Drop, F: Fn(&[u8]) -> Result<Option<T>, AllocError>>(
         ((line : _) (v : _) → F.post tell line (Ok v) → v ≡ value line.now) →
         IfOk result
         (λ values. parsed_prefix value lines.old.number lines.old.lines
-        ≡ prefix_with_rest values lines.new) }
+        ≡ parsed_prefix_from_parts values lines.new) }
     ensures after { lines.new.after ≡ lines.old.after }
     ensures left { (n : ℕ) × TookFirstLines n lines.old lines.new × ((value : Bytes → Option T)
         → ((line : _) (v : _) → F.post tell line (Ok v) → v ≡ value line.now)

@@ -3,7 +3,6 @@ ghost use Rattle.ilk_lines.specs.Decimal.{decimal_up_to};
 ghost use Rattle.ilk_lines.specs.Lines.{unterminated_tail, lines_of};
 ghost use Rattle.ilk_lines.specs.Words.{strip_first_word, split_at_first_space, words_of};
 
-// Lines of texts, and the bytes after them.
 fn lines_of_texts()
     ensures two { lines_of (codes "a\n\n") ≡ codes "a" ∷ [] ∷ [] }
     ensures unfed { lines_of (codes "a\nb") ≡ codes "a" ∷ [] }
@@ -11,7 +10,6 @@ fn lines_of_texts()
     ensures none { lines_of [] ≡ [] }
 {}
 
-// Words of lines.
 fn words_of_lines()
     ensures two { words_of (codes "a b") ≡ codes "a" ∷ codes "b" ∷ [] }
     ensures spaces { words_of (codes "a  b") ≡ codes "a" ∷ [] ∷ codes "b" ∷ [] }
@@ -22,7 +20,6 @@ fn words_of_lines()
     ensures longer { strip_first_word (codes "a") (codes "ab c") ≡ None }
 {}
 
-// Decimal numbers, up to ten and up to the greatest `u64`.
 fn numbers_of_words()
     ensures none { decimal_up_to 10 (codes "0") ≡ Some 0 }
     ensures most { decimal_up_to 10 (codes "10") ≡ Some 10 }

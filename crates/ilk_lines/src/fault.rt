@@ -4,11 +4,11 @@ ghost use Rattle.ilk_lines.specs.declared.fault.LineFault.TheVariants.{OutOfMemo
 use std::alloc::AllocError;
 use thiserror::Error;
 
-/// The reason why lines weren't read.
+/// The reason why lines can't be read.
 #[derive(Clone, Copy, PartialEq, Eq, Debug, Error)]
 pub enum LineFault {
-    /// The line with this number, from 1, is bad: it isn't allowed at this place, it is missing, or
-    /// no line feed ends it.
+    /// The line with this number, from 1, is missing, not ended by a line feed, or not allowed at
+    /// its place.
     #[error("line {0} is bad")]
     BadLine(u64),
     /// Memory ran out.

@@ -2,15 +2,16 @@ ghost use Rattle.std.specs.Prelude.{◌≡◌, ◌<◌, ◌==◌, ◌+◌, [], �
 ghost use Rattle.std.specs.Option.{option_map_or};
 ghost use Rattle.ilk_lines.specs.Lines.{unterminated_tail, lines_of, parts_at};
 
-/// Returns the index of the first byte `at`.
+/// Returns the index of the first byte `at`. Returns `None` if there is none.
 pub(crate) fn place_of(text: &[u8], at: u8) -> Option<usize>
     ensures { result ≡ position (λ b. b == at) text.now }
 {
     text.iter().position(|b| *b == at)
 }
 
-/// Returns the bytes before the first byte `at`, and those after it if there is one.
-pub fn split_at_byte(text: &[u8], at: u8) -> (&[u8], Option<&[u8]>)
+/// Returns the bytes of `text` before its first byte `at`, and those after it. The second part is
+/// `None` if `text` has no byte `at`; the first is then all of `text`.
+pub fn split_at_first_occurrence(text: &[u8], at: u8) -> (&[u8], Option<&[u8]>)
     ensures parts { parts_at at text.now
         ≡ result.0.now ∷ option_map_or (λ rest. parts_at at rest.now) result.1 [] }
     ensures shorter { IfSome result.1 (λ rest. length rest.now < length text.now) }
@@ -31,7 +32,7 @@ pub(crate) fn first_line(text: &[u8]) -> Option<(&[u8], &[u8])>
         (λ cut. unterminated_tail text.now ≡ unterminated_tail cut.1.now) }
     ensures shorter { IfSome result (λ cut. length cut.1.now < length text.now) }
 {
-    let (line, rest) = split_at_byte(text, b'\n');
+    let (line, rest) = split_at_first_occurrence(text, b'\n');
     match rest {
         Some(rest) => Some((line, rest)),
         None => None,

@@ -7,16 +7,16 @@ use std::marker::Model;
 // The capacity of a token: four bytes more than the longest 64-bit number.
 const SIZE: usize = 24;
 
-/// At most 24 bytes of a text that is made piece by piece without memory. Contracts see the bytes
-/// that are still to be taken. They are written from last to first.
+/// At most 24 bytes of a text, written from last to first and taken from the front. Needs no
+/// memory. Contracts see the bytes that are still to be taken.
 #[derive(Drop)]
-pub struct ShortBytes {
+pub struct ShortByteStack {
     bytes: [u8; SIZE],
     // The start of the untaken bytes, which extend to the end.
     start: usize,
 }
 
-impl Model for ShortBytes {
+impl Model for ShortByteStack {
     ghost use Rattle.std.specs.Prelude.{ℕ, ◌≤◌, List, drop};
 
     ghost Value = { List ℕ };
@@ -26,18 +26,18 @@ impl Model for ShortBytes {
     ghost invariant = { λ token. token.start ≤ 24 };
 }
 
-impl ShortBytes {
-    /// Creates short bytes of length 0.
-    pub fn empty() -> ShortBytes
+impl ShortByteStack {
+    /// Creates an empty value.
+    pub fn empty() -> ShortByteStack
         ensures { result ≡ [] }
     {
-        ShortBytes {
+        ShortByteStack {
             bytes: [0; SIZE],
             start: SIZE,
         }
     }
 
-    /// Returns whether all bytes were taken.
+    /// Returns whether no bytes are left to be taken.
     #[inline]
     pub fn is_empty(&self) -> bool
         ensures { result ≡ (length self.now == 0) }
@@ -45,7 +45,8 @@ impl ShortBytes {
         self.start == SIZE
     }
 
-    /// Writes `word` before the present bytes.
+    /// Writes the bytes of `word` before the bytes that are left. Together they must fit in 24
+    /// bytes.
     #[inline]
     pub fn prepend(&mut self, word: &[u8])
         requires { length word.now + length self.old ≤ 24 }
@@ -57,7 +58,7 @@ impl ShortBytes {
         self.start = start;
     }
 
-    /// Writes `number` in decimal before the present bytes.
+    /// Writes `number` in decimal before the bytes that are left. At most four may be left.
     #[inline]
     pub fn prepend_decimal(&mut self, number: u64)
         requires { length self.old ≤ 4 }

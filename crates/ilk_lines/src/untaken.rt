@@ -3,7 +3,8 @@ ghost use Rattle.std.specs.Prelude.{◌≡◌, [], drop, length, min, take};
 use std::alloc::Global;
 use std::marker::Model;
 
-/// Bytes that are taken in pieces. Contracts see those that are still to be taken.
+/// The rest of a text that is held in memory and taken in pieces. Contracts see the bytes that are
+/// still to be taken.
 #[derive(Drop)]
 pub struct RemainingBytes {
     bytes: Vec<u8>,
@@ -22,14 +23,14 @@ impl Model for RemainingBytes {
 }
 
 impl RemainingBytes {
-    /// Creates an empty value.
+    /// Creates an empty rest.
     pub fn empty(alloc: Global) -> RemainingBytes
         ensures { result ≡ [] }
     {
         RemainingBytes::from_bytes(Vec::new(alloc))
     }
 
-    /// Creates a value from `bytes`, none of them taken.
+    /// Creates a rest that is all of `bytes`.
     pub fn from_bytes(bytes: Vec<u8>) -> RemainingBytes
         ensures { result ≡ bytes.items }
     {

@@ -2,7 +2,7 @@ ghost use Rattle.std.specs.Prelude.{◌≡◌, ◌<◌, [], ◌∷◌, length, I
 ghost use Rattle.std.specs.Option.{option_map_or};
 ghost use Rattle.ilk_lines.specs.Words.{strip_start, strip_first_word, split_at_first_space, words_of};
 
-use crate::parts::{place_of, split_at_byte};
+use crate::parts::{place_of, split_at_first_occurrence};
 
 #[tactic(auto, using(std::proofs::lemmas::List::take_rest))]
 /// Returns the parts of a line before and after its first space. Returns `None` if and only if
@@ -32,12 +32,12 @@ pub fn strip_first_word<'a>(line: &'a [u8], word: &[u8]) -> Option<&'a [u8]>
     strip_start(rest, b" ")
 }
 
-/// Returns the first word of a line, and the rest with the other words. The rest is `None` if and
-/// only if that word is the last.
+/// Returns the first word of a line, and the part after the space that ends it. That part is `None`
+/// if and only if there is no space.
 pub fn split_off_first_word(line: &[u8]) -> (&[u8], Option<&[u8]>)
     ensures words { words_of line.now
         ≡ result.0.now ∷ option_map_or (λ rest. words_of rest.now) result.1 [] }
     ensures shorter { IfSome result.1 (λ rest. length rest.now < length line.now) }
 {
-    split_at_byte(line, b' ')
+    split_at_first_occurrence(line, b' ')
 }

@@ -10,55 +10,57 @@ use Rattle.ilk_cnf.specs.Literal.{Literal}
 use Rattle.ilk_cnf.specs.Formula.{is_clause_over, is_lit_over}
 use Rattle.ilk_lines.specs.Lines.{Bytes}
 use Rattle.ilk_log.specs.declared.step.Step.{Step}
-use Rattle.ilk_log.specs.Packed.{ContainsNumbers, decoded_numbers, append_bits, add_delta, code_from_lit, lit_from_code, step_from_numbers}
+use Rattle.ilk_log.specs.Packed.{DecodesToNumbersAndState, decoded_numbers, append_seven_bits, add_zigzag_delta, code_from_lit, lit_from_code, step_from_numbers}
 
-pub high-told : (bytes : Bytes) (ns : List ℕ) (last way bits : ℕ) → bits < 128 → ContainsNumbers bytes ns last way → ContainsNumbers (bytes ++ (128 + bits) ∷ []) ns last (append_bits way bits)
+pub high-told : (bytes : Bytes) (ns : List ℕ) (last way bits : ℕ) → bits < 128 → DecodesToNumbersAndState bytes ns last way → DecodesToNumbersAndState (bytes ++ (128 + bits) ∷ []) ns last (append_seven_bits way bits)
 high-told bytes ns last way bits h t = record {
   told = λ rest. ap (decoded_numbers 0 0) (append_assoc bytes ((128 + bits) ∷ []) rest) ∙ t.told ((128 + bits) ∷ rest) ∙ ap (λ (xs : List ℕ). ns ++ xs) (step rest);
 }
   where
-    step : (rest : Bytes) → decoded_numbers last way ((128 + bits) ∷ rest) ≡ decoded_numbers last (append_bits way bits) rest
+    step : (rest : Bytes) → decoded_numbers last way ((128 + bits) ∷ rest) ≡ decoded_numbers last (append_seven_bits way bits) rest
     step rest =
         let past : (128 + bits) - 128 ≡ bits = omega arith in
         rw (le-ltb (128 + bits) 128 (omega arith), past) refl
 
-pub low-told : (bytes : Bytes) (ns : List ℕ) (last way bits : ℕ) → bits < 128 → ContainsNumbers bytes ns last way → ContainsNumbers (bytes ++ bits ∷ []) (ns ++ add_delta last (append_bits way bits) ∷ []) (add_delta last (append_bits way bits)) 0
+pub low-told : (bytes : Bytes) (ns : List ℕ) (last way bits : ℕ) → bits < 128 → DecodesToNumbersAndState bytes ns last way → DecodesToNumbersAndState (bytes ++ bits ∷ []) (ns ++ add_zigzag_delta last (append_seven_bits way bits) ∷ [])
+    (add_zigzag_delta last (append_seven_bits way bits)) 0
 low-told bytes ns last way bits h t = record {
   told = λ rest. ap (decoded_numbers 0 0) (append_assoc bytes (bits ∷ []) rest) ∙ t.told (bits ∷ rest)
       ∙ ap (λ (xs : List ℕ). ns ++ xs) (step rest)
       ∙ sym
-      (append_assoc ns (add_delta last (append_bits way bits) ∷ [])
-      (decoded_numbers (add_delta last (append_bits way bits)) 0 rest));
+      (append_assoc ns (add_zigzag_delta last (append_seven_bits way bits) ∷ [])
+      (decoded_numbers (add_zigzag_delta last (append_seven_bits way bits)) 0 rest));
 }
   where
-    step : (rest : Bytes) → decoded_numbers last way (bits ∷ rest) ≡ add_delta last (append_bits way bits) ∷ decoded_numbers (add_delta last (append_bits way bits)) 0 rest
+    step : (rest : Bytes) → decoded_numbers last way (bits ∷ rest) ≡ add_zigzag_delta last (append_seven_bits way bits) ∷ decoded_numbers (add_zigzag_delta last (append_seven_bits way bits)) 0 rest
     step rest = rw (lt-ltb bits 128 h) refl
 
-whole-way : (way : ℕ) → way < 2 ^ 64 → append_bits (way / 128) (way % 128) ≡ way
+whole-way : (way : ℕ) → way < 2 ^ 64 → append_seven_bits (way / 128) (way % 128) ≡ way
 whole-way way h = omega (arith, h)
 
-pub high_told : (bytes : Bytes) (ns : List ℕ) (last way : ℕ) → way < 2 ^ 64 → ContainsNumbers bytes ns last (way / 128) → ContainsNumbers (bytes ++ (128 + way % 128) ∷ []) ns last way
+pub high_told : (bytes : Bytes) (ns : List ℕ) (last way : ℕ) → way < 2 ^ 64 → DecodesToNumbersAndState bytes ns last (way / 128) → DecodesToNumbersAndState (bytes ++ (128 + way % 128) ∷ []) ns last way
 high_told bytes ns last way h t =
     let low : way % 128 < 128 = omega arith in
-    subst (λ (w : ℕ). ContainsNumbers (bytes ++ (128 + way % 128) ∷ []) ns last w) (whole-way way h) (high-told bytes ns last (way / 128) (way % 128) low t)
+    subst (λ (w : ℕ). DecodesToNumbersAndState (bytes ++ (128 + way % 128) ∷ []) ns last w) (whole-way way h) (high-told bytes ns last (way / 128) (way % 128) low t)
 
-pub number_told : (bytes : Bytes) (ns : List ℕ) (last way number : ℕ) → way < 2 ^ 64 → add_delta last way ≡ number → ContainsNumbers bytes ns last (way / 128) → ContainsNumbers (bytes ++ way % 128 ∷ []) (ns ++ number ∷ []) number 0
+pub number_told : (bytes : Bytes) (ns : List ℕ) (last way number : ℕ) → way < 2 ^ 64 → add_zigzag_delta last way ≡ number → DecodesToNumbersAndState bytes ns last (way / 128) → DecodesToNumbersAndState (bytes ++ way % 128 ∷ []) (ns ++
+    number ∷ []) number 0
 number_told bytes ns last way number h m t =
     let low : way % 128 < 128 = omega arith in
-    let w : add_delta last (append_bits (way / 128) (way % 128)) ≡ number = ap (add_delta last) (whole-way way h) ∙ m in
-    subst (λ (n : ℕ). ContainsNumbers (bytes ++ way % 128 ∷ []) (ns ++ n ∷ []) n 0) w (low-told bytes ns last (way / 128) (way % 128) low t)
+    let w : add_zigzag_delta last (append_seven_bits (way / 128) (way % 128)) ≡ number = ap (add_zigzag_delta last) (whole-way way h) ∙ m in
+    subst (λ (n : ℕ). DecodesToNumbersAndState (bytes ++ way % 128 ∷ []) (ns ++ n ∷ []) n 0) w (low-told bytes ns last (way / 128) (way % 128) low t)
 
 more : (xs : List ℕ) (i x : ℕ) → slice_get xs i ≡ Some x → take (i + 1) xs ≡ take i xs ++ x ∷ []
 more xs i x at = take_more xs i 0 (slice_get_within xs i x at) ∙ ap (λ (y : ℕ). take i xs ++ y ∷ []) (get_or_from_slice_get xs i x 0 at)
 
-pub hint-told : (bytes : Bytes) (ns hints : List ℕ) (i number : ℕ) → slice_get hints i ≡ Some number → ContainsNumbers bytes ((ns ++ take i hints) ++ number ∷ []) number 0 → ContainsNumbers bytes (ns ++ take (i + 1) hints) number 0
+pub hint-told : (bytes : Bytes) (ns hints : List ℕ) (i number : ℕ) → slice_get hints i ≡ Some number → DecodesToNumbersAndState bytes ((ns ++ take i hints) ++ number ∷ []) number 0 → DecodesToNumbersAndState bytes (ns ++ take (i + 1) hints) number 0
 hint-told bytes ns hints i number at t =
-    subst (λ (xs : List ℕ). ContainsNumbers bytes xs number 0) (append_assoc ns (take i hints) (number ∷ []) ∙ ap (λ (xs : List ℕ). ns ++ xs) (sym (more hints i number at))) t
+    subst (λ (xs : List ℕ). DecodesToNumbersAndState bytes xs number 0) (append_assoc ns (take i hints) (number ∷ []) ∙ ap (λ (xs : List ℕ). ns ++ xs) (sym (more hints i number at))) t
 
-pub all-told : (bytes : Bytes) (ns : List ℕ) (last : ℕ) → ContainsNumbers bytes ns last 0 → decoded_numbers 0 0 bytes ≡ ns
+pub all-told : (bytes : Bytes) (ns : List ℕ) (last : ℕ) → DecodesToNumbersAndState bytes ns last 0 → decoded_numbers 0 0 bytes ≡ ns
 all-told bytes ns last t = ap (decoded_numbers 0 0) (sym (append-nil bytes)) ∙ t.told [] ∙ append-nil ns
 
-pub hints-told : (bytes : Bytes) (ns hints : List ℕ) (i last : ℕ) → length hints ≤ i → ContainsNumbers bytes (ns ++ take i hints) last 0 → decoded_numbers 0 0 bytes ≡ ns ++ hints
+pub hints-told : (bytes : Bytes) (ns hints : List ℕ) (i last : ℕ) → length hints ≤ i → DecodesToNumbersAndState bytes (ns ++ take i hints) last 0 → decoded_numbers 0 0 bytes ≡ ns ++ hints
 hints-told bytes ns hints i last h t = all-told bytes (ns ++ take i hints) last t ∙ ap (λ (xs : List ℕ). ns ++ xs) (take_all i hints h)
 
 literal-back : (l : Literal) → is_lit_over (2 ^ 62) l ≡ true → lit_from_code (code_from_lit l) ≡ l

@@ -6,7 +6,8 @@ use Rattle.ilk_lines.specs.Lines.{Bytes}
 use Rattle.ilk_log.specs.StepWords.{nonzero_from_word, lit_from_word}
 use Rattle.ilk_log.specs.declared.step.Step.{Step}
 
--- The literals before the word 0, and the words after it.
+-- Returns the literals before the first word `0`, and the words after it. Returns `None` if a word
+-- isn't a literal or `0` is missing.
 abbrev pub lits_from_words : List Bytes → Option (List Literal × List Bytes)
 lits_from_words [] = None
 lits_from_words (word ∷ words) =
@@ -19,7 +20,8 @@ abbrev pub has_no_words : List Bytes → Bool
 has_no_words [] = true
 has_no_words (word ∷ words) = false
 
--- The hints before the word 0, if it is the last word.
+-- Returns the hints before the word `0`, or `None` if a word isn't a hint or `0` isn't the last
+-- word.
 abbrev pub hints_from_words : List Bytes → Option (List ℕ)
 hints_from_words [] = None
 hints_from_words (word ∷ words) =
@@ -28,7 +30,7 @@ hints_from_words (word ∷ words) =
       rest ← hints_from_words words
       Some (h ∷ rest))
 
--- The step that the words state.
+-- Returns the step that the words of a line state, or `None` if they state none.
 abbrev pub step_from_words : List Bytes → Option Step
 step_from_words [] = None
 step_from_words (word ∷ words) =

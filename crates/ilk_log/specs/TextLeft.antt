@@ -7,21 +7,24 @@ use Rattle.ilk_log.specs.declared.step.Step.{Step}
 use Rattle.ilk_log.specs.declared.steps_left.Place.{Place}
 use Rattle.ilk_log.specs.declared.steps_left.Place.TheVariants.{Between, Literals, Hints}
 
--- The text from the hints on: hints, 0 and the line feed.
+-- Returns the end of a step's line: the hints, `0` and the line feed.
 abbrev pub text_from_hints_on : List ℕ → Bytes
 text_from_hints_on hints = flat_map (λ n. 32 ∷ decimal n) hints ++ codes " 0\n"
 
--- The text from the literals on: literals and 0, then hints, 0 and the line feed.
+-- Returns the end of a step's line from the literals of `s` on: them and `0`, then hints, `0` and
+-- the line feed.
 abbrev pub text_from_lits_on : Step → Bytes
 text_from_lits_on s = flat_map (λ l. 32 ∷ lit_word l) s.clause ++ (codes " 0" ++ text_from_hints_on s.hints)
 
--- The rest of the line, if `s` is the rest of its step.
+-- Returns the bytes that are left of the current line, from a place in it on, if `s` is the unread
+-- rest of its step.
 abbrev pub remaining_line_text : Place → Step → Bytes
 remaining_line_text Between s = []
 remaining_line_text Literals s = text_from_lits_on s
 remaining_line_text Hints s = text_from_hints_on s.hints
 
--- Holds if the rest of a step fits the place in its line: among the hints no literal is left.
+-- Holds if `s`, the unread rest of a step, fits the place in its line: at the hints no literal is
+-- left.
 abbrev pub RemainingStepFitsPlace : Place → Step → Type 0
 RemainingStepFitsPlace Between s = Unit
 RemainingStepFitsPlace Literals s = Unit

@@ -3,7 +3,7 @@ ghost use Rattle.ilk_log.specs.Conflicts.{count_learned_clauses};
 
 use crate::steps::Log;
 
-/// Returns the number of steps with a literal: each is a clause learned from a conflict.
+/// Returns the number of learned clauses in a log: the steps whose clause isn't empty.
 pub fn count_learned_clauses(log: &Log) -> u64
     ensures { result ≡ count_learned_clauses log.now }
 {

@@ -13,10 +13,11 @@ pub fn refutations_refute()
         IsTrue (is_refutation f log) → satisfies a f.clauses ≡ false }
 {}
 
-/// Over n variables, a log of derived and fresh steps has fewer than 3^n steps with a literal.
-/// Proof only; no run-time effect.
+/// Over n variables, fewer than 3^n steps of a log have a literal, if each step is derived and each
+/// of these is fresh. A fresh clause is not implied by propagation alone. Proof only; no run-time
+/// effect.
 #[tactic(auto, using(crate::proofs::Count::fresh_few))]
-pub fn empowering_steps_are_few()
+pub fn empowering_below_3_pow_vars()
     ensures { (f : Formula) (log : List StepValue) → IsTrue (is_derived_log f log) →
         EachEmpowering f.clauses log → count_learned_clauses log < 3 ^ f.vars }
 {}

@@ -14,7 +14,7 @@
 //!
 //! There are two laws. No assignment satisfies a formula that a log refutes (`refutations_refute`).
 //! Over n variables, fewer than 3^n derived steps with a literal are fresh
-//! (`empowering_steps_are_few`).
+//! (`empowering_below_3_pow_vars`).
 #![tactic(auto)]
 
 mod conflicts;
@@ -35,7 +35,7 @@ mod write;
 
 pub use conflicts::count_learned_clauses;
 pub use hints::Hints;
-pub use laws::{empowering_steps_are_few, refutations_refute};
+pub use laws::{empowering_below_3_pow_vars, refutations_refute};
 pub use log_text::LogText;
 pub use read::{read_step, read_step_into};
 pub use step::Step;

@@ -4,16 +4,15 @@ ghost use Rattle.ilk_log.specs.StepText.{step_text};
 
 use crate::steps::Log;
 use crate::steps_left::StepsLeft;
-use ilk_lines::ShortBytes;
+use ilk_lines::ShortByteStack;
 use std::alloc::Global;
 use std::marker::Model;
 
-/// The lines of a log, produced in pieces. Contracts see the bytes that are still to be taken. Each
-/// token is made from the packed steps when it is needed; no text is held.
+/// The text of a log, produced in pieces without memory. Contracts see the bytes that are still to
+/// be taken.
 #[derive(Drop)]
 pub struct LogText {
-    // The last token that was made.
-    token: ShortBytes,
+    token: ShortByteStack,
     left: StepsLeft,
 }
 
@@ -26,18 +25,17 @@ impl Model for LogText {
 }
 
 impl LogText {
-    /// Creates the text of all steps, each line with its line feed.
+    /// Creates the text of all steps of `log`, one a line.
     pub fn from_log(alloc: Global, log: Log) -> LogText
         ensures { result ≡ text_of (map step_text log) }
     {
         LogText {
-            token: ShortBytes::empty(),
+            token: ShortByteStack::empty(),
             left: StepsLeft::from_log(alloc, log),
         }
     }
 
     /// Copies the next bytes to the front of `into`, as many as fit, and returns their number.
-    /// Needs no memory.
     pub fn take(&mut self, into: &mut [u8]) -> usize
         ensures count { result ≡ min (length into.old) (length self.old) }
         ensures bytes { take result into.new ≡ take result self.old }

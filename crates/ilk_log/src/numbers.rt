@@ -1,21 +1,19 @@
-//! The numbers in the bytes of a packed step. Each is stored as its difference from the one before,
-//! because literals and hints of a step are mostly near each other. The difference is twice the way
-//! up, or one less than twice the way down, in 64 bits. It takes seven bits a byte, high bits
+//! Reads the numbers in the bytes of a packed step. Each is stored as its difference from the one
+//! before, because the numbers of a step are mostly near each other. The difference is twice the
+//! way up, or one less than twice the way down, in 64 bits. It takes seven bits a byte, high bits
 //! first; each byte but the last has 128 added.
 
 ghost use Rattle.std.specs.Prelude.{◌≡◌, ◌∷◌, [], drop, IfSome, IfNone};
-ghost use Rattle.ilk_log.specs.Packed.{append_bits, add_delta, decoded_numbers};
+ghost use Rattle.ilk_log.specs.Packed.{append_seven_bits, add_zigzag_delta, decoded_numbers};
 
-// Appends seven bits to a difference.
-fn append_bits(way: u64, bits: u8) -> u64
-    ensures { result ≡ append_bits way bits }
+fn append_seven_bits(way: u64, bits: u8) -> u64
+    ensures { result ≡ append_seven_bits way bits }
 {
     way.wrapping_mul(128).wrapping_add(bits as u64)
 }
 
-// Returns the number at a given difference from the last one.
-fn add_delta(last: u64, way: u64) -> u64
-    ensures { result ≡ add_delta last way }
+fn add_zigzag_delta(last: u64, way: u64) -> u64
+    ensures { result ≡ add_zigzag_delta last way }
 {
     if way % 2 == 0 {
         last.wrapping_add(way / 2)
@@ -24,9 +22,9 @@ fn add_delta(last: u64, way: u64) -> u64
     }
 }
 
-/// Returns the number whose difference begins at byte `at`, and the start of the next. Returns
-/// `None` if there are no more.
-pub fn decode_number(bytes: &[u8], at: usize, last: u64) -> Option<(u64, usize)>
+/// Returns the number whose difference from the number `last` begins at byte `at`, and the index of
+/// the byte after it. Returns `None` if the bytes end before.
+pub(crate) fn decode_number_from_delta(bytes: &[u8], at: usize, last: u64) -> Option<(u64, usize)>
     ensures some { IfSome result
         (λ r. decoded_numbers last 0 (drop at bytes.now)
         ≡ r.0 ∷ decoded_numbers r.0 0 (drop r.1 bytes.now)) }
@@ -38,9 +36,9 @@ pub fn decode_number(bytes: &[u8], at: usize, last: u64) -> Option<(u64, usize)>
         let byte = bytes[next];
         next += 1;
         if byte < 128 {
-            return Some((add_delta(last, append_bits(way, byte)), next));
+            return Some((add_zigzag_delta(last, append_seven_bits(way, byte)), next));
         }
-        way = append_bits(way, byte - 128);
+        way = append_seven_bits(way, byte - 128);
     }
     None
 }

@@ -1,13 +1,10 @@
-//! The reverse: appends numbers to bytes.
-
 ghost use Rattle.std.specs.Prelude.{◌≡◌, ℕ, List, ◌++◌, ◌∷◌, [], OnOk};
-ghost use Rattle.ilk_log.specs.Packed.{add_delta, ContainsNumbers};
+ghost use Rattle.ilk_log.specs.Packed.{add_zigzag_delta, DecodesToNumbersAndState};
 
 use std::alloc::AllocError;
 
-// Returns the difference from one number to the next.
 fn delta(last: u64, number: u64) -> u64
-    ensures { add_delta last result ≡ number }
+    ensures { add_zigzag_delta last result ≡ number }
 {
     let up = number.wrapping_sub(last);
     if up < 1 << 63 {
@@ -18,11 +15,10 @@ fn delta(last: u64, number: u64) -> u64
 }
 
 #[tactic(auto, using(crate::proofs::Packing::high_told))]
-// Appends the high bits of a difference, if there are any.
 fn push_high(bytes: &mut Vec<u8>, high: u64) -> Result<(), AllocError>
     ensures { OnOk result
-        ((numbers : List ℕ) (last : ℕ) → ContainsNumbers bytes.old.items numbers last 0 →
-        ContainsNumbers bytes.new.items numbers last high) }
+        ((numbers : List ℕ) (last : ℕ) → DecodesToNumbersAndState bytes.old.items numbers last 0 →
+        DecodesToNumbersAndState bytes.new.items numbers last high) }
 {
     if high > 0 {
         push_high(bytes, high / 128)?;
@@ -32,11 +28,15 @@ fn push_high(bytes: &mut Vec<u8>, high: u64) -> Result<(), AllocError>
 }
 
 #[tactic(auto, using(crate::proofs::Packing::number_told))]
-/// Appends the packed difference of `number` from `last`.
-pub fn push_number(bytes: &mut Vec<u8>, last: u64, number: u64) -> Result<(), AllocError>
+/// Appends the difference of `number` from the number before, `last`, in packed form.
+pub(crate) fn push_packed_delta(
+    bytes: &mut Vec<u8>,
+    last: u64,
+    number: u64,
+) -> Result<(), AllocError>
     ensures { OnOk result
-        ((numbers : List ℕ) → ContainsNumbers bytes.old.items numbers last 0 →
-        ContainsNumbers bytes.new.items (numbers ++ number ∷ []) number 0) }
+        ((numbers : List ℕ) → DecodesToNumbersAndState bytes.old.items numbers last 0 →
+        DecodesToNumbersAndState bytes.new.items (numbers ++ number ∷ []) number 0) }
 {
     let way = delta(last, number);
     push_high(bytes, way / 128)?;

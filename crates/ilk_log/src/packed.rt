@@ -1,11 +1,11 @@
 ghost use Rattle.std.specs.Prelude.{◌≡◌, ◌^◌, ◌++◌, [], ℕ, List, map, not, IfOk, IsTrue, OnOk};
 ghost use Rattle.ilk_cnf.specs.Formula.{is_clause_over, is_lit_over};
 ghost use Rattle.ilk_log.specs.Derived.{is_empty_clause};
-ghost use Rattle.ilk_log.specs.Packed.{code_from_lit, decoded_numbers, step_from_numbers, ContainsNumbers};
+ghost use Rattle.ilk_log.specs.Packed.{code_from_lit, decoded_numbers, step_from_numbers, DecodesToNumbersAndState};
 
 use crate::hints::Hints;
-use crate::numbers::decode_number;
-use crate::numbers_written::push_number;
+use crate::numbers::decode_number_from_delta;
+use crate::numbers_written::push_packed_delta;
 use crate::step::Step;
 use crate::unpack::{unpack_hints, unpack_literals};
 use ilk_cnf::Lit;
@@ -13,8 +13,7 @@ use std::alloc::{AllocError, Global};
 use std::marker::Model;
 use std::mem::swap;
 
-/// A step in few bytes. A search keeps tens of thousands, each with hundreds of numbers, which take
-/// little more than a byte each.
+/// A step in little more than a byte for each literal and hint.
 #[derive(Drop)]
 pub(crate) struct PackedStep {
     // The number of literals among the numbers.
@@ -32,7 +31,7 @@ impl Model for PackedStep {
 }
 
 impl PackedStep {
-    /// Packs a step.
+    /// Creates the packed form of `step`.
     pub(crate) fn pack(alloc: Global, step: &Step) -> Result<PackedStep, AllocError>
         ensures { IfOk result (λ packed. packed ≡ step.now) }
     {
@@ -55,11 +54,11 @@ impl PackedStep {
         Ok(Step { clause, hints })
     }
 
-    /// Returns whether its clause has a literal.
+    /// Returns whether the step's clause has a literal.
     pub(crate) fn has_literal(&self) -> bool
         ensures { result ≡ not (is_empty_clause self.now.clause) }
     {
-        self.literals > 0 && decode_number(self.bytes.as_slice(), 0, 0).is_some()
+        self.literals > 0 && decode_number_from_delta(self.bytes.as_slice(), 0, 0).is_some()
     }
 
     // Swaps its bytes with `bytes` and returns the number of its literals. The contract leaves open
@@ -72,7 +71,6 @@ impl PackedStep {
     }
 }
 
-// Returns the number of a literal, from 0.
 fn code_from_lit(l: Lit) -> u64
     requires { IsTrue (is_lit_over (2 ^ 62) l) }
     ensures { result ≡ code_from_lit l }
@@ -82,16 +80,16 @@ fn code_from_lit(l: Lit) -> u64
 
 // Appends the numbers of literals and returns the last. Their variables are from 1 to 2^62.
 fn push_literals(bytes: &mut Vec<u8>, lits: &[Lit]) -> Result<u64, AllocError>
-    requires { ContainsNumbers bytes.old.items [] 0 0 }
+    requires { DecodesToNumbersAndState bytes.old.items [] 0 0 }
     ensures numbers { IfOk result
-        (λ last. ContainsNumbers bytes.new.items (map code_from_lit lits.now) last 0) }
+        (λ last. DecodesToNumbersAndState bytes.new.items (map code_from_lit lits.now) last 0) }
     ensures numbered { OnOk result (IsTrue (is_clause_over (2 ^ 62) lits.now)) }
 {
     let mut last = 0;
     for lit in lits {
-        lit.var_is_in_range();
+        lit.var_is_always_in_range();
         let number = code_from_lit(*lit);
-        push_number(bytes, last, number)?;
+        push_packed_delta(bytes, last, number)?;
         last = number;
     }
     Ok(last)
@@ -99,13 +97,13 @@ fn push_literals(bytes: &mut Vec<u8>, lits: &[Lit]) -> Result<u64, AllocError>
 
 fn push_hints(bytes: &mut Vec<u8>, last: u64, hints: &Hints) -> Result<(), AllocError>
     ensures { OnOk result
-        ((numbers : List ℕ) → ContainsNumbers bytes.old.items numbers last 0 →
+        ((numbers : List ℕ) → DecodesToNumbersAndState bytes.old.items numbers last 0 →
         decoded_numbers 0 0 bytes.new.items ≡ numbers ++ hints.now) }
 {
     let mut last = last;
     for i in 0..hints.len() {
         let number = *hints.at(i);
-        push_number(bytes, last, number)?;
+        push_packed_delta(bytes, last, number)?;
         last = number;
     }
     Ok(())

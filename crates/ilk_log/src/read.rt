@@ -13,7 +13,6 @@ use ilk_cnf::Lit;
 use ilk_lines::{decimal_up_to, split_off_first_word};
 use std::alloc::{AllocError, Global};
 
-// Returns the number from 1 to `limit` that `word` is, or `None` if it is not one.
 fn nonzero_from_word(word: &[u8], limit: u64) -> Option<u64>
     ensures { result ≡ nonzero_from_word limit word.now }
 {
@@ -21,11 +20,8 @@ fn nonzero_from_word(word: &[u8], limit: u64) -> Option<u64>
     if n > 0 { Some(n) } else { None }
 }
 
-// The greatest variable.
 const MAX_VAR: u64 = 1 << 62;
 
-// Returns the literal that `word` writes, over a variable from 1 to 2^62, or `None` if it writes
-// none.
 fn lit_from_word(word: &[u8]) -> Option<Lit>
     ensures { result ≡ lit_from_word word.now }
 {
@@ -35,7 +31,6 @@ fn lit_from_word(word: &[u8]) -> Option<Lit>
     }
 }
 
-// Reads the literals before the word 0, and returns the rest of the line.
 fn read_lits<'a>(
     lits: &mut Vec<Lit>,
     line: &'a [u8],
@@ -114,8 +109,8 @@ fn read_words(step: &mut StepLine, line: &[u8]) -> Result<bool, AllocError>
     unpack_hints(&mut step.hints, rest)
 }
 
-/// Reads the step whose line this is into `step`. Returns whether it is the line of a step with
-/// variables from 1 to 2^62 and hints from 1 to the greatest `u64`.
+/// Reads `line` into `step`. Returns `false` if it isn't the line of a step with variables from 1
+/// to 2^62 and hints from 1 to 2^64 - 1.
 pub fn read_step_into(step: &mut StepLine, line: &[u8]) -> Result<bool, AllocError>
     ensures { IfOk result
         (λ told. (s : StepValue) →
@@ -127,8 +122,8 @@ pub fn read_step_into(step: &mut StepLine, line: &[u8]) -> Result<bool, AllocErr
     read_words(step, line)
 }
 
-/// Returns the step whose line this is. Its variables are from 1 to 2^62, and its hints from 1 to
-/// the greatest `u64`. Returns `None` if it is the line of no such step.
+/// Returns the step that `line` states. Returns `None` if it isn't the line of a step with
+/// variables from 1 to 2^62 and hints from 1 to 2^64 - 1.
 pub fn read_step(alloc: Global, line: &[u8]) -> Result<Option<Step>, AllocError>
     ensures { IfOk result
         (λ told. (s : StepValue) →

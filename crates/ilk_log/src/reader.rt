@@ -1,14 +1,13 @@
 ghost use Rattle.std.specs.Prelude.{◌≡◌, ◌++◌, [], IfNone, option_to_list};
 
-use crate::numbers::decode_number;
+use crate::numbers::decode_number_from_delta;
 use crate::packed::PackedStep;
 use crate::unpack::lit_from_code;
 use ilk_cnf::Lit;
 use std::alloc::Global;
 use std::marker::Model;
 
-/// The unread part of a step: its literals, then its hints. It owns the bytes of the step, and
-/// reads them without memory.
+/// The unread part of a packed step: its literals, then its hints. Reading takes no memory.
 #[derive(Drop)]
 pub(crate) struct StepReader {
     bytes: Vec<u8>,
@@ -20,11 +19,11 @@ pub(crate) struct StepReader {
 
 impl Model for StepReader {
     ghost use Rattle.ilk_log.specs.declared.step.Step.{Step};
-    ghost use Rattle.ilk_log.specs.Packed.{unread_step};
+    ghost use Rattle.ilk_log.specs.Packed.{remaining_step_from_byte};
 
     ghost Value = { Step };
 
-    ghost view = { λ r. unread_step r.bytes.items r.at r.last r.literals };
+    ghost view = { λ r. remaining_step_from_byte r.bytes.items r.at r.last r.literals };
 }
 
 impl StepReader {
@@ -59,7 +58,7 @@ impl StepReader {
         if self.literals == 0 {
             return None;
         }
-        let (number, next) = decode_number(self.bytes.as_slice(), self.at, self.last)?;
+        let (number, next) = decode_number_from_delta(self.bytes.as_slice(), self.at, self.last)?;
         self.literals -= 1;
         self.last = number;
         self.at = next;
@@ -73,7 +72,7 @@ impl StepReader {
         ensures none { IfNone result (self.old.hints ≡ []) }
         ensures clause { self.new.clause ≡ [] }
     {
-        let (number, next) = decode_number(self.bytes.as_slice(), self.at, self.last)?;
+        let (number, next) = decode_number_from_delta(self.bytes.as_slice(), self.at, self.last)?;
         self.last = number;
         self.at = next;
         Some(number)

@@ -6,8 +6,7 @@ use ilk_base::Row;
 use ilk_cnf::Lit;
 use std::alloc::{AllocError, Global};
 
-/// The literals and hints of a step that was read. Its memory is reused from line to line, so the
-/// millions of words of a certificate need no memory each.
+/// The literals and hints of a step that was read. Its memory is reused from line to line.
 #[derive(Drop)]
 pub struct StepLine {
     pub clause: Vec<Lit>,
@@ -25,7 +24,7 @@ fn row_of<T: Copy>(alloc: Global, items: &[T]) -> Result<Row<T>, AllocError>
 }
 
 impl StepLine {
-    /// Creates a step without literals and hints.
+    /// Creates a step line without literals and hints.
     pub fn empty(alloc: Global) -> StepLine
         ensures clause { result.clause.items ≡ [] }
         ensures hints { result.hints.items ≡ [] }

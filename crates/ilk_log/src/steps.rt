@@ -6,8 +6,8 @@ use ilk_base::Row;
 use std::alloc::{AllocError, Global};
 use std::marker::Model;
 
-/// The steps of a search, in order; contracts see them as a list. A search keeps tens of thousands,
-/// each with hundreds of numbers, so each is packed, in little more than a byte a number.
+/// The steps of a search, in order; contracts see them as a list. Each is stored packed, because a
+/// search keeps tens of thousands.
 #[derive(Drop)]
 pub struct Log {
     steps: Row<PackedStep>,
@@ -41,7 +41,7 @@ impl Log {
         self.steps.len()
     }
 
-    /// Returns step `i`, unpacked.
+    /// Returns step `i`, from 0. Fails only if memory runs out.
     pub fn at(&self, i: u64) -> Result<Step, AllocError>
         requires { i < length self.now }
         ensures { IfOk result (λ step. slice_get self.now i ≡ Some step) }

@@ -11,7 +11,7 @@ use crate::reader::StepReader;
 use crate::steps::Log;
 use ilk_base::Row;
 use ilk_cnf::Lit;
-use ilk_lines::ShortBytes;
+use ilk_lines::ShortByteStack;
 use std::alloc::Global;
 use std::marker::Model;
 
@@ -49,7 +49,7 @@ impl Model for StepsLeft {
 }
 
 #[inline]
-fn lead_literal(token: &mut ShortBytes, l: Lit)
+fn lead_literal(token: &mut ShortByteStack, l: Lit)
     requires { token.old ≡ [] }
     ensures { token.new ≡ 32 ∷ lit_word l }
 {
@@ -61,9 +61,8 @@ fn lead_literal(token: &mut ShortBytes, l: Lit)
     }
 }
 
-// Makes the next token among the literals and returns the new position.
 #[inline]
-fn make_literal(step: &mut StepReader, token: &mut ShortBytes) -> Place
+fn make_literal(step: &mut StepReader, token: &mut ShortByteStack) -> Place
     requires { token.old ≡ [] }
     ensures bytes { text_from_lits_on step.old ≡ token.new ++ remaining_line_text result step.new }
     ensures some { 0 < length token.new }
@@ -81,9 +80,8 @@ fn make_literal(step: &mut StepReader, token: &mut ShortBytes) -> Place
     }
 }
 
-// Makes the next token among the hints and returns the new position.
 #[inline]
-fn make_hint(step: &mut StepReader, token: &mut ShortBytes) -> Place
+fn make_hint(step: &mut StepReader, token: &mut ShortByteStack) -> Place
     requires empty { token.old ≡ [] }
     requires alone { step.old.clause ≡ [] }
     ensures bytes { text_from_hints_on step.old.hints
@@ -119,7 +117,7 @@ impl StepsLeft {
 
     /// Makes the next token. It is empty only if nothing is left.
     #[inline]
-    pub(crate) fn next_piece(&mut self, token: &mut ShortBytes)
+    pub(crate) fn next_piece(&mut self, token: &mut ShortByteStack)
         requires { token.old ≡ [] }
         ensures bytes { self.old ≡ token.new ++ self.new }
         ensures some { token.new ≡ [] → self.old ≡ [] }

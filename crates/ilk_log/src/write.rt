@@ -40,8 +40,8 @@ fn push_hints(text: &mut String, hints: &Hints) -> Result<(), AllocError>
 }
 
 #[tactic(auto, using(crate::proofs::Texts::text_is))]
-/// Appends the line of a step, without its line feed, to a text. If memory runs out, the content of
-/// the text is unspecified.
+/// Appends the line of `step`, without its line feed, to `text`. If memory runs out, the content of
+/// `text` is unspecified.
 pub fn push_step_text(text: &mut String, step: &Step) -> Result<(), AllocError>
     requires { IsTrue (list_all (λ h. nat_lt 0 h) step.now.hints) }
     ensures { OnOk result (string_bytes text.new ≡ string_bytes text.old ++ step_text step.now) }

@@ -1,6 +1,5 @@
--- Equality tests.
 use Rattle.std.proofs.Common.{◌≡◌, true, refl}
-use Rattle.ilk_plant.specs.State.{same_hold}
+use Rattle.ilk_plant.specs.State.{same_lock_state}
 use Rattle.ilk_plant.specs.declared.network.Position.{Position}
 use Rattle.ilk_plant.specs.declared.network.Position.TheVariants.{Plus, Minus}
 use Rattle.ilk_plant.specs.declared.state.Aspect.{Aspect}
@@ -24,13 +23,13 @@ one_mode Locked Locked h = refl
 one_mode Occupied Occupied h = refl
 one_mode a b h = cc
 
-pub one_hold : (a b : Hold) → same_hold a b ≡ true → a ≡ b
+pub one_hold : (a b : Hold) → same_lock_state a b ≡ true → a ≡ b
 one_hold FreeLock FreeLock h = refl
 one_hold LockedLock LockedLock h = refl
 one_hold UsedLock UsedLock h = refl
 one_hold a b h = cc
 
-pub own_hold : (a : Hold) → same_hold a a ≡ true
+pub own_hold : (a : Hold) → same_lock_state a a ≡ true
 own_hold FreeLock = refl
 own_hold LockedLock = refl
 own_hold UsedLock = refl

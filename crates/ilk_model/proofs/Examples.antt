@@ -12,7 +12,7 @@ use Rattle.ilk_plant.specs.declared.state.State.{State}
 use Rattle.ilk_plant.specs.declared.state.Lie.TheVariants.{Plus as LiesPlus}
 use Rattle.ilk_plant.specs.declared.table.Listed.{Listed}
 use Rattle.ilk_plant.specs.declared.table.Route.{Route}
-use Rattle.ilk_motion.specs.TwoSections.{two_sections}
+use Rattle.ilk_motion.specs.TwoSections.{two_section_plant}
 use Rattle.ilk_model.specs.Hazard.{hazard}
 use Rattle.ilk_model.specs.Run.{run}
 use Rattle.ilk_model.specs.declared.event.Event.{Event}
@@ -26,20 +26,20 @@ abbrev ends_in : PlantLists → List Event → Option (Option HazardAt)
 ends_in p events = option_map (hazard p) (run p (start p) events)
 
 -- A train enters each of sections a and b, and the first moves into b.
-two_trains_meet : ends_in two_sections (Enter 0 ∷ Enter 1 ∷ Head 0 ∷ []) ≡ Some (Some (Two 1))
+two_trains_meet : ends_in two_section_plant (Enter 0 ∷ Enter 1 ∷ Head 0 ∷ []) ≡ Some (Some (Two 1))
 two_trains_meet = refl
 
 -- Without a train no head moves. One train is no hazard, and a second can't enter its section.
-no_train_moves : ends_in two_sections (Head 0 ∷ []) ≡ None
+no_train_moves : ends_in two_section_plant (Head 0 ∷ []) ≡ None
 no_train_moves = refl
 
-one_train : ends_in two_sections (Enter 0 ∷ []) ≡ Some None
+one_train : ends_in two_section_plant (Enter 0 ∷ []) ≡ Some None
 one_train = refl
 
-entry_is_taken : ends_in two_sections (Enter 0 ∷ Enter 0 ∷ []) ≡ None
+entry_is_taken : ends_in two_section_plant (Enter 0 ∷ Enter 0 ∷ []) ≡ None
 entry_is_taken = refl
 
-ends_at_hazard : ends_in two_sections (Enter 0 ∷ Enter 1 ∷ Head 0 ∷ Tail 0 ∷ []) ≡ None
+ends_at_hazard : ends_in two_section_plant (Enter 0 ∷ Enter 1 ∷ Head 0 ∷ Tail 0 ∷ []) ≡ None
 ends_at_hazard = refl
 
 abbrev board : ℕ → Dir → Board
@@ -115,7 +115,6 @@ station = record {
   route_names = codes "r1" ∷ codes "r2" ∷ codes "r3" ∷ codes "r4" ∷ codes "r5" ∷ codes "r6" ∷ codes "r7" ∷ codes "r8" ∷ [];
 }
 
--- A route is set, used by a train, and finished.
 route_is_used : ends_in station (Mark 0 ∷ Allocate 0 ∷ Lock 0 ∷ Enter 0 ∷ Head 0 ∷ Sense 0 ∷ Head 1 ∷ Sense 0 ∷ Tail 0 ∷ Tail 1 ∷ Release 0 ∷ Finish 0 ∷ []) ≡ Some None
 route_is_used = refl
 

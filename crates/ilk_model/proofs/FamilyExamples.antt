@@ -69,11 +69,9 @@ station = record {
 abbrev at_rest : State
 at_rest = start station
 
--- Route r in this mode, with these counts seen and released.
 abbrev with_route : ℕ → Mode → ℕ → ℕ → State → State
 with_route r mode seen rel s = record s { routes = set s.routes r (record { mode = mode; seen = seen; rel = rel }) }
 
--- Point n with these detected and commanded positions.
 abbrev with_point : ℕ → Lie → Position → State → State
 with_point n at to s = record s { points = set s.points n (record { at = at; to = to }) }
 
@@ -213,19 +211,15 @@ a_locked_route_leads = refl
 no_route_leads : broken (with_train Up (1 ∷ []) at_rest) ≡ 7 ∷ 8 ∷ []
 no_route_leads = refl
 
--- V5 is violated too, by the train on the path.
 the_source_is_open : broken (with_route 0 Locked 0 0 (with_open 0 (locked (1 ∷ 2 ∷ []) (with_train Up (0 ∷ 1 ∷ []) at_rest)))) ≡ 5 ∷ 7 ∷ []
 the_source_is_open = refl
 
--- The section isn't kept for the train either.
 the_route_runs_the_other_way : broken (with_route 4 Occupied 1 0 (locked (0 ∷ []) (used (1 ∷ []) (with_train Up (1 ∷ []) at_rest)))) ≡ 7 ∷ 8 ∷ []
 the_route_runs_the_other_way = refl
 
--- V4 is violated too, by the train on the path, and V8.
 the_route_is_allocating : broken (with_route 0 Allocating 0 0 (locked (1 ∷ 2 ∷ []) (with_train Up (1 ∷ []) at_rest))) ≡ 4 ∷ 7 ∷ 8 ∷ []
 the_route_is_allocating = refl
 
--- The route has seen a section beyond the head.
 more_is_seen : broken (with_route 0 Occupied 2 0 (used (1 ∷ 2 ∷ []) (with_train Up (1 ∷ []) at_rest))) ≡ 7 ∷ []
 more_is_seen = refl
 
@@ -247,7 +241,6 @@ no_route_keeps_it = refl
 the_route_that_keeps_it_runs_the_other_way : broken (with_route 4 Occupied 1 0 (locked (0 ∷ []) (used (1 ∷ []) (with_train Up (1 ∷ 2 ∷ []) at_rest)))) ≡ 8 ∷ []
 the_route_that_keeps_it_runs_the_other_way = refl
 
--- V4 is violated too, by the train on the path.
 the_route_that_keeps_it_is_allocating : broken (with_route 0 Allocating 0 0 (locked (1 ∷ 2 ∷ []) (with_train Up (1 ∷ 2 ∷ []) at_rest))) ≡ 4 ∷ 8 ∷ []
 the_route_that_keeps_it_is_allocating = refl
 

@@ -10,16 +10,16 @@ use Rattle.ilk_base.proofs.Ranges.{below_or_past, range-at, range-suc}
 use Rattle.ilk_base.proofs.Tested.{list_all-slice_get}
 use Rattle.ilk_base.proofs.Truth.{either, same_truth}
 use Rattle.ilk_base.specs.Each.{all_below}
-use Rattle.ilk_plant.specs.Network.{has_section}
+use Rattle.ilk_plant.specs.Network.{contains_section}
 use Rattle.ilk_plant.specs.Plant.{PlantLists}
 use Rattle.ilk_plant.specs.TableRules.{protecting_points_of}
 use Rattle.ilk_plant.specs.declared.state.RouteState.{RouteState}
 use Rattle.ilk_plant.specs.declared.state.State.{State}
 use Rattle.ilk_plant.specs.declared.table.Route.{Route}
 use Rattle.ilk_routes.specs.Claims.{sections_outside_path}
-use Rattle.ilk_model.specs.Families.{keeps_v2}
+use Rattle.ilk_model.specs.Families.{keeps_v2_sections_held_once}
 use Rattle.ilk_model.specs.Holding.{holds_section, is_holding_state, is_unreleased_on_path, route_holds}
-use Rattle.ilk_model.specs.Shared.{is_held_by_two_routes, is_shared}
+use Rattle.ilk_model.specs.Shared.{is_held_by_two_routes, has_shared_section_bit}
 use Rattle.ilk_model.specs.declared.shared.SharedSections.{SharedSections}
 
 pub kept_from : (rel x k : ℕ) (path : List ℕ) → list_any (λ place. nat_le rel place.0 && (place.1 == x)) (enumerate_from k path) ≡ list_any (λ y. y == x) (drop (rel - k) path)
@@ -36,18 +36,16 @@ kept_from rel x k (y ∷ path) = elim (below_or_past k rel) [
       rw (test, here) (ap (λ b. (y == x) || b) (kept_from rel x (k + 1) path ∙ ap (λ n. list_any (λ z. z == x) (drop n path)) rest)))
 ]
 
--- A route that holds sections holds its overlap, its protecting points, and its path from index
--- rel.
-pub held_parts : (route : Route) (now : RouteState) (x : ℕ) → is_holding_state now ≡ true → holds_section x route now ≡ ((has_section x route.overlap || has_section x (protecting_points_of route)) || has_section x (drop now.rel route.path))
+pub held_parts : (route : Route) (now : RouteState) (x : ℕ) → is_holding_state now ≡ true → holds_section x route now ≡ ((contains_section x route.overlap || contains_section x (protecting_points_of route)) || contains_section x
+    (drop now.rel route.path))
 held_parts route now x holds =
-    let beside : has_section x (sections_outside_path route) ≡ (has_section x route.overlap || has_section x (protecting_points_of route)) = list_any-append (λ y. y == x) route.overlap (protecting_points_of route) in
+    let beside : contains_section x (sections_outside_path route) ≡ (contains_section x route.overlap || contains_section x (protecting_points_of route)) = list_any-append (λ y. y == x) route.overlap (protecting_points_of route) in
     let whole : now.rel - 0 ≡ now.rel = omega arith in
-    let kept : is_unreleased_on_path route now x ≡ has_section x (drop now.rel route.path) = kept_from now.rel x 0 route.path ∙ ap (λ n. has_section x (drop n route.path)) whole in
-    ap (λ b. b && (has_section x (sections_outside_path route) || is_unreleased_on_path route now x)) holds
+    let kept : is_unreleased_on_path route now x ≡ contains_section x (drop now.rel route.path) = kept_from now.rel x 0 route.path ∙ ap (λ n. contains_section x (drop n route.path)) whole in
+    ap (λ b. b && (contains_section x (sections_outside_path route) || is_unreleased_on_path route now x)) holds
     ∙ ap (λ b. b || is_unreleased_on_path route now x) beside
-    ∙ ap (λ b. (has_section x route.overlap || has_section x (protecting_points_of route)) || b) kept
+    ∙ ap (λ b. (contains_section x route.overlap || contains_section x (protecting_points_of route)) || b) kept
 
--- Counts of the numbers below n that pass.
 module _ (test : ℕ → Bool) where
   count_more : (n : ℕ) → count_by test (range_with_len 0 (suc n)) ≡ count_by test (range_with_len 0 n) + cond (test n) 1 0
   count_more n =
@@ -125,8 +123,7 @@ one_alone true true h e f = both_ways true (sym h) refl
 one_alone true false h e f = both_ways false refl f
 one_alone false b h e f = both_ways false refl e
 
--- The bits are exact for each section of the plant.
-module _ (p : PlantLists) (s : State) (shared : SharedSections) (exact : (x : ℕ) → x < length p.sections → is_shared shared x ≡ is_held_by_two_routes p s x) where
+module _ (p : PlantLists) (s : State) (shared : SharedSections) (exact : (x : ℕ) → x < length p.sections → has_shared_section_bit shared x ≡ is_held_by_two_routes p s x) where
   abbrev holds : ℕ → ℕ → Bool
   holds x r = route_holds p s r x
 
@@ -136,15 +133,14 @@ module _ (p : PlantLists) (s : State) (shared : SharedSections) (exact : (x : �
   abbrev are_apart : ℕ → ℕ → Bool
   are_apart r q = r == q || hold_nothing_together r q
 
-  -- If no bit is set, no two routes hold the same section.
-  alone : (x r q : ℕ) → all_below (length p.sections) (λ y. not (is_shared shared y)) ≡ true → x < length p.sections → r < q → q < length p.routes → holds x r ≡ true → holds x q ≡ true → ⊥
+  alone : (x r q : ℕ) → all_below (length p.sections) (λ y. not (has_shared_section_bit shared y)) ≡ true → x < length p.sections → r < q → q < length p.routes → holds x r ≡ true → holds x q ≡ true → ⊥
   alone x r q none within order below first second =
-      let test : not (is_shared shared x) ≡ true = below-at (λ y. not (is_shared shared y)) (length p.sections) x none within in
+      let test : not (has_shared_section_bit shared x) ≡ true = below-at (λ y. not (has_shared_section_bit shared y)) (length p.sections) x none within in
       let twice = two_counted (holds x) (length p.routes) r q order below first second in
       let more : is_held_by_two_routes p s x ≡ true = grind (arith, nat_tests, twice) in
-      both_ways (not (is_shared shared x)) (ap not (exact x within ∙ more)) test
+      both_ways (not (has_shared_section_bit shared x)) (ap not (exact x within ∙ more)) test
 
-  apart : all_below (length p.sections) (λ y. not (is_shared shared y)) ≡ true → (r q : ℕ) → r < length p.routes → q < length p.routes → are_apart r q ≡ true
+  apart : all_below (length p.sections) (λ y. not (has_shared_section_bit shared y)) ≡ true → (r q : ℕ) → r < length p.routes → q < length p.routes → are_apart r q ≡ true
   apart none r q here there = elim (cases_eq r q) [
     | inl same ↦ or_left (r == q) (hold_nothing_together r q) (let test : (r == q) ≡ true = grind (arith, nat_tests, same) in test)
     | inr differ ↦ or_right (r == q) (hold_nothing_together r q)
@@ -162,12 +158,11 @@ module _ (p : PlantLists) (s : State) (shared : SharedSections) (exact : (x : �
         | inr more ↦ alone x q r none within (by_order more differ) here second first
       ]
 
-  -- If no two routes hold the same section, no bit is set.
-  none : keeps_v2 p s ≡ true → (x : ℕ) → x < length p.sections → not (is_shared shared x) ≡ true
+  none : keeps_v2_sections_held_once p s ≡ true → (x : ℕ) → x < length p.sections → not (has_shared_section_bit shared x) ≡ true
   none kept x within =
       let few = few_counted (holds x) (length p.routes) (λ q r order below first second. pair q r order below first second) in
       let test : is_held_by_two_routes p s x ≡ false = grind (arith, nat_tests, few) in
-      not_from_false (is_shared shared x) (exact x within ∙ test)
+      not_from_false (has_shared_section_bit shared x) (exact x within ∙ test)
     where
       pair : (q r : ℕ) → q < r → r < length p.routes → holds x q ≡ true → holds x r ≡ true → ⊥
       pair q r order below first second =
@@ -179,8 +174,8 @@ module _ (p : PlantLists) (s : State) (shared : SharedSections) (exact : (x : �
             | inr nothing ↦ one_alone (holds x q) (holds x r) (below-at (λ y. not (route_holds p s q y && route_holds p s r y)) (length p.sections) x nothing within) first second
           ]
 
-  pub none_held_twice : all_below (length p.sections) (λ x. not (is_shared shared x)) ≡ keeps_v2 p s
+  pub none_held_twice : all_below (length p.sections) (λ x. not (has_shared_section_bit shared x)) ≡ keeps_v2_sections_held_once p s
   none_held_twice =
-      same_truth (all_below (length p.sections) (λ x. not (is_shared shared x))) (keeps_v2 p s)
+      same_truth (all_below (length p.sections) (λ x. not (has_shared_section_bit shared x))) (keeps_v2_sections_held_once p s)
       (λ clear. each-below (λ r. all_below (length p.routes) (are_apart r)) (length p.routes) (λ r here. each-below (are_apart r) (length p.routes) (λ q there. apart clear r q here there)))
-      (λ kept. each-below (λ x. not (is_shared shared x)) (length p.sections) (none kept))
+      (λ kept. each-below (λ x. not (has_shared_section_bit shared x)) (length p.sections) (none kept))

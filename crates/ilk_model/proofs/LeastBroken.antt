@@ -8,7 +8,7 @@ use Rattle.ilk_plant.specs.declared.state.Hold.TheVariants.{Locked as LockedLock
 use Rattle.ilk_plant.specs.declared.state.Mode.TheVariants.{Locked}
 use Rattle.ilk_plant.specs.declared.state.RouteState.{RouteState}
 use Rattle.ilk_plant.specs.declared.state.State.{State}
-use Rattle.ilk_motion.specs.TwoSections.{two_sections}
+use Rattle.ilk_motion.specs.TwoSections.{two_section_plant}
 use Rattle.ilk_routes.specs.Locks.{with_locks}
 use Rattle.ilk_model.specs.Meets.{first_broken_family}
 use Rattle.ilk_model.specs.Run.{run}
@@ -17,10 +17,10 @@ use Rattle.ilk_model.proofs.Examples.{station}
 
 -- Two sections without boards. A train that has entered is on no route's path: its head violates
 -- V7, its body V8.
-nothing_at_the_start : first_broken_family two_sections (start two_sections) ≡ None
+nothing_at_the_start : first_broken_family two_section_plant (start two_section_plant) ≡ None
 nothing_at_the_start = refl
 
-one_has_entered : option_map (first_broken_family two_sections) (run two_sections (start two_sections) (Enter 0 ∷ [])) ≡ Some (Some 7)
+one_has_entered : option_map (first_broken_family two_section_plant) (run two_section_plant (start two_section_plant) (Enter 0 ∷ [])) ≡ Some (Some 7)
 one_has_entered = refl
 
 -- The station, but the route from track t1 to b2 has the board on b1 as a protecting board.

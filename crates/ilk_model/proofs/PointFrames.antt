@@ -1,5 +1,4 @@
--- Frame theorems of throw and settle: what each requires, what it changes, and that nothing else
--- changes.
+-- The conditions and the effects of throw and settle, and that nothing else changes.
 use Rattle.std.proofs.Common.{◌≡◌, ℕ, true, false, not, Some, set, slice_get, refl}
 use Rattle.std.proofs.lemmas.Bool.{and_parts}
 use Rattle.std.proofs.lemmas.Option.{cond_some, option_and_then_some}

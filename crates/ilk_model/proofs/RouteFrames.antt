@@ -1,5 +1,4 @@
--- Frame theorems of route events: what each requires, what it changes, and that nothing else
--- changes.
+-- The conditions and the effects of each route event, and that nothing else changes.
 use Rattle.std.proofs.Common.{◌≡◌, ℕ, ◌+◌, ◌≤◌, true, false, not, ◌==◌, ◌&&◌, ◌||◌, Some, None, List, length, nat_le, set, slice_get, refl, sym, ◌∙◌, arith}
 use Rattle.std.specs.Prelude.{if◌then◌else◌}
 use Rattle.std.specs.List.{last_or, list_all}
@@ -17,12 +16,12 @@ use Rattle.ilk_plant.specs.declared.state.Mode.TheVariants.{Free, Marked, Alloca
 use Rattle.ilk_plant.specs.declared.state.RouteState.{RouteState}
 use Rattle.ilk_plant.specs.declared.state.State.{State}
 use Rattle.ilk_plant.specs.declared.table.Route.{Route}
-use Rattle.ilk_routes.specs.Boards.{has_aspect, is_held_closed}
+use Rattle.ilk_routes.specs.Boards.{has_aspect, is_protecting_locked_route}
 use Rattle.ilk_routes.specs.Claims.{sections_outside_path, required_points}
 use Rattle.ilk_routes.specs.Lies.{is_detected_as_listed, with_commands}
 use Rattle.ilk_routes.specs.Locks.{with_locks}
 use Rattle.ilk_routes.specs.Modes.{same_mode}
-use Rattle.ilk_routes.specs.Routes.{after_allocate, after_cancel, after_finish, after_lock, after_mark, after_release, after_sense, can_reserve_sections, can_lock}
+use Rattle.ilk_routes.specs.Routes.{after_allocate, after_cancel, after_finish, after_lock, after_mark, after_release, after_sense, can_allocate_if_marked, can_lock_if_allocating}
 use Rattle.ilk_model.specs.Holding.{is_locked_or_occupied}
 use Rattle.ilk_model.proofs.Alike.{one_mode}
 use Rattle.ilk_model.proofs.SameLists.{same-lists}
@@ -80,7 +79,7 @@ allocate-frame p s t r e =
     option_and_then_some _ (slice_get s.routes r) t e1 (λ now state e2.
     let done = cond_some _ _ t e2 in
     let same = same-lists _ t done.1 in
-    let asked = and_parts (same_mode now.mode Marked) (can_reserve_sections s route) done.0 in
+    let asked = and_parts (same_mode now.mode Marked) (can_allocate_if_marked s route) done.0 in
     record {
       route = route;
       now = now;
@@ -103,7 +102,7 @@ pub record IsLocked (p : PlantLists) (s t : State) (r : ℕ) : Type 0 where
   pub was : now.mode ≡ Allocating
   pub lie : list_all (is_detected_as_listed p s) (required_points route) ≡ true
   pub closed : list_all (λ m. has_aspect s m Closed) route.protecting_boards ≡ true
-  pub unprotecting : is_held_closed p s route.source ≡ false
+  pub unprotecting : is_protecting_locked_route p s route.source ≡ false
   pub points : t.points ≡ s.points
   pub boards : t.boards ≡ set s.boards route.source Open
   pub locks : t.locks ≡ s.locks
@@ -115,10 +114,10 @@ lock-frame p s t r e =
     option_and_then_some _ (slice_get s.routes r) t e1 (λ now state e2.
     let done = cond_some _ _ t e2 in
     let same = same-lists _ t done.1 in
-    let asked = and_parts (same_mode now.mode Allocating) (can_lock p s route) done.0 in
+    let asked = and_parts (same_mode now.mode Allocating) (can_lock_if_allocating p s route) done.0 in
     let lie = list_all (is_detected_as_listed p s) (required_points route) in
     let closed = list_all (λ m. has_aspect s m Closed) route.protecting_boards in
-    let parts = and_parts (lie && closed) (not (is_held_closed p s route.source)) asked.1 in
+    let parts = and_parts (lie && closed) (not (is_protecting_locked_route p s route.source)) asked.1 in
     let both = and_parts lie closed parts.0 in
     record {
       route = route;
@@ -127,7 +126,7 @@ lock-frame p s t r e =
       was = one_mode now.mode Allocating asked.0;
       lie = both.0;
       closed = both.1;
-      unprotecting = fails (is_held_closed p s route.source) parts.1;
+      unprotecting = fails (is_protecting_locked_route p s route.source) parts.1;
       points = same.points;
       boards = same.boards;
       locks = same.locks;

@@ -1,4 +1,3 @@
--- Equal states have the same lists.
 use Rattle.std.proofs.Common.{◌≡◌, refl, sym, ap}
 use Rattle.ilk_plant.specs.declared.state.State.{State}
 

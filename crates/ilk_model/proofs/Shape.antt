@@ -1,4 +1,3 @@
--- An event keeps states well-formed.
 use Rattle.std.proofs.Common.{◌≡◌, Some}
 use Rattle.ilk_plant.specs.Plant.{IsPlant, PlantLists}
 use Rattle.ilk_plant.specs.Shape.{HasShape}

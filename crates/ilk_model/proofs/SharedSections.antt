@@ -8,8 +8,8 @@ use Rattle.std.proofs.lemmas.List.Folds.{list_any_more}
 use Rattle.std.proofs.lemmas.List.Sums.{count_by_more_no, count_by_more_yes}
 use Rattle.std.proofs.lemmas.Nat.Bits.{bit_at_and, bit_at_or, bit_at_set_other, bit_at_set_same, bit_at-lt}
 use Rattle.ilk_base.proofs.Truth.{or-true}
-use Rattle.ilk_plant.specs.Network.{has_section}
-use Rattle.ilk_model.specs.Shared.{is_shared}
+use Rattle.ilk_plant.specs.Network.{contains_section}
+use Rattle.ilk_model.specs.Shared.{has_shared_section_bit}
 use Rattle.ilk_model.specs.declared.shared.SharedSections.{SharedSections}
 
 abbrev pub bit : Bool → ℕ
@@ -47,7 +47,7 @@ bit_kept bits y x h past below e =
     let differs : (y == x) ≡ false = grind (arith, nat_tests) in
     e ∙ ap bit (sym (or-false h)) ∙ ap (λ b. bit (h || b)) (sym differs)
 
-pub has_more : (x : ℕ) (sections : List ℕ) (i d : ℕ) → i < length sections → has_section x (take (i + 1) sections) ≡ (has_section x (take i sections) || (get_or sections i d == x))
+pub has_more : (x : ℕ) (sections : List ℕ) (i d : ℕ) → i < length sections → contains_section x (take (i + 1) sections) ≡ (contains_section x (take i sections) || (get_or sections i d == x))
 has_more x sections i d within = list_any_more (λ y. y == x) sections i d within
 
 max_bits : (a b : Bool) → max (bit a) (bit b) ≡ bit (a || b)
@@ -81,7 +81,6 @@ two_same true b = refl
 two_same false true = refl
 two_same false false = refl
 
--- The bits after one more train.
 module _ {T : Type 0} (has : T → Bool) (trains : List T) (i : ℕ) (d : T) (within : i < length trains) (x seen shared body : ℕ)
     (before : bit_at seen x ≡ bit (nat_lt 0 (count_by has (take i trains))))
     (twice : bit_at shared x ≡ bit (nat_lt 1 (count_by has (take i trains))))
@@ -103,8 +102,8 @@ module _ {T : Type 0} (has : T → Bool) (trains : List T) (i : ℕ) (d : T) (wi
       by_test true e = ap bit (two_more (count_by has (take i trains)) ∙ ap (nat_lt 1) (sym (count_by_more_yes has trains i d within e)))
       by_test false e = ap bit (two_same (nat_lt 1 (count_by has (take i trains))) (nat_lt 0 (count_by has (take i trains))) ∙ ap (nat_lt 1) (sym (count_by_more_no has trains i d within e)))
 
--- All bits are exact if the low and the high ones are.
-pub shared_exact : (shared : SharedSections) (two : ℕ → Bool) → ((x : ℕ) → x < 128 → bit_at shared.low x ≡ bit (two (0 + x))) → ((x : ℕ) → x < 128 → bit_at shared.high x ≡ bit (two (128 + x))) → (x : ℕ) → x < 256 → is_shared shared x ≡ two x
+pub shared_exact : (shared : SharedSections) (two : ℕ → Bool) → ((x : ℕ) → x < 128 → bit_at shared.low x ≡ bit (two (0 + x))) → ((x : ℕ) → x < 128 → bit_at shared.high x ≡ bit (two (128 + x))) → (x : ℕ) → x < 256 →
+    has_shared_section_bit shared x ≡ two x
 shared_exact shared two low high x within = by_test (nat_lt x 128) refl
   where
     by_test : (b : Bool) → nat_lt x 128 ≡ b → cond b (bit_at shared.low x == 1) (bit_at shared.high (x - 128) == 1) ≡ two x

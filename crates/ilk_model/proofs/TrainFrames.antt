@@ -1,5 +1,4 @@
--- Frame theorems of train events: what each requires, what it changes, and that nothing else
--- changes.
+-- The conditions and the effects of each train event, and that nothing else changes.
 use Rattle.std.proofs.Common.{◌≡◌, ℕ, ◌+◌, true, false, not, Option, Some, None, List, [], ◌∷◌, ◌++◌, position, remove, set, slice_get, refl, ◌∙◌}
 use Rattle.std.proofs.lemmas.Bool.{and_parts}
 use Rattle.std.proofs.lemmas.Option.{cond_some, option_and_then_some, same_Some}
@@ -13,7 +12,7 @@ use Rattle.ilk_plant.specs.declared.state.State.{State}
 use Rattle.ilk_plant.specs.declared.state.Train.{Train}
 use Rattle.ilk_motion.specs.Ahead.{ahead}
 use Rattle.ilk_motion.specs.Body.{has_head_at, has_movable_tail_at, occupies_only, new_train_on, with_new_head, without_tail}
-use Rattle.ilk_motion.specs.Trains.{after_enter, after_head, after_leave, after_tail, may_pass, with_board_closed}
+use Rattle.ilk_motion.specs.Trains.{after_enter, after_head, after_leave, after_tail, may_pass_board, with_board_closed}
 use Rattle.ilk_model.proofs.SameLists.{SameLists, same-lists}
 
 -- `enter x`: x is a border, and was vacant with lock Free. Routes, points, boards, locks and the
@@ -64,7 +63,7 @@ pub record IsHeaded (p : PlantLists) (s t : State) (x : ℕ) : Type 0 where
   pub at : slice_get s.trains i ≡ Some train
   pub heads : has_head_at x train ≡ true
   pub leads : ahead p s x train.dir ≡ Some y
-  pub passes : may_pass s (board_of p x train.dir) ≡ true
+  pub passes : may_pass_board s (board_of p x train.dir) ≡ true
   pub routes : t.routes ≡ s.routes
   pub points : t.points ≡ s.points
   pub boards : t.boards ≡ (with_board_closed (board_of p x train.dir) s).boards

@@ -1,4 +1,3 @@
--- The table of events: the next state if the event is enabled, otherwise `None`.
 use Rattle.std.specs.Prelude.{Option}
 use Rattle.ilk_plant.specs.Plant.{PlantLists}
 use Rattle.ilk_plant.specs.declared.state.State.{State}
@@ -8,7 +7,7 @@ use Rattle.ilk_routes.specs.Routes.{after_allocate, after_cancel, after_finish, 
 use Rattle.ilk_model.specs.declared.event.Event.{Event}
 use Rattle.ilk_model.specs.declared.event.Event.TheVariants.{Mark, Allocate, Lock, Sense, Release, Finish, Throw, Settle, Enter, Head, Tail, Leave, Cancel}
 
--- The state after an event, or `None` if the event isn't enabled.
+-- The state after an event in state s, or `None` if the event is not enabled.
 abbrev pub next : PlantLists → State → Event → Option State
 next p s (Mark r) = after_mark p s r
 next p s (Allocate r) = after_allocate p s r

@@ -1,8 +1,8 @@
--- The words of events in run texts.
 use Rattle.std.specs.Prelude.{ℕ, List, codes}
 use Rattle.ilk_model.specs.declared.event.Event.{Event}
 use Rattle.ilk_model.specs.declared.event.Event.TheVariants.{Mark, Allocate, Lock, Sense, Release, Finish, Throw, Settle, Enter, Head, Tail, Leave, Cancel}
 
+-- The word of an event in run texts.
 abbrev pub event_word : Event → List ℕ
 event_word (Mark r) = codes "mark"
 event_word (Allocate r) = codes "allocate"

@@ -1,12 +1,11 @@
--- Sections that a route holds, and sections that are plain for a train: the terms of the families
--- of the invariant. Tests take a route with its state. A place of its path is an index from 0 with
--- its section.
+-- The terms of the families of the invariant: sections that a route holds, and sections that a
+-- train may leave without passing a board. Tests take a route with its state.
 use Rattle.std.specs.Prelude.{ℕ, Bool, ◌==◌, ◌&&◌, ◌||◌, not, length, nat_le, nat_lt, slice_get}
 use Rattle.std.specs.List.{enumerate_from, list_any, list_all}
 use Rattle.ilk_base.specs.Each.{all_below, any_below}
 use Rattle.ilk_base.specs.Option.{is_some_and}
 use Rattle.ilk_plant.specs.ColumnRules.{has_no_board, source_satisfies}
-use Rattle.ilk_plant.specs.Network.{has_section, same_direction}
+use Rattle.ilk_plant.specs.Network.{contains_section, same_direction}
 use Rattle.ilk_plant.specs.Plant.{PlantLists, next_to}
 use Rattle.ilk_plant.specs.State.{is_occupied}
 use Rattle.ilk_plant.specs.declared.network.Dir.{Dir}
@@ -37,10 +36,11 @@ all_path_indices_pass_test route test = list_all (λ place. test place.0 place.1
 abbrev pub any_path_index_passes_test : Route → (ℕ → ℕ → Bool) → Bool
 any_path_index_passes_test route test = list_any (λ place. test place.0 place.1) (enumerate_from 0 route.path)
 
+-- Returns whether a route in this state is Locked or Occupied.
 abbrev pub is_locked_or_occupied : RouteState → Bool
 is_locked_or_occupied now = same_mode now.mode Locked || same_mode now.mode Occupied
 
--- Returns whether x is path[i] of the route, with i at least `rel`.
+-- Returns whether x is on the route's path and not released: path[i], with i at least `rel`.
 abbrev pub is_unreleased_on_path : Route → RouteState → ℕ → Bool
 is_unreleased_on_path route now x = any_path_index_passes_test route (λ i y. nat_le now.rel i && (y == x))
 
@@ -52,9 +52,9 @@ is_holding_state now = same_mode now.mode Allocating || is_locked_or_occupied no
 -- the section of one of its protecting points, or is path[i] with i at least `rel`.
 abbrev pub holds_section : ℕ → Route → RouteState → Bool
 holds_section x route now =
-    is_holding_state now && (has_section x (sections_outside_path route) || is_unreleased_on_path route now x)
+    is_holding_state now && (contains_section x (sections_outside_path route) || is_unreleased_on_path route now x)
 
--- Returns whether route r holds x.
+-- Returns whether route r holds section x in state s.
 abbrev pub route_holds : PlantLists → State → ℕ → ℕ → Bool
 route_holds p s r x = route_passes_test p s r (holds_section x)
 
@@ -62,10 +62,10 @@ route_holds p s r x = route_passes_test p s r (holds_section x)
 abbrev pub route_runs_in_direction : PlantLists → Dir → Route → Bool
 route_runs_in_direction p d route = source_satisfies p route (λ source. same_direction source.dir d)
 
--- Returns whether x is plain for a train in direction d: it has no board in that direction, but a
--- neighbour.
+-- Returns whether section x has a neighbour in direction d, but no board for d.
 abbrev pub continues_without_board : PlantLists → Dir → ℕ → Bool
 continues_without_board p d x = has_no_board p d x && nat_lt 0 (length (next_to p x d))
 
+-- Returns whether no train has section x in its body.
 abbrev pub is_vacant : State → ℕ → Bool
 is_vacant s x = not (is_occupied s x)

@@ -7,7 +7,8 @@ use Rattle.ilk_model.specs.Event.{next}
 use Rattle.ilk_model.specs.Hazard.{hazard}
 use Rattle.ilk_model.specs.declared.event.Event.{Event}
 
--- The state after an event, if the event is enabled and the state before it has no hazard.
+-- The state after an event, or `None` if the event is not enabled or the state before it has a
+-- hazard.
 abbrev pub next_from_hazard_free : PlantLists → State → Event → Option State
 next_from_hazard_free p s event = do
   safe ← then_some (is_none (hazard p s)) s

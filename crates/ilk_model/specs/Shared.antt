@@ -1,5 +1,5 @@
--- Sections that two or more trains occupy as bits, hazards by these bits, and sections that two or
--- more routes hold. Used only by private contracts.
+-- Sets of sections as bits: those with two or more trains, and those that two or more routes hold.
+-- Used only by private contracts.
 use Rattle.std.specs.Prelude.{ℕ, ◌-◌, Bool, ◌==◌, ◌||◌, count_by, if◌then◌else◌, length, nat_lt}
 use Rattle.std.specs.List.{range_with_len}
 use Rattle.std.specs.Int.{bit_at}
@@ -9,15 +9,16 @@ use Rattle.ilk_model.specs.Hazard.{is_wrong_under_train}
 use Rattle.ilk_model.specs.Holding.{route_holds}
 use Rattle.ilk_model.specs.declared.shared.SharedSections.{SharedSections}
 
--- Returns whether the bit of section x is set. The low bits are for sections below 128, the high
--- bits for the others.
-abbrev pub is_shared : SharedSections → ℕ → Bool
-is_shared shared x = if nat_lt x 128 then bit_at shared.low x == 1 else bit_at shared.high (x - 128) == 1
+-- Returns whether the set has section x. Its low bits are for sections below 128, the high bits for
+-- the others.
+abbrev pub has_shared_section_bit : SharedSections → ℕ → Bool
+has_shared_section_bit shared x = if nat_lt x 128 then bit_at shared.low x == 1 else bit_at shared.high (x - 128) == 1
 
--- Returns whether the bit of x is set, or x is a point that is moving or not set for a train on it.
+-- Returns whether the set has section x, or x is a point that is moving or not set for a train on
+-- it.
 abbrev pub is_section_hazardous_by_bits : PlantLists → State → SharedSections → ℕ → Bool
-is_section_hazardous_by_bits p s shared x = is_shared shared x || is_wrong_under_train p s x
+is_section_hazardous_by_bits p s shared x = has_shared_section_bit shared x || is_wrong_under_train p s x
 
--- Returns whether two or more routes hold x.
+-- Returns whether two or more routes hold section x.
 abbrev pub is_held_by_two_routes : PlantLists → State → ℕ → Bool
 is_held_by_two_routes p s x = nat_lt 1 (count_by (λ r. route_holds p s r x) (range_with_len 0 (length p.routes)))

@@ -10,8 +10,8 @@ use ilk_routes::{
 };
 use std::alloc::{AllocError, Global};
 
-/// An event, with the number of its route (mark to finish, and cancel), of its point's section
-/// (throw and settle) or of its section (enter to leave).
+/// An event with its number: that of the route (mark to finish, and cancel), of the point's section
+/// (throw and settle), or of the section (enter to leave).
 #[derive(Clone, Copy, PartialEq, Eq, Debug)]
 pub enum Event {
     Mark(u32),
@@ -29,8 +29,8 @@ pub enum Event {
     Cancel(u32),
 }
 
-/// Applies the event if it is enabled. Returns whether it is enabled. Otherwise, or if memory runs
-/// out, the state doesn't change.
+/// Applies event `e` to state `s` if it is enabled, and returns whether it is. If not, or if memory
+/// runs out, the state doesn't change.
 pub fn apply(alloc: Global, plant: &Plant, s: &mut State, e: Event) -> Result<bool, AllocError>
     requires { HasShape plant.now s.old }
     ensures answer { IfOk result (λ enabled. enabled ≡ is_some (next plant.now s.old e)) }

@@ -4,19 +4,18 @@ ghost use Rattle.ilk_plant.specs.Shape.{HasShape};
 ghost use Rattle.ilk_model.specs.Hazard.{are_adjacent_in_body, hazard, is_wrong_under_train, is_wrong_under_body};
 ghost use Rattle.ilk_model.specs.Shared.{is_section_hazardous_by_bits};
 
-use crate::shared::{SharedSections, is_shared, shared_sections};
-use ilk_plant::{Lie, Plant, Row, Section, State, Train, detected_position, has_section};
+use crate::shared::{SharedSections, has_shared_section_bit, shared_sections};
+use ilk_plant::{Lie, Plant, Row, Section, State, Train, contains_section, detected_position};
 
-/// A hazard, at a section.
+/// A hazard, with its section.
 #[derive(Clone, Copy, PartialEq, Eq, Debug)]
 pub enum HazardAt {
-    /// Collision: two trains have the section in their bodies.
+    /// Collision: two or more trains have the section in their bodies.
     Two(u32),
-    /// Derailment risk: a train is on the point, which is moving or not set for the train's body.
+    /// Derailment risk: a train is on the point, which is moving or not set for the train.
     Wrong(u32),
 }
 
-// Returns whether `x` and `y` are adjacent in the body, in either order.
 fn has_pair(body: &Row<u32>, x: u32, y: u32) -> bool
     ensures { result ≡ are_adjacent_in_body x y body.now }
 {
@@ -27,8 +26,6 @@ fn has_pair(body: &Row<u32>, x: u32, y: u32) -> bool
         .any(|(a, b)| (*a == x && *b == y) || (*a == y && *b == x))
 }
 
-// Returns whether the body is on point `x` while it moves, or runs over the leg other than its
-// detected position `lie`.
 fn strays(body: &Row<u32>, x: u32, plus: u32, minus: u32, lie: Option<Lie>) -> bool
     ensures { result ≡ is_wrong_under_body x plus minus lie body.now }
 {
@@ -36,7 +33,7 @@ fn strays(body: &Row<u32>, x: u32, plus: u32, minus: u32, lie: Option<Lie>) -> b
         None => false,
         Some(Lie::Plus) => has_pair(body, x, minus),
         Some(Lie::Minus) => has_pair(body, x, plus),
-        Some(Lie::Moving) => has_section(body, x),
+        Some(Lie::Moving) => contains_section(body, x),
     }
 }
 
@@ -50,7 +47,8 @@ fn any_strays(trains: &Row<Train>, x: u32, plus: u32, minus: u32, lie: Option<Li
         .any(|train| strays(&train.body, x, plus, minus, lie))
 }
 
-/// Returns whether `x` is a point that is moving or not set for a train on it.
+/// Returns whether section `x` is a point that, in state `s`, is moving or not set for a train on
+/// it.
 pub fn is_wrong_under_train(plant: &Plant, s: &State, x: u32) -> bool
     ensures { result ≡ is_wrong_under_train plant.now s.now x }
 {
@@ -69,7 +67,7 @@ pub fn is_wrong_under_train(plant: &Plant, s: &State, x: u32) -> bool
 fn is_section_hazardous(plant: &Plant, s: &State, shared: SharedSections, x: u32) -> bool
     ensures { result ≡ is_section_hazardous_by_bits plant.now s.now shared x }
 {
-    is_shared(shared, x) || is_wrong_under_train(plant, s, x)
+    has_shared_section_bit(shared, x) || is_wrong_under_train(plant, s, x)
 }
 
 fn first_hazardous(plant: &Plant, s: &State, shared: SharedSections) -> Option<u32>
@@ -80,8 +78,8 @@ fn first_hazardous(plant: &Plant, s: &State, shared: SharedSections) -> Option<u
     (0..plant.sections()).find(|x| is_section_hazardous(plant, s, shared, *x))
 }
 
-/// Returns the hazard at the first section that has one; at the same section, `Two` comes before
-/// `Wrong`. Returns `None` if there is no hazard.
+/// Returns the hazard of state `s` at the first section that has one, or `None` if there is none.
+/// At the same section, `Two` comes before `Wrong`.
 pub fn hazard(plant: &Plant, s: &State) -> Option<HazardAt>
     requires { HasShape plant.now s.now }
     ensures { result ≡ hazard plant.now s.now }
@@ -89,7 +87,7 @@ pub fn hazard(plant: &Plant, s: &State) -> Option<HazardAt>
     plant.prove_is_plant();
     let shared = shared_sections(s);
     let x = first_hazardous(plant, s, shared)?;
-    Some(if is_shared(shared, x) {
+    Some(if has_shared_section_bit(shared, x) {
         HazardAt::Two(x)
     } else {
         HazardAt::Wrong(x)

@@ -3,20 +3,20 @@
 ghost use Rattle.std.specs.Prelude.{ℕ, ◌≡◌, ◌+◌, ◌<◌, drop, if◌then◌else◌, length, map, not};
 ghost use Rattle.std.specs.Int.{bit_at};
 ghost use Rattle.ilk_base.specs.Each.{all_below};
-ghost use Rattle.ilk_plant.specs.Network.{has_section};
+ghost use Rattle.ilk_plant.specs.Network.{contains_section};
 ghost use Rattle.ilk_plant.specs.Shape.{HasShape};
-ghost use Rattle.ilk_model.specs.Families.{keeps_v2};
+ghost use Rattle.ilk_model.specs.Families.{keeps_v2_sections_held_once};
 ghost use Rattle.ilk_model.specs.Holding.{holds_section, route_holds};
-ghost use Rattle.ilk_model.specs.Shared.{is_held_by_two_routes, is_shared};
+ghost use Rattle.ilk_model.specs.Shared.{is_held_by_two_routes, has_shared_section_bit};
 
 use crate::holding::is_holding_state;
-use crate::shared::{SharedSections, is_shared, sections_of, with_section};
+use crate::shared::{SharedSections, has_shared_section_bit, section_bits_from, with_section};
 use ilk_plant::{Listed, Plant, Route, RouteState, State};
 
 fn sections_of_points(points: &[Listed], from: u32) -> u128
     ensures { (x : ℕ) → x < 128 →
         bit_at result x
-        ≡ (if has_section (from + x) (map (λ listed. listed.point) points.now) then 1 else 0) }
+        ≡ (if contains_section (from + x) (map (λ listed. listed.point) points.now) then 1 else 0) }
 {
     let mut bits: u128 = 0;
     for listed in points {
@@ -25,7 +25,6 @@ fn sections_of_points(points: &[Listed], from: u32) -> u128
     bits
 }
 
-// Returns the sections of the path that a route hasn't released.
 fn kept_sections(route: &Route, now: RouteState) -> &[u32]
     ensures { result.now ≡ drop now.rel route.now.path }
 {
@@ -42,9 +41,9 @@ fn held_sections(route: &Route, now: RouteState, from: u32) -> u128
     if !is_holding_state(now) {
         return 0;
     }
-    let overlap = sections_of(route.overlap.as_slice(), from);
+    let overlap = section_bits_from(route.overlap.as_slice(), from);
     let protecting = sections_of_points(route.protecting_points.as_slice(), from);
-    let kept = sections_of(kept_sections(route, now), from);
+    let kept = section_bits_from(kept_sections(route, now), from);
     overlap | protecting | kept
 }
 
@@ -74,7 +73,8 @@ fn held_twice_from(plant: &Plant, s: &State, from: u32) -> u128
 
 fn held_twice(plant: &Plant, s: &State) -> SharedSections
     requires { HasShape plant.now s.now }
-    ensures { (x : ℕ) → x < 256 → is_shared result x ≡ is_held_by_two_routes plant.now s.now x }
+    ensures { (x : ℕ) → x < 256 → has_shared_section_bit result x ≡
+        is_held_by_two_routes plant.now s.now x }
 {
     SharedSections {
         low: held_twice_from(plant, s, 0),
@@ -83,15 +83,15 @@ fn held_twice(plant: &Plant, s: &State) -> SharedSections
 }
 
 fn has_none_of(plant: &Plant, shared: SharedSections) -> bool
-    ensures { result ≡ all_below (length plant.now.sections) (λ x. not (is_shared shared x)) }
+    ensures { result ≡ all_below (length plant.now.sections) (λ x.
+        not (has_shared_section_bit shared x)) }
 {
-    (0..plant.sections()).all(|x| !is_shared(shared, x))
+    (0..plant.sections()).all(|x| !has_shared_section_bit(shared, x))
 }
 
-// Returns whether no two routes hold the same section.
-pub(crate) fn keeps_v2(plant: &Plant, s: &State) -> bool
+pub(crate) fn keeps_v2_sections_held_once(plant: &Plant, s: &State) -> bool
     requires { HasShape plant.now s.now }
-    ensures { result ≡ keeps_v2 plant.now s.now }
+    ensures { result ≡ keeps_v2_sections_held_once plant.now s.now }
 {
     plant.prove_is_plant();
     has_none_of(plant, held_twice(plant, s))

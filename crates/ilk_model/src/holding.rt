@@ -1,5 +1,5 @@
-//! Sections that a route holds, and sections that are plain for a train: the terms of the families
-//! of the invariant.
+//! Tests for the families of the invariant: sections that a route holds, and sections that a train
+//! may leave without passing a board.
 ghost use Rattle.std.specs.Prelude.{◌≡◌};
 ghost use Rattle.std.specs.List.{list_all};
 ghost use Rattle.ilk_model.specs.Holding.{is_holding_state, is_unreleased_on_path, is_locked_or_occupied, continues_without_board, is_vacant, route_runs_in_direction};
@@ -13,14 +13,12 @@ pub(crate) fn all_vacant(s: &State, sections: &[u32]) -> bool
     sections.iter().all(|x| !occupied(s, *x))
 }
 
-/// Returns whether a route in this state is Locked or Occupied.
 pub(crate) fn is_locked_or_occupied(now: RouteState) -> bool
     ensures { result ≡ is_locked_or_occupied now }
 {
     now.mode == Mode::Locked || now.mode == Mode::Occupied
 }
 
-/// Returns whether a route in this state holds sections: it is Allocating, Locked or Occupied.
 pub(crate) fn is_holding_state(now: RouteState) -> bool
     ensures { result ≡ is_holding_state now }
 {
@@ -46,8 +44,7 @@ pub(crate) fn runs_in(plant: &Plant, d: Dir, route: &Route) -> bool
     route.source < plant.boards() && plant.board(route.source).dir == d
 }
 
-/// Returns whether section `x` is plain for a train in direction `d`: it has no board in that
-/// direction, but a neighbour.
+/// Returns whether section `x` has a neighbour in direction `d`, but no board for `d`.
 pub(crate) fn is_plain(plant: &Plant, d: Dir, x: u32) -> bool
     ensures { result ≡ continues_without_board plant.now d x }
 {

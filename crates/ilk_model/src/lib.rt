@@ -1,9 +1,9 @@
-//! Events, runs and hazards of a plant, in one table of all train, route and point events.
+//! Events, runs and hazards of a plant.
 //!
 //! A run begins in a state, such as the initial one from `start`. `apply` extends it by one event.
-//! `hazard` returns whether two trains are in one section, or a train is on a point that is moving
-//! or not set for it. `is_wrong_under_train` checks the second for one section. The definition of a
-//! run (`specs/Run.antt`) continues only from states without a hazard.
+//! `hazard` returns the first hazard: two trains are in one section, or a train is on a point that
+//! is moving or not set for it. `is_wrong_under_train` checks the second for one section. The
+//! definition of a run (`specs/Run.antt`) continues only from states without a hazard.
 //!
 //! `broken_family` returns the first of the nine families of the invariant that a state violates
 //! (`specs/Families.antt`, and `specs/Meets.antt` for all of them).

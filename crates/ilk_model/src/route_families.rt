@@ -11,15 +11,15 @@ ghost use Rattle.ilk_routes.specs.Boards.{has_aspect};
 ghost use Rattle.ilk_routes.specs.Claims.{sections_outside_path};
 ghost use Rattle.ilk_routes.specs.Modes.{same_mode};
 ghost use Rattle.ilk_model.specs.Commanded.{is_commanded_as_listed};
-ghost use Rattle.ilk_model.specs.Families.{has_required_locks, is_commanded_if_allocating, keeps_v1, keeps_v3, keeps_v4, keeps_v5, keeps_v6, keeps_v9, is_set_if_locked_or_occupied, path_section_lock};
+ghost use Rattle.ilk_model.specs.Families.{has_required_locks, is_commanded_if_allocating, keeps_v1_consistent_counts, keeps_v3_locks_match_routes, keeps_v4_allocating_paths_vacant, keeps_v5_open_needs_locked, keeps_v6_route_points_set, keeps_v9_protecting_boards_closed, is_set_if_locked_or_occupied, path_section_lock};
 ghost use Rattle.ilk_model.specs.Holding.{all_path_indices_pass_test, is_holding_state, is_vacant, any_route_passes_test};
 
 use crate::holding::{all_vacant, is_holding_state, is_kept_on_path, is_locked_or_occupied};
 use ilk_plant::{
-    Aspect, Hold, Listed, Mode, Plant, Route, RouteState, Row, State, has_lock_state, has_section,
-    point_number_at,
+    Aspect, Hold, Listed, Mode, Plant, Route, RouteState, Row, State, contains_section,
+    has_lock_state, point_number_at,
 };
-use ilk_routes::{all_closed, has_aspect, is_detected_as_listed};
+use ilk_routes::{all_boards_closed, has_aspect, is_detected_as_listed};
 
 // Returns whether the counts of a route fit its mode. If it is Occupied, fewer sections are
 // released than seen, and at most the whole path is seen. Otherwise both counts are 0.
@@ -35,10 +35,9 @@ fn counts_fit_mode(route: &Route, now: RouteState) -> bool
     }
 }
 
-// Returns whether the counts of each route fit its mode.
-pub(crate) fn keeps_v1(plant: &Plant, s: &State) -> bool
+pub(crate) fn keeps_v1_consistent_counts(plant: &Plant, s: &State) -> bool
     requires { HasShape plant.now s.now }
-    ensures { result ≡ keeps_v1 plant.now s.now }
+    ensures { result ≡ keeps_v1_consistent_counts plant.now s.now }
 {
     (0..plant.routes()).all(|r| counts_fit_mode(plant.route(r), *s.routes.at(r as u64)))
 }
@@ -103,10 +102,9 @@ fn held_have_their_locks(s: &State, route: &Route, now: RouteState) -> bool
     !is_holding_state(now) || has_its_locks(s, route, now)
 }
 
-// Returns whether the sections that each route holds have their locks.
-pub(crate) fn keeps_v3(plant: &Plant, s: &State) -> bool
+pub(crate) fn keeps_v3_locks_match_routes(plant: &Plant, s: &State) -> bool
     requires { HasShape plant.now s.now }
-    ensures { result ≡ keeps_v3 plant.now s.now }
+    ensures { result ≡ keeps_v3_locks_match_routes plant.now s.now }
 {
     (0..plant.routes()).all(|r| held_have_their_locks(s, plant.route(r), *s.routes.at(r as u64)))
 }
@@ -120,10 +118,9 @@ fn is_vacant_while_allocating(s: &State, route: &Route, now: RouteState) -> bool
     now.mode != Mode::Allocating || all_vacant(s, route.path.as_slice())
 }
 
-// Returns whether the path of each Allocating route is vacant.
-pub(crate) fn keeps_v4(plant: &Plant, s: &State) -> bool
+pub(crate) fn keeps_v4_allocating_paths_vacant(plant: &Plant, s: &State) -> bool
     requires { HasShape plant.now s.now }
-    ensures { result ≡ keeps_v4 plant.now s.now }
+    ensures { result ≡ keeps_v4_allocating_paths_vacant plant.now s.now }
 {
     (0..plant.routes()).all(|r| {
         is_vacant_while_allocating(s, plant.route(r), *s.routes.at(r as u64))
@@ -160,15 +157,13 @@ fn is_rightly_open(plant: &Plant, s: &State, m: u32) -> bool
     !has_aspect(s, m, Aspect::Open) || may_be_open(plant, s, m)
 }
 
-// Returns whether each Open board is the source of a Locked route with a vacant path.
-pub(crate) fn keeps_v5(plant: &Plant, s: &State) -> bool
+pub(crate) fn keeps_v5_open_needs_locked(plant: &Plant, s: &State) -> bool
     requires { HasShape plant.now s.now }
-    ensures { result ≡ keeps_v5 plant.now s.now }
+    ensures { result ≡ keeps_v5_open_needs_locked plant.now s.now }
 {
     (0..plant.boards()).all(|m| is_rightly_open(plant, s, m))
 }
 
-// Returns whether a listed point is commanded to its listed position.
 fn is_commanded_as_listed(plant: &Plant, s: &State, listed: &Listed) -> bool
     ensures { result ≡ is_commanded_as_listed plant.now s.now listed.now }
 {
@@ -190,7 +185,7 @@ fn is_commanded_if_allocating(
 ) -> bool
     ensures { result ≡ is_commanded_if_allocating plant.now s.now route.now now listed.now }
 {
-    if now.mode == Mode::Allocating && has_section(&route.path, listed.point) {
+    if now.mode == Mode::Allocating && contains_section(&route.path, listed.point) {
         is_commanded_as_listed(plant, s, listed)
     } else {
         true
@@ -219,10 +214,9 @@ fn points_fit_mode(plant: &Plant, s: &State, route: &Route, now: RouteState) -> 
     })
 }
 
-// Returns whether each route's listed points are as its mode requires.
-pub(crate) fn keeps_v6(plant: &Plant, s: &State) -> bool
+pub(crate) fn keeps_v6_route_points_set(plant: &Plant, s: &State) -> bool
     requires { HasShape plant.now s.now }
-    ensures { result ≡ keeps_v6 plant.now s.now }
+    ensures { result ≡ keeps_v6_route_points_set plant.now s.now }
 {
     (0..plant.routes()).all(|r| {
         points_fit_mode(plant, s, plant.route(r), *s.routes.at(r as u64))
@@ -236,13 +230,12 @@ fn is_protected(s: &State, route: &Route, now: RouteState) -> bool
         then list_all (λ m. has_aspect s.now m Closed) route.now.protecting_boards
         else true) }
 {
-    now.mode != Mode::Locked || all_closed(s, &route.protecting_boards)
+    now.mode != Mode::Locked || all_boards_closed(s, &route.protecting_boards)
 }
 
-// Returns whether each protecting board of a Locked route is Closed.
-pub(crate) fn keeps_v9(plant: &Plant, s: &State) -> bool
+pub(crate) fn keeps_v9_protecting_boards_closed(plant: &Plant, s: &State) -> bool
     requires { HasShape plant.now s.now }
-    ensures { result ≡ keeps_v9 plant.now s.now }
+    ensures { result ≡ keeps_v9_protecting_boards_closed plant.now s.now }
 {
     (0..plant.routes()).all(|r| is_protected(s, plant.route(r), *s.routes.at(r as u64)))
 }

@@ -1,8 +1,8 @@
 ghost use Rattle.std.specs.Prelude.{ℕ, ◌≡◌, ◌==◌, ◌||◌, ◌+◌, ◌<◌, if◌then◌else◌};
 ghost use Rattle.std.specs.Int.{bit_at};
-ghost use Rattle.ilk_plant.specs.Network.{has_section};
+ghost use Rattle.ilk_plant.specs.Network.{contains_section};
 ghost use Rattle.ilk_model.specs.Hazard.{has_two_trains};
-ghost use Rattle.ilk_model.specs.Shared.{is_shared};
+ghost use Rattle.ilk_model.specs.Shared.{has_shared_section_bit};
 
 use ilk_plant::State;
 
@@ -36,9 +36,9 @@ pub(crate) fn with_section(bits: u128, y: u32, from: u32) -> u128
 }
 
 /// Returns the sections of a list as bits: bit `x`, below 128, for section `from` + `x`.
-pub(crate) fn sections_of(sections: &[u32], from: u32) -> u128
+pub(crate) fn section_bits_from(sections: &[u32], from: u32) -> u128
     ensures { (x : ℕ) → x < 128 →
-        bit_at result x ≡ (if has_section (from + x) sections.now then 1 else 0) }
+        bit_at result x ≡ (if contains_section (from + x) sections.now then 1 else 0) }
 {
     let mut bits: u128 = 0;
     for y in sections {
@@ -54,7 +54,7 @@ fn shared_from(s: &State, from: u32) -> u128
     let mut seen: u128 = 0;
     let mut shared: u128 = 0;
     for train in s.trains.as_slice() {
-        let body = sections_of(train.body.as_slice(), from);
+        let body = section_bits_from(train.body.as_slice(), from);
         shared |= seen & body;
         seen |= body;
     }
@@ -63,7 +63,7 @@ fn shared_from(s: &State, from: u32) -> u128
 
 /// Returns the sections below 256 that two or more trains occupy.
 pub(crate) fn shared_sections(s: &State) -> SharedSections
-    ensures { (x : ℕ) → x < 256 → is_shared result x ≡ has_two_trains s.now x }
+    ensures { (x : ℕ) → x < 256 → has_shared_section_bit result x ≡ has_two_trains s.now x }
 {
     SharedSections {
         low: shared_from(s, 0),
@@ -78,8 +78,8 @@ fn has_bit(bits: u128, x: u32) -> bool
 }
 
 /// Returns whether section `x` is one of these.
-pub(crate) fn is_shared(shared: SharedSections, x: u32) -> bool
-    ensures { result ≡ is_shared shared x }
+pub(crate) fn has_shared_section_bit(shared: SharedSections, x: u32) -> bool
+    ensures { result ≡ has_shared_section_bit shared x }
 {
     if x < 128 {
         has_bit(shared.low, x)

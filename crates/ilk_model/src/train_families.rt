@@ -8,7 +8,7 @@ ghost use Rattle.ilk_plant.specs.declared.state.Aspect.TheVariants.{Closed};
 ghost use Rattle.ilk_plant.specs.declared.state.Mode.TheVariants.{Locked, Occupied};
 ghost use Rattle.ilk_routes.specs.Boards.{has_aspect};
 ghost use Rattle.ilk_routes.specs.Modes.{same_mode};
-ghost use Rattle.ilk_model.specs.Families.{is_unreleased_on_some_route, head_is_led_by_route, keeps_v7, keeps_v8};
+ghost use Rattle.ilk_model.specs.Families.{is_unreleased_on_some_route, head_is_led_by_route, keeps_v7_heads_have_routes, keeps_v8_bodies_have_routes};
 ghost use Rattle.ilk_model.specs.Holding.{is_unreleased_on_path, is_locked_or_occupied, continues_without_board, is_vacant, route_runs_in_direction, any_path_index_passes_test};
 
 use crate::holding::{all_vacant, is_kept_on_path, is_locked_or_occupied, is_plain, runs_in};
@@ -48,7 +48,6 @@ fn leads(plant: &Plant, s: &State, d: Dir, x: u32, route: &Route, now: RouteStat
     false
 }
 
-// Returns whether some route leads a train's head at `x` in direction `d`.
 fn is_led(plant: &Plant, s: &State, d: Dir, x: u32) -> bool
     requires { HasShape plant.now s.now }
     ensures { result ≡ head_is_led_by_route plant.now s.now d x }
@@ -76,10 +75,9 @@ fn head_is_led(plant: &Plant, s: &State, train: &Train) -> bool
     }
 }
 
-// Returns whether some route leads each train's head at a section that is plain for it.
-pub(crate) fn keeps_v7(plant: &Plant, s: &State) -> bool
+pub(crate) fn keeps_v7_heads_have_routes(plant: &Plant, s: &State) -> bool
     requires { HasShape plant.now s.now }
-    ensures { result ≡ keeps_v7 plant.now s.now }
+    ensures { result ≡ keeps_v7_heads_have_routes plant.now s.now }
 {
     s.trains
         .as_slice()
@@ -96,7 +94,6 @@ fn keeps_for(plant: &Plant, d: Dir, x: u32, route: &Route, now: RouteState) -> b
     runs_in(plant, d, route) && is_locked_or_occupied(now) && is_kept_on_path(route, now, x)
 }
 
-// Returns whether some route keeps section `x` for trains in direction `d`.
 fn is_kept_for(plant: &Plant, s: &State, d: Dir, x: u32) -> bool
     requires { HasShape plant.now s.now }
     ensures { result ≡ is_unreleased_on_some_route plant.now s.now d x }
@@ -127,10 +124,9 @@ fn body_is_kept(plant: &Plant, s: &State, train: &Train) -> bool
         .all(|x| is_kept_if_plain(plant, s, d, *x))
 }
 
-// Returns whether some route keeps each section of a body that is plain for its train.
-pub(crate) fn keeps_v8(plant: &Plant, s: &State) -> bool
+pub(crate) fn keeps_v8_bodies_have_routes(plant: &Plant, s: &State) -> bool
     requires { HasShape plant.now s.now }
-    ensures { result ≡ keeps_v8 plant.now s.now }
+    ensures { result ≡ keeps_v8_bodies_have_routes plant.now s.now }
 {
     s.trains
         .as_slice()

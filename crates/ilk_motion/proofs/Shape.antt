@@ -3,10 +3,10 @@ use Rattle.std.proofs.Common.{suc, ◌≡◌, ℕ, ◌<◌, true, Option, Some, 
 use Rattle.std.proofs.lemmas.Option.{option_and_then_some, cond_some, same_Some, slice_get_within}
 use Rattle.std.proofs.lemmas.List.Elements.{All-push, All-set, All-append, All-take, All-drop}
 use Rattle.std.proofs.lemmas.Bool.Decides.{nat_tests}
-use Rattle.ilk_plant.specs.Network.{has_section, inward_if_border, neighbours_on}
+use Rattle.ilk_plant.specs.Network.{contains_section, inward_if_border, neighbours_on}
 use Rattle.ilk_plant.specs.Plant.{PlantLists, IsPlant, section_inward_if_border, next_to, board_of}
 use Rattle.ilk_plant.specs.State.{detected_position}
-use Rattle.ilk_plant.specs.Shape.{HasShape, train_body_is_valid, is_connected_chain}
+use Rattle.ilk_plant.specs.Shape.{HasShape, has_nonempty_connected_body, is_connected_chain}
 use Rattle.ilk_plant.specs.declared.network.Dir.{Dir}
 use Rattle.ilk_plant.specs.declared.network.Dir.TheVariants.{Up, Down}
 use Rattle.ilk_plant.specs.declared.network.Section.{Section}
@@ -24,14 +24,13 @@ use Rattle.ilk_base.proofs.Tested.{All-tested, list_all-from_All, list_all-slice
 use Rattle.std.proofs.lemmas.Bool.{and_from, and_parts}
 
 abbrev HasBody : PlantLists → Train → Type 0
-HasBody p train = train_body_is_valid p train ≡ true
+HasBody p train = has_nonempty_connected_body p train ≡ true
 
 bodies : (p : PlantLists) (s : State) → HasShape p s → All (HasBody p) s.trains
-bodies p s shape = All-tested (train_body_is_valid p) (HasBody p) (λ train h. h) s.trains shape.bodies
+bodies p s shape = All-tested (has_nonempty_connected_body p) (HasBody p) (λ train h. h) s.trains shape.bodies
 
--- The state stays well-formed if only the trains change.
 with_trains : (p : PlantLists) (s : State) (trains : List Train) → HasShape p s → All (HasBody p) trains → HasShape p (record s { trains = trains })
-with_trains p s trains shape each = record { routes = shape.routes; points = shape.points; boards = shape.boards; locks = shape.locks; counts = shape.counts; bodies = list_all-from_All (train_body_is_valid p) trains each }
+with_trains p s trains shape each = record { routes = shape.routes; points = shape.points; boards = shape.boards; locks = shape.locks; counts = shape.counts; bodies = list_all-from_All (has_nonempty_connected_body p) trains each }
 
 pub section_inward_if_border-known : (p : PlantLists) (x : ℕ) (d : Dir) → section_inward_if_border p x ≡ Some d → x < length p.sections
 section_inward_if_border-known p x d e = option_and_then_some inward_if_border (slice_get p.sections x) d e (λ k at e'. slice_get_within p.sections x k at)
@@ -45,7 +44,7 @@ after_enter-shape p s t x shape e =
     let r = cond_some _ _ t e1 in
     subst (HasShape p) r.1 (with_trains p s _ shape (All-push (HasBody p) s.trains _ (bodies p s shape) (alone p x d (section_inward_if_border-known p x d at)))))
 
-section_led_to-neighbours_on : (k : Section) (d : Dir) (lie : Option Lie) (y : ℕ) → section_led_to k d lie ≡ Some y → IsTrue (has_section y (neighbours_on k d))
+section_led_to-neighbours_on : (k : Section) (d : Dir) (lie : Option Lie) (y : ℕ) → section_led_to k d lie ≡ Some y → IsTrue (contains_section y (neighbours_on k d))
 section_led_to-neighbours_on (Linear down up b c) Down lie y e = rw e (grind (arith, nat_tests))
 section_led_to-neighbours_on (Linear down up b c) Up lie y e = rw e (grind (arith, nat_tests))
 section_led_to-neighbours_on (Point stem plus minus Up) Up (Some Plus) y e = grind (arith, nat_tests)
@@ -59,19 +58,19 @@ section_led_to-neighbours_on (Point stem plus minus Down) Down (Some Moving) y e
 section_led_to-neighbours_on (Point stem plus minus Down) Down None y e = cc
 section_led_to-neighbours_on (Point stem plus minus Down) Up lie y e = grind (arith, nat_tests)
 
-pub ahead-next_to : (p : PlantLists) (s : State) (x y : ℕ) (d : Dir) → ahead p s x d ≡ Some y → IsTrue (has_section y (next_to p x d))
+pub ahead-next_to : (p : PlantLists) (s : State) (x y : ℕ) (d : Dir) → ahead p s x d ≡ Some y → IsTrue (contains_section y (next_to p x d))
 ahead-next_to p s x y d e =
     option_and_then_some (λ k. section_led_to k d (detected_position p s x)) (slice_get p.sections x) y e (λ k at e1. rw at (section_led_to-neighbours_on k d _ y e1))
 
-is_connected_chain-push : (p : PlantLists) (d : Dir) (z : ℕ) (rest : List ℕ) (x y : ℕ) → is_connected_chain p d z rest ≡ true → is_last_section x (z ∷ rest) ≡ true → IsTrue (has_section y (next_to p x d)) →
+is_connected_chain-push : (p : PlantLists) (d : Dir) (z : ℕ) (rest : List ℕ) (x y : ℕ) → is_connected_chain p d z rest ≡ true → is_last_section x (z ∷ rest) ≡ true → IsTrue (contains_section y (next_to p x d)) →
     is_connected_chain p d z (rest ++ y ∷ []) ≡ true
 is_connected_chain-push p d z [] x y h e n =
-    let same : z ≡ x = grind (arith, nat_tests) in and_from (has_section y (next_to p z d)) true (rw same n) refl
+    let same : z ≡ x = grind (arith, nat_tests) in and_from (contains_section y (next_to p z d)) true (rw same n) refl
 is_connected_chain-push p d z (w ∷ rest) x y h e n =
-    let parts = and_parts (has_section w (next_to p z d)) (is_connected_chain p d w rest) h in
+    let parts = and_parts (contains_section w (next_to p z d)) (is_connected_chain p d w rest) h in
     and_from _ _ parts.0 (is_connected_chain-push p d w rest x y parts.1 e n)
 
-body-push : (p : PlantLists) (train : Train) (x y : ℕ) → HasBody p train → has_head_at x train ≡ true → IsTrue (has_section y (next_to p x train.dir)) → HasBody p (with_new_head y train)
+body-push : (p : PlantLists) (train : Train) (x y : ℕ) → HasBody p train → has_head_at x train ≡ true → IsTrue (contains_section y (next_to p x train.dir)) → HasBody p (with_new_head y train)
 body-push p train x y h e n = push train.body h e
   where
     push : (body : List ℕ) → HasBody p (record train { body = body }) → is_last_section x body ≡ true → HasBody p (record train { body = body ++ y ∷ [] })
@@ -82,7 +81,7 @@ body-push p train x y h e n = push train.body h e
 
 body_at : (p : PlantLists) (s : State) (i : ℕ) (train : Train) → HasShape p s → slice_get s.trains i ≡ Some train → HasBody p train
 body_at p s i train shape at =
-    list_all-slice_get (train_body_is_valid p) s.trains i train shape.bodies at
+    list_all-slice_get (has_nonempty_connected_body p) s.trains i train shape.bodies at
 
 with_board_closed-shape : (p : PlantLists) (board : Option ℕ) (s : State) → HasShape p s → HasShape p (with_board_closed board s)
 with_board_closed-shape p None s shape = shape
@@ -106,7 +105,7 @@ body-rest p x train plant e h = rest train.body e h
     rest (y ∷ []) e h = cc
     rest (y ∷ z ∷ zs) e h =
         let parts = and_parts (nat_lt y (length p.sections)) (is_connected_chain p train.dir y (z ∷ zs)) h in
-        let goes = and_parts (has_section z (next_to p y train.dir)) (is_connected_chain p train.dir z zs) parts.1 in
+        let goes = and_parts (contains_section z (next_to p y train.dir)) (is_connected_chain p train.dir z zs) parts.1 in
         let within = plant.neighbours y z train.dir goes.0 in
         let known : nat_lt z (length p.sections) ≡ true = grind (arith, nat_tests) in
         and_from _ _ known goes.1

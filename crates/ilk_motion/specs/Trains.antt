@@ -1,5 +1,5 @@
--- The four train events. Each definition is the next state if the event is enabled, otherwise
--- `None`. Parts that it doesn't mention don't change.
+-- The four train events: the next state if the event is enabled, otherwise `None`. Other parts of
+-- the state don't change.
 use Rattle.std.specs.Prelude.{ℕ, Bool, true, false, Option, Some, None, List, [], ◌∷◌, ◌++◌, slice_get, set, remove, position, not}
 use Rattle.ilk_base.specs.Option.{◌>>=◌, is_some_and, then_some}
 use Rattle.ilk_plant.specs.Network.{neighbours_on}
@@ -18,7 +18,7 @@ abbrev pub is_open : Aspect → Bool
 is_open Open = true
 is_open Closed = false
 
--- Returns whether a section has a neighbour on side d.
+-- Returns whether a section has a neighbour on side `d`.
 abbrev pub has_neighbour : Section → Dir → Bool
 has_neighbour section d = some_of (neighbours_on section d)
   where
@@ -26,40 +26,41 @@ has_neighbour section d = some_of (neighbours_on section d)
     some_of [] = false
     some_of (y ∷ rest) = true
 
--- Returns whether a train may pass: there is no board, or it is open.
-abbrev pub may_pass : State → Option ℕ → Bool
-may_pass s None = true
-may_pass s (Some m) = is_some_and (slice_get s.boards m) is_open
+-- Returns whether a train may pass the optional board `m` in state `s`: there is no board, or it is
+-- Open.
+abbrev pub may_pass_board : State → Option ℕ → Bool
+may_pass_board s None = true
+may_pass_board s (Some m) = is_some_and (slice_get s.boards m) is_open
 
--- The state with the board, if there is one, closed.
+-- The state with board `m` Closed; `s` itself if there is no board.
 abbrev pub with_board_closed : Option ℕ → State → State
 with_board_closed None s = s
 with_board_closed (Some m) s = record s { boards = set s.boards m Closed }
 
--- The state with this as train i.
+-- The state with `train` in place of train number `i`.
 abbrev pub with_train_replaced : ℕ → Train → State → State
 with_train_replaced i train s = record s { trains = set s.trains i train }
 
--- `enter x`. Enabled if x is a border, vacant and with lock Free. A train in the inward direction
--- with body [x] is added at the end of the list.
+-- The state after `enter x`. Enabled if section `x` is a border, vacant and with lock Free. A train
+-- in the inward direction that occupies `x` is added at the end of the list of trains.
 abbrev pub after_enter : PlantLists → State → ℕ → Option State
 after_enter p s x = do
   inward ← section_inward_if_border p x
   then_some (is_unlocked_and_vacant s x) (record s { trains = s.trains ++ new_train_on x inward ∷ [] })
 
--- `head x`. The first train with its head at x. Enabled if x has no board in its direction or that
--- board is open, and a section is ahead. That section becomes the head, and the board, if any,
--- closes.
+-- The state after `head x`, for the first train with its head at section `x`. Enabled if `x` leads
+-- to a section in the train's direction, and has no board for it or an Open one. The head moves to
+-- that section, and the board, if any, closes.
 abbrev pub after_head : PlantLists → State → ℕ → Option State
 after_head p s x = do
   i ← position (has_head_at x) s.trains
   train ← slice_get s.trains i
   y ← ahead p s x train.dir
-  then_some (may_pass s (board_of p x train.dir))
+  then_some (may_pass_board s (board_of p x train.dir))
       (with_board_closed (board_of p x train.dir) (with_train_replaced i (with_new_head y train) s))
 
--- `tail x`. The first train of two or more sections with its tail at x. Its first section leaves
--- the body.
+-- The state after `tail x`, for the first train of two or more sections with its tail at section
+-- `x`. The tail leaves `x`.
 abbrev pub after_tail : PlantLists → State → ℕ → Option State
 after_tail p s x = do
   section ← slice_get p.sections x
@@ -67,8 +68,8 @@ after_tail p s x = do
   train ← slice_get s.trains i
   Some (with_train_replaced i (without_tail train) s)
 
--- `leave x`. The first train with body [x]. Enabled if x has no neighbour in its direction. The
--- train leaves the list; the others keep their order.
+-- The state after `leave x`, for the first train that occupies only section `x`. Enabled if `x` has
+-- no neighbour in the train's direction. The train leaves the list of trains.
 abbrev pub after_leave : PlantLists → State → ℕ → Option State
 after_leave p s x = do
   section ← slice_get p.sections x

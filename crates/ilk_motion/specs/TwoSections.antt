@@ -1,5 +1,4 @@
--- An example plant for private contracts: a line of two linear sections, a then b, without boards
--- and routes.
+-- Example for private contracts: trains on a line of two sections, a then b.
 use Rattle.std.specs.Prelude.{ℕ, Option, Some, None, List, [], ◌∷◌, map}
 use Rattle.ilk_base.specs.Option.{◌>>=◌}
 use Rattle.ilk_plant.specs.Plant.{PlantLists}
@@ -8,9 +7,9 @@ use Rattle.ilk_plant.specs.declared.network.Section.TheVariants.{Linear}
 use Rattle.ilk_plant.specs.declared.state.State.{State}
 use Rattle.ilk_motion.specs.Trains.{after_enter, after_head, after_leave, after_tail}
 
--- Example: a plant of two joined sections, a and b.
-abbrev pub two_sections : PlantLists
-two_sections = record {
+-- The plant: two joined linear sections, a and b, without boards and routes.
+abbrev pub two_section_plant : PlantLists
+two_section_plant = record {
   sections = Linear None (Some 1) None None ∷ Linear (Some 0) None None None ∷ [];
   boards = [];
   routes = [];
@@ -19,32 +18,33 @@ two_sections = record {
   route_names = [];
 }
 
--- The bodies of the trains.
+-- The body of each train in a state.
 abbrev pub bodies : State → List (List ℕ)
 bodies s = map (λ train. train.body) s.trains
 
--- One train has entered at a, then another at b.
-abbrev pub both_entered : Option State
-both_entered = do
-  s ← after_enter two_sections (start two_sections) 0
-  after_enter two_sections s 1
+-- The state after one train has entered at a and another at b.
+abbrev pub after_both_entered : Option State
+after_both_entered = do
+  s ← after_enter two_section_plant (start two_section_plant) 0
+  after_enter two_section_plant s 1
 
--- Then the head of the train at a moves to b.
-abbrev pub first_moved_on : Option State
-first_moved_on = do
-  s ← both_entered
-  after_head two_sections s 0
+-- The state after one train has entered at a, another at b, and the head of the first has moved to
+-- b.
+abbrev pub after_first_moved_on : Option State
+after_first_moved_on = do
+  s ← after_both_entered
+  after_head two_section_plant s 0
 
--- Instead, a third train tries to enter at a.
-abbrev pub third_tries_to_enter : Option State
-third_tries_to_enter = do
-  s ← both_entered
-  after_enter two_sections s 0
+-- The result of an attempt to enter at a after one train has entered at a and another at b.
+abbrev pub after_third_entry_attempt : Option State
+after_third_entry_attempt = do
+  s ← after_both_entered
+  after_enter two_section_plant s 0
 
--- A train enters at a, its head and then its tail move to b, and it leaves.
-abbrev pub one_passed_through : Option State
-one_passed_through = do
-  at_a ← after_enter two_sections (start two_sections) 0
-  on_both ← after_head two_sections at_a 0
-  at_b ← after_tail two_sections on_both 0
-  after_leave two_sections at_b 1
+-- The state after a train has entered at a, moved to b and left there.
+abbrev pub after_one_passed_through : Option State
+after_one_passed_through = do
+  at_a ← after_enter two_section_plant (start two_section_plant) 0
+  on_both ← after_head two_section_plant at_a 0
+  at_b ← after_tail two_section_plant on_both 0
+  after_leave two_section_plant at_b 1

@@ -2,8 +2,8 @@
 //! leaves the network.
 //!
 //! `ahead` returns the section to which a train's head may move. Each `step_..` tests whether its
-//! event is enabled. If so, it changes the state as the table of events says (`specs/Trains.antt`);
-//! otherwise the state doesn't change. `ilk_model` calls them in `apply`.
+//! event is enabled and, if so, changes the state as `specs/Trains.antt` says; otherwise the state
+//! doesn't change. `ilk_model` calls them in `apply`.
 #![tactic(auto)]
 
 mod examples;

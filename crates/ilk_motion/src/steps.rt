@@ -1,7 +1,7 @@
 ghost use Rattle.std.specs.Prelude.{◌≡◌, ◌<◌, IfOk, IfSome, OnOk, OnErr, is_some, length, unwrap_or};
 ghost use Rattle.ilk_plant.specs.Shape.{HasShape};
 ghost use Rattle.ilk_motion.specs.Body.{without_tail};
-ghost use Rattle.ilk_motion.specs.Trains.{after_enter, after_head, after_leave, after_tail, with_board_closed, may_pass};
+ghost use Rattle.ilk_motion.specs.Trains.{after_enter, after_head, after_leave, after_tail, with_board_closed, may_pass_board};
 
 use crate::ahead;
 use crate::trains::{find_train_only_on, find_train_with_head, find_train_with_movable_tail};
@@ -29,8 +29,8 @@ fn enter(alloc: Global, plant: &Plant, s: &mut State, x: u32) -> Result<bool, Al
     Ok(true)
 }
 
-fn may_pass(s: &State, board: Option<u32>) -> bool
-    ensures { result ≡ may_pass s.now board }
+fn may_pass_board(s: &State, board: Option<u32>) -> bool
+    ensures { result ≡ may_pass_board s.now board }
 {
     match board {
         None => true,
@@ -62,7 +62,7 @@ fn move_head(plant: &Plant, s: &mut State, x: u32) -> Result<bool, AllocError>
         return Ok(false);
     };
     let board = plant.board_of(x, dir);
-    if !may_pass(s, board) {
+    if !may_pass_board(s, board) {
         return Ok(false);
     }
     s.trains.at_mut(i as u64).body.push(y)?;

@@ -3,9 +3,10 @@ ghost use Rattle.ilk_motion.specs.Ahead.{ahead};
 
 use ilk_plant::{Dir, Lie, Plant, Section, State, detected_position};
 
-/// Returns the section ahead of section `x` in direction `d`. A linear section leads to its
-/// neighbour. A point that faces `d` leads to the leg in whose position it is, another point to its
-/// stem. Returns `None` if there is none, the point is moving, or `x` is not a section.
+/// Returns the section to which section `x` leads in direction `d`. A linear section leads to its
+/// neighbour. A point that faces `d` leads to the leg of its detected position, another point to
+/// its stem. Returns `None` if there is no such section, the point that faces `d` is moving, or `x`
+/// is not a section.
 pub fn ahead(plant: &Plant, s: &State, x: u32, d: Dir) -> Option<u32>
     ensures { result ≡ ahead plant.now s.now x d }
 {

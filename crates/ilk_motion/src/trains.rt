@@ -12,7 +12,6 @@ fn is_last(body: &Row<u32>, x: u32) -> bool
     }
 }
 
-// Returns whether the body has two or more sections, and the first is `x`.
 fn is_first_of_several(body: &Row<u32>, x: u32) -> bool
     ensures { result ≡ is_first_of_several x body.now }
 {
@@ -31,8 +30,8 @@ fn is_only(body: &Row<u32>, x: u32) -> bool
     }
 }
 
-/// Returns the index of the first train with its head at `x`, if any.
-pub fn find_train_with_head(trains: &Row<Train>, x: u32) -> Option<usize>
+/// Returns the index of the first train whose head is at section `x`, or `None` if there is none.
+pub(crate) fn find_train_with_head(trains: &Row<Train>, x: u32) -> Option<usize>
     ensures { result ≡ position (has_head_at x) trains.now }
 {
     trains
@@ -41,8 +40,9 @@ pub fn find_train_with_head(trains: &Row<Train>, x: u32) -> Option<usize>
         .position(|train| is_last(&train.body, x))
 }
 
-/// Returns the index of the first train of two or more sections with its tail at `x`, if any.
-pub fn find_train_with_movable_tail(trains: &Row<Train>, x: u32) -> Option<usize>
+/// Returns the index of the first train of two or more sections whose tail is at section `x`, or
+/// `None` if there is none.
+pub(crate) fn find_train_with_movable_tail(trains: &Row<Train>, x: u32) -> Option<usize>
     ensures { result ≡ position (has_movable_tail_at x) trains.now }
 {
     trains
@@ -51,8 +51,8 @@ pub fn find_train_with_movable_tail(trains: &Row<Train>, x: u32) -> Option<usize
         .position(|train| is_first_of_several(&train.body, x))
 }
 
-/// Returns the index of the first train whose only section is `x`, if any.
-pub fn find_train_only_on(trains: &Row<Train>, x: u32) -> Option<usize>
+/// Returns the index of the first train whose only section is `x`, or `None` if there is none.
+pub(crate) fn find_train_only_on(trains: &Row<Train>, x: u32) -> Option<usize>
     ensures { result ≡ position (occupies_only x) trains.now }
 {
     trains

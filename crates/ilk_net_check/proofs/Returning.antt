@@ -6,7 +6,7 @@ use Rattle.ilk_base.proofs.FlatMaps.{Contains-flat_map, Contains-flat_map_of, Co
 use Rattle.ilk_base.proofs.Ranges.{below_or_past, range-at}
 use Rattle.ilk_plant.proofs.Leads.{is_on_up_cycle-walks}
 use Rattle.ilk_plant.specs.Broken.{broken_below, place_kind_of}
-use Rattle.ilk_plant.specs.NetworkRules.{IsOnUpCycle, breaks_network, count_in_network, network_rules, network_rules_broken, is_on_up_cycle}
+use Rattle.ilk_plant.specs.NetworkRules.{IsOnUpCycle, breaks_network_rule_at, place_count_in_network, network_rules, network_rules_broken, is_on_up_cycle}
 use Rattle.ilk_plant.specs.declared.broken.Broken.{Broken}
 use Rattle.ilk_plant.specs.declared.broken.Rule.{Rule}
 use Rattle.ilk_plant.specs.declared.broken.Rule.TheVariants.{N7}
@@ -42,7 +42,7 @@ of-listed f test (x ∷ xs) (suc k) i at passes = by_test (test x) (of-listed f 
 
 module _ (net : NetDraft) (x : ℕ) where
   abbrev at_rule : Rule → List Broken
-  at_rule rule = broken_below rule (count_in_network net (place_kind_of rule)) (breaks_network net rule)
+  at_rule rule = broken_below rule (place_count_in_network net (place_kind_of rule)) (breaks_network_rule_at net rule)
 
   abbrev pub entry : Rule → ℕ → Broken
   entry rule i = record { rule = rule; first = i; second = None }
@@ -51,10 +51,10 @@ module _ (net : NetDraft) (x : ℕ) where
   listed-is_on_up_cycle c =
       let one = Contains-flat_map at_rule network_rules (entry N7 x) c in
       let rule : Rule = one.1 in
-      let place = listed-of (entry rule) (breaks_network net rule) (range_with_len 0 (count_in_network net (place_kind_of rule))) (entry N7 x) one.3 in
+      let place = listed-of (entry rule) (breaks_network_rule_at net rule) (range_with_len 0 (place_count_in_network net (place_kind_of rule))) (entry N7 x) one.3 in
       let rules : rule ≡ N7 = ap (λ e. e.rule) place.2 in
       let places : place.0 ≡ x = ap (λ e. e.first) place.2 in
-      sym (λ i. breaks_network net (rules i) (places i)) ∙ place.1
+      sym (λ i. breaks_network_rule_at net (rules i) (places i)) ∙ place.1
 
   is_on_up_cycle-listed : is_on_up_cycle net x ≡ true → Contains (network_rules_broken net) (entry N7 x)
   is_on_up_cycle-listed h =

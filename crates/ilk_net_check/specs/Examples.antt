@@ -1,5 +1,5 @@
--- Example networks for private contracts: a plain line of two sections, a line with a neighbour
--- missing, rings and forks.
+-- Example networks: a plain line of two sections, a line with a neighbour missing, rings and forks.
+-- Used only in private contracts.
 use Rattle.std.specs.Prelude.{ℕ, Option, Some, None, [], ◌∷◌}
 use Rattle.ilk_plant.specs.Name.{Name}
 use Rattle.ilk_plant.specs.declared.broken.Broken.{Broken}
@@ -21,42 +21,42 @@ c = 99 ∷ []
 abbrev pub p : Name
 p = 112 ∷ []
 
--- A linear section without boards.
 abbrev pub plain : Name → Option Name → Option Name → SectionDraft
 plain name down up = record { name = name; kind = LinearDraft down up None None }
 
--- Section a, with a board for up trains.
+-- Section `a`, with a board for up trains.
 abbrev pub first : Option Name → SectionDraft
 first up = record { name = a; kind = LinearDraft None up None (Some (109 ∷ [])) }
 
--- Section b, with a board for down trains.
+-- Section `b`, with a board for down trains.
 abbrev pub last : SectionDraft
 last = record { name = b; kind = LinearDraft (Some a) None (Some (110 ∷ [])) None }
 
+-- The line of two sections, `a` and `b`, that name each other and have a board each.
 abbrev pub line_of_two : NetDraft
 line_of_two = record { sections = first (Some b) ∷ last ∷ [] }
 
--- Section a doesn't name b.
+-- The line of two sections, but `a` doesn't name its neighbour `b`.
 abbrev pub line_cut : NetDraft
 line_cut = record { sections = first None ∷ last ∷ [] }
 
--- The cut line, with a third section that has the name of the second.
+-- The line in which `a` doesn't name `b`, with a third section that is also named `b`.
 abbrev pub cut_line_with_duplicate : NetDraft
 cut_line_with_duplicate = record { sections = first None ∷ last ∷ plain b None None ∷ [] }
 
--- Three sections in a ring.
+-- Three linear sections in a ring.
 abbrev pub ring_of_three : NetDraft
 ring_of_three = record { sections = plain a (Some c) (Some b) ∷ plain b (Some a) (Some c) ∷ plain c (Some b) (Some a) ∷ [] }
 
--- A section that names itself on both sides.
+-- A network of one section that names itself on both sides.
 abbrev pub loop_of_one : NetDraft
 loop_of_one = record { sections = plain a (Some a) (Some a) ∷ [] }
 
--- A point that faces up, from a to b and c.
+-- A point that faces up, with stem `a` and legs `b` and `c`.
 abbrev pub point : SectionDraft
 point = record { name = p; kind = PointDraft a b c Up }
 
--- A line that divides in two.
+-- A line that divides in two at a point.
 abbrev pub fork : NetDraft
 fork = record { sections = plain a None (Some p) ∷ point ∷ plain b (Some p) None ∷ plain c (Some p) None ∷ [] }
 
@@ -64,10 +64,9 @@ fork = record { sections = plain a None (Some p) ∷ point ∷ plain b (Some p) 
 abbrev pub fork_with_turned_leg : NetDraft
 fork_with_turned_leg = record { sections = plain a None (Some p) ∷ point ∷ plain b (Some p) None ∷ plain c None (Some p) ∷ [] }
 
--- The fork, but the section on the minus leg leads back to a.
+-- The fork, but the section on the minus leg leads back to `a`.
 abbrev pub fork_with_ring : NetDraft
 fork_with_ring = record { sections = plain a (Some c) (Some p) ∷ point ∷ plain b (Some p) None ∷ plain c (Some p) (Some a) ∷ [] }
 
--- A rule violated at one location.
 abbrev pub at : Rule → ℕ → Broken
 at rule i = record { rule = rule; first = i; second = None }

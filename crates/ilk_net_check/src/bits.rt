@@ -2,10 +2,10 @@ ghost use Rattle.std.specs.Prelude.{ℕ, ◌≡◌, ◌==◌, ◌||◌, ◌<◌,
 ghost use Rattle.std.specs.Int.{bit_at};
 ghost use Rattle.ilk_net_check.specs.Numbers.{has_flag};
 
-/// A flag for each number below 256. Bit `y` of `low` is the flag of `y`; bit `y` of `high` is the
-/// flag of 128 + `y`.
+/// A set of numbers below 256. Number `y` below 128 is in the set if bit `y` of `low` is set, a
+/// greater one if bit `y - 128` of `high` is.
 #[derive(Clone, Copy)]
-pub struct Flags {
+pub(crate) struct BitSet256 {
     low: u128,
     high: u128,
 }
@@ -29,15 +29,15 @@ fn either_bits(bits: u128, others: u128) -> u128
     bits | others
 }
 
-impl Flags {
-    /// Creates flags of which none is set.
-    pub fn empty() -> Flags
+impl BitSet256 {
+    /// Creates an empty set.
+    pub fn empty() -> BitSet256
         ensures { (y : ℕ) → has_flag result y ≡ false }
     {
-        Flags { low: 0, high: 0 }
+        BitSet256 { low: 0, high: 0 }
     }
 
-    /// Returns whether the flag of `y` is set.
+    /// Returns whether number `y` is in the set.
     pub fn has(self, y: u32) -> bool
         ensures { result ≡ has_flag self y }
     {
@@ -48,29 +48,29 @@ impl Flags {
         }
     }
 
-    /// Returns these flags with the flag of `y` set.
-    pub fn with_flag(self, y: u32) -> Flags
+    /// Returns the set with number `y` added.
+    pub fn with_flag(self, y: u32) -> BitSet256
         requires { y < 256 }
         ensures { (x : ℕ) → has_flag result x ≡ (has_flag self x || (y == x)) }
     {
         if y < 128 {
-            Flags {
+            BitSet256 {
                 low: with_bit(self.low, y),
                 high: self.high,
             }
         } else {
-            Flags {
+            BitSet256 {
                 low: self.low,
                 high: with_bit(self.high, y - 128),
             }
         }
     }
 
-    /// Returns the flags that are set in either.
-    pub fn union(self, other: Flags) -> Flags
+    /// Returns the numbers that are in this set or in `other`.
+    pub fn union(self, other: BitSet256) -> BitSet256
         ensures { (y : ℕ) → has_flag result y ≡ (has_flag self y || has_flag other y) }
     {
-        Flags {
+        BitSet256 {
             low: either_bits(self.low, other.low),
             high: either_bits(self.high, other.high),
         }

@@ -2,21 +2,21 @@ ghost use Rattle.std.specs.Prelude.{◌≡◌, ◌==◌, ◌++◌, not, IfOk, On
 ghost use Rattle.ilk_plant.specs.NetworkRules.{end_if_neighbour, opposite_direction as opposite_of};
 ghost use Rattle.ilk_base.specs.Option.{is_some_and};
 ghost use Rattle.ilk_plant.specs.Plant.{first_number_named};
-ghost use Rattle.ilk_net_check.specs.Numbers.{resolved_end, resolved_ends, ends_of_section};
+ghost use Rattle.ilk_net_check.specs.Numbers.{resolved_end, resolved_ends_of_section, ends_of_section};
 
 use ilk_plant::{Dir, KindDraft, Names, Row, SectionDraft, Text};
 use std::alloc::{AllocError, Global};
 
-/// An end of a section that has a neighbour: its side, and the number of the section with the
-/// neighbour's name. `section` is `None` if no section has that name.
+/// An end of a section at which it names a neighbour: the side, and the neighbour's number.
+/// `section` is `None` if no section has that name.
 #[derive(Clone, Copy, PartialEq, Eq, Debug)]
-pub struct End {
+pub(crate) struct ResolvedEnd {
     pub side: Dir,
     pub section: Option<u32>,
 }
 
-impl End {
-    /// Returns whether the name at this end is that of section `x`.
+impl ResolvedEnd {
+    /// Returns whether the neighbour at this end is section `x`.
     pub fn names(&self, x: u32) -> bool
         ensures { result ≡ is_some_and self.now.section (λ y. y == x) }
     {
@@ -26,7 +26,7 @@ impl End {
         }
     }
 
-    /// Returns whether the name at this end is that of a section other than `x`.
+    /// Returns whether the neighbour at this end exists and isn't section `x`.
     pub fn refers_to_another(&self, x: u32) -> bool
         ensures { result ≡ is_some_and self.now.section (λ y. not (y == x)) }
     {
@@ -37,8 +37,8 @@ impl End {
     }
 }
 
-/// Returns the opposite of `dir`.
-pub fn opposite(dir: Dir) -> Dir
+/// Returns the direction opposite to `dir`.
+pub(crate) fn opposite(dir: Dir) -> Dir
     ensures { result ≡ opposite_of dir }
 {
     match dir {
@@ -47,10 +47,10 @@ pub fn opposite(dir: Dir) -> Dir
     }
 }
 
-fn end_of(names: &Names, side: Dir, name: &Text) -> End
+fn end_of(names: &Names, side: Dir, name: &Text) -> ResolvedEnd
     ensures { result ≡ record { side = side; section = first_number_named names.now name.now } }
 {
-    End {
+    ResolvedEnd {
         side,
         section: names.number(name.as_str()),
     }
@@ -58,7 +58,7 @@ fn end_of(names: &Names, side: Dir, name: &Text) -> End
 
 fn push_end(
     names: &Names,
-    ends: &mut Row<End>,
+    ends: &mut Row<ResolvedEnd>,
     side: Dir,
     name: &Option<Text>,
 ) -> Result<(), AllocError>
@@ -72,9 +72,13 @@ fn push_end(
     Ok(())
 }
 
-fn resolved_ends(alloc: Global, names: &Names, kind: &KindDraft) -> Result<Row<End>, AllocError>
+fn resolved_ends_of_section(
+    alloc: Global,
+    names: &Names,
+    kind: &KindDraft,
+) -> Result<Row<ResolvedEnd>, AllocError>
     ensures { IfOk result
-        (λ made. made ≡ resolved_ends (first_number_named names.now) kind.now) }
+        (λ made. made ≡ resolved_ends_of_section (first_number_named names.now) kind.now) }
 {
     let mut ends = Row::new(alloc);
     match kind {
@@ -96,25 +100,28 @@ fn resolved_ends(alloc: Global, names: &Names, kind: &KindDraft) -> Result<Row<E
     Ok(ends)
 }
 
-/// Returns the ends of each section, with the numbers of their neighbours.
-pub fn all_ends(
+/// Returns, for each section in order, its ends that have a neighbour, with the neighbours'
+/// numbers. `names` are the names of the sections. Fails only if memory runs out.
+pub(crate) fn resolved_ends_by_section(
     alloc: Global,
     names: &Names,
     sections: &[SectionDraft],
-) -> Result<Row<Row<End>>, AllocError>
+) -> Result<Row<Row<ResolvedEnd>>, AllocError>
     ensures { IfOk result
         (λ made. made
-        ≡ map (λ section. resolved_ends (first_number_named names.now) section.kind) sections.now) }
+        ≡ map (λ section. resolved_ends_of_section (first_number_named names.now) section.kind)
+        sections.now) }
 {
     let mut made = Row::new(alloc);
     for section in sections {
-        made.push(resolved_ends(alloc, names, &section.kind)?)?;
+        made.push(resolved_ends_of_section(alloc, names, &section.kind)?)?;
     }
     Ok(made)
 }
 
-/// Returns the ends of section `x`. Returns an empty slice if there is no section `x`.
-pub fn ends_of_section(all: &Row<Row<End>>, x: u32) -> &[End]
+/// Returns the ends of section `x` from those of all sections. Returns none if there is no section
+/// `x`.
+pub(crate) fn ends_of_section(all: &Row<Row<ResolvedEnd>>, x: u32) -> &[ResolvedEnd]
     ensures { result.now ≡ ends_of_section all.now x }
 {
     match all.as_slice().get(x as usize) {

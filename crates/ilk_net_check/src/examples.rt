@@ -7,23 +7,19 @@ fn line_is_clean()
     ensures { network_rules_broken line_of_two ≡ [] }
 {}
 
-// If a neighbour is left out, the other section isn't named back, and the first has no neighbour.
 fn cut_line_is_refused()
     ensures { network_rules_broken line_cut ≡ at N5 1 ∷ at N6 0 ∷ at N8 0 ∷ [] }
 {}
 
-// A name refers to the first section that has it.
 fn repeated_name_is_refused()
     ensures { network_rules_broken cut_line_with_duplicate
         ≡ at N1 2 ∷ at N5 1 ∷ at N6 0 ∷ at N6 2 ∷ at N8 0 ∷ [] }
 {}
 
-// In a ring a walk up returns to every section.
 fn ring_is_refused()
     ensures { network_rules_broken ring_of_three ≡ at N7 0 ∷ at N7 1 ∷ at N7 2 ∷ [] }
 {}
 
-// A section that names itself doesn't name another section, and a walk up returns to it.
 fn loop_is_refused()
     ensures { network_rules_broken loop_of_one ≡ at N3 0 ∷ at N4 0 ∷ at N7 0 ∷ [] }
 {}
@@ -32,14 +28,11 @@ fn fork_is_clean()
     ensures { network_rules_broken fork ≡ [] }
 {}
 
-// The end names the neighbour, but isn't on the opposite side. A walk up then returns through the
-// minus leg.
 fn turned_leg_is_refused()
     ensures { network_rules_broken fork_with_turned_leg
         ≡ at N5 1 ∷ at N5 3 ∷ at N7 1 ∷ at N7 3 ∷ [] }
 {}
 
-// A walk up may take either leg.
 fn ring_by_minus_leg_is_refused()
     ensures { network_rules_broken fork_with_ring ≡ at N7 0 ∷ at N7 1 ∷ at N7 3 ∷ [] }
 {}

@@ -10,8 +10,8 @@ fn same_name(name: &Text, other: &Text) -> bool
     name.as_str() == other.as_str()
 }
 
-/// Returns whether two neighbours of a section have the same name.
-pub fn repeats_neighbour(kind: &KindDraft) -> bool
+/// Returns whether a section of this kind names the same neighbour twice.
+pub(crate) fn repeats_neighbour(kind: &KindDraft) -> bool
     ensures { result ≡ not (names_differ (map (λ end. end.name) (ends_of_draft kind.now))) }
 {
     match kind {
@@ -30,8 +30,8 @@ pub fn repeats_neighbour(kind: &KindDraft) -> bool
     }
 }
 
-/// Returns whether a section is linear and has no neighbour.
-pub fn is_linear_without_neighbours(kind: &KindDraft) -> bool
+/// Returns whether a section of this kind is linear and has no neighbour.
+pub(crate) fn is_linear_without_neighbours(kind: &KindDraft) -> bool
     ensures { result ≡ is_linear_without_neighbours kind.now }
 {
     match kind {
@@ -40,8 +40,9 @@ pub fn is_linear_without_neighbours(kind: &KindDraft) -> bool
     }
 }
 
-/// Returns whether a section is linear and has a board in a direction in which it has no neighbour.
-pub fn has_board_to_nowhere(kind: &KindDraft) -> bool
+/// Returns whether a section of this kind is linear and has a board in a direction in which it has
+/// no neighbour.
+pub(crate) fn has_board_to_nowhere(kind: &KindDraft) -> bool
     ensures { result ≡ has_board_to_nowhere kind.now }
 {
     match kind {

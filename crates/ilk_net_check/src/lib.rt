@@ -1,10 +1,9 @@
 //! Checks the rules of the network (N) on its draft. `check_network` returns every violated rule
-//! with its location, in order. `check_network_with_names` does the same with existing names of the
-//! network.
+//! with its location, in order. `check_network_with_names` does the same if the names of the
+//! network were already collected.
 //!
-//! The definitions use names, and walks of any length. The checks use numbers for names, and
-//! compute reachability as a table of bits that grows by one section at a time. The two are proved
-//! equal.
+//! The definitions use names, and walks of any length. The checks use numbers for names, and a
+//! table of bits for reachability that grows by one section at a time. The two are proved equal.
 #![tactic(auto)]
 
 mod bits;

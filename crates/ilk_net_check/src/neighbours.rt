@@ -1,38 +1,38 @@
 ghost use Rattle.std.specs.Prelude.{◌≡◌, ◌&&◌, count_by};
 ghost use Rattle.std.specs.List.{list_any};
 ghost use Rattle.ilk_plant.specs.Network.{same_direction};
-ghost use Rattle.ilk_net_check.specs.Numbers.{names, names_no_other, ends_of_section as ends_there, is_not_named_back_by, is_named_once_on_side};
+ghost use Rattle.ilk_net_check.specs.Numbers.{names, names_no_other, ends_of_section as ends_there, end_not_named_back_once, is_named_once_on_side};
 
-use crate::ends::{End, ends_of_section, opposite};
+use crate::ends::{ResolvedEnd, ends_of_section, opposite};
 use ilk_plant::{Dir, Row};
 
-/// Returns whether some end of section `x` doesn't name a section other than `x`.
-pub fn has_invalid_neighbour(ends: &[End], x: u32) -> bool
+/// Returns whether some of the ends of section `x` names `x` itself or no existing section.
+pub(crate) fn has_invalid_neighbour(ends: &[ResolvedEnd], x: u32) -> bool
     ensures { result ≡ list_any (names_no_other x) ends.now }
 {
     ends.iter().any(|end| !end.refers_to_another(x))
 }
 
-fn count_naming(ends: &[End], x: u32) -> usize
+fn count_naming(ends: &[ResolvedEnd], x: u32) -> usize
     ensures { result ≡ count_by (names x) ends.now }
 {
     ends.iter().filter(|end| end.names(x)).count()
 }
 
-fn names_from(ends: &[End], x: u32, side: Dir) -> bool
+fn names_from(ends: &[ResolvedEnd], x: u32, side: Dir) -> bool
     ensures { result ≡ list_any (λ end. names x end && same_direction end.side side) ends.now }
 {
     ends.iter().any(|end| end.names(x) && end.side == side)
 }
 
-fn is_named_once_on_side(ends: &[End], x: u32, side: Dir) -> bool
+fn is_named_once_on_side(ends: &[ResolvedEnd], x: u32, side: Dir) -> bool
     ensures { result ≡ is_named_once_on_side x side ends.now }
 {
     count_naming(ends, x) == 1 && names_from(ends, x, side)
 }
 
-fn is_one_sided(all: &Row<Row<End>>, x: u32, end: &End) -> bool
-    ensures { result ≡ is_not_named_back_by all.now x end.now }
+fn is_one_sided(all: &Row<Row<ResolvedEnd>>, x: u32, end: &ResolvedEnd) -> bool
+    ensures { result ≡ end_not_named_back_once all.now x end.now }
 {
     match end.section {
         Some(y) => y != x && !is_named_once_on_side(ends_of_section(all, y), x, opposite(end.side)),
@@ -40,10 +40,10 @@ fn is_one_sided(all: &Row<Row<End>>, x: u32, end: &End) -> bool
     }
 }
 
-/// Returns whether section `x` has a neighbour, other than `x`, that doesn't name `x` at exactly
-/// one of its ends, on the opposite side.
-pub fn is_not_named_back(all: &Row<Row<End>>, x: u32) -> bool
-    ensures { result ≡ list_any (is_not_named_back_by all.now x) (ends_there all.now x) }
+/// Returns whether some neighbour of section `x`, other than `x`, doesn't name `x` back: at exactly
+/// one of its ends, on the opposite side. `all` has the ends of each section.
+pub(crate) fn is_not_named_back(all: &Row<Row<ResolvedEnd>>, x: u32) -> bool
+    ensures { result ≡ list_any (end_not_named_back_once all.now x) (ends_there all.now x) }
 {
     ends_of_section(all, x)
         .iter()

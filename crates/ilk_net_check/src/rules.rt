@@ -2,17 +2,17 @@ ghost use Rattle.std.specs.Prelude.{◌≡◌, ◌≤◌, ◌++◌, ◌↔◌, I
 ghost use Rattle.std.specs.List.{Contains};
 ghost use Rattle.std.specs.Option.{option_copied};
 ghost use Rattle.ilk_plant.specs.Broken.{broken_below, place_kind_of};
-ghost use Rattle.ilk_plant.specs.NetNames.{HasNamesOf};
-ghost use Rattle.ilk_plant.specs.NetworkRules.{IsOnUpCycle, breaks_network, count_in_network, has_board_without_neighbour, has_wrong_neighbour, is_not_named_back as is_not_named_back_of, network_rules_broken, repeats_neighbour as repeats_neighbour_of, is_on_up_cycle, is_isolated};
+ghost use Rattle.ilk_plant.specs.NetNames.{HasBoardsAndNamesOf};
+ghost use Rattle.ilk_plant.specs.NetworkRules.{IsOnUpCycle, breaks_network_rule_at, place_count_in_network, has_board_without_neighbour, has_wrong_neighbour, is_not_named_back as is_not_named_back_of, network_rules_broken, repeats_neighbour as repeats_neighbour_of, is_on_up_cycle, is_isolated_linear_section};
 ghost use Rattle.ilk_net_check.specs.Numbers.{AgreesWithDraft};
 ghost use Rattle.ilk_plant.specs.declared.broken.Rule.TheVariants.{N7};
 ghost use Rattle.ilk_plant.specs.declared.limits.TheConstants.{MAX_SECTIONS};
 
-use crate::bits::Flags;
-use crate::ends::{End, all_ends, ends_of_section};
+use crate::bits::BitSet256;
+use crate::ends::{ResolvedEnd, ends_of_section, resolved_ends_by_section};
 use crate::kinds::{has_board_to_nowhere, is_linear_without_neighbours, repeats_neighbour};
 use crate::neighbours::{has_invalid_neighbour, is_not_named_back};
-use crate::reach::{matrix_entry, up_reachability_matrix};
+use crate::reach::{matrix_entry_or_false, up_reachability_matrix};
 use ilk_plant::{Broken, KindDraft, NetDraft, NetNames, PlaceKind, Row, Rule, push_broken_if};
 use std::alloc::{AllocError, Global};
 
@@ -33,18 +33,18 @@ const NETWORK_RULES: [Rule; 8] = [
 struct Network<'a> {
     net: &'a NetDraft,
     names: &'a NetNames,
-    ends: Row<Row<End>>,
-    leads: Row<Flags>,
+    ends: Row<Row<ResolvedEnd>>,
+    leads: Row<BitSet256>,
 }
 
 impl<'a> Network<'a> {
     fn of(alloc: Global, net: &'a NetDraft, names: &'a NetNames) -> Result<Network<'a>, AllocError>
         requires few { length net.now.sections ≤ MAX_SECTIONS }
-        requires named { HasNamesOf names.now net.now }
+        requires named { HasBoardsAndNamesOf names.now net.now }
         ensures net { IfOk result (λ network. network.net.now ≡ net.now) }
         ensures numbered { IfOk result AgreesWithDraft }
     {
-        let ends = all_ends(alloc, &names.section_names, net.sections.as_slice())?;
+        let ends = resolved_ends_by_section(alloc, &names.section_names, net.sections.as_slice())?;
         let leads = up_reachability_matrix(alloc, &ends, net.sections.len() as u32)?;
         Ok(Network {
             net,
@@ -76,7 +76,7 @@ impl Network<'_> {
     }
 
     fn stands_alone(&self, x: u32) -> bool
-        ensures { result ≡ is_isolated self.now.net.now x }
+        ensures { result ≡ is_isolated_linear_section self.now.net.now x }
     {
         match self.kind(x) {
             Some(kind) => is_linear_without_neighbours(kind),
@@ -93,7 +93,6 @@ impl Network<'_> {
         }
     }
 
-    // Returns whether some neighbour of `x` isn't the name of another section.
     fn has_wrong_neighbour(&self, x: u32) -> bool
         requires { AgreesWithDraft self.now }
         ensures { result ≡ has_wrong_neighbour self.now.net.now x }
@@ -108,18 +107,17 @@ impl Network<'_> {
         is_not_named_back(&self.ends, x)
     }
 
-    // Returns whether a walk up returns to section `x`.
     fn returns(&self, x: u32) -> bool
         requires { AgreesWithDraft self.now }
         ensures { result ≡ is_on_up_cycle self.now.net.now x }
     {
-        matrix_entry(&self.leads, x, x)
+        matrix_entry_or_false(&self.leads, x, x)
     }
 
     fn count(&self, places: PlaceKind) -> u32
         requires few { length self.now.net.now.sections ≤ MAX_SECTIONS }
         requires numbered { AgreesWithDraft self.now }
-        ensures { result ≡ count_in_network self.now.net.now places }
+        ensures { result ≡ place_count_in_network self.now.net.now places }
     {
         match places {
             PlaceKind::Sections => self.net.sections.len() as u32,
@@ -130,7 +128,7 @@ impl Network<'_> {
 
     fn breaks(&self, rule: Rule, x: u32) -> bool
         requires { AgreesWithDraft self.now }
-        ensures { result ≡ breaks_network self.now.net.now rule x }
+        ensures { result ≡ breaks_network_rule_at self.now.net.now rule x }
     {
         match rule {
             Rule::N1 => self.names.section_names.repeats_earlier_name(x),
@@ -146,13 +144,12 @@ impl Network<'_> {
     }
 }
 
-// Adds `rule` for each location at which the network violates it.
 fn push_broken(broken: &mut Row<Broken>, network: &Network, rule: Rule) -> Result<(), AllocError>
     requires few { length network.now.net.now.sections ≤ MAX_SECTIONS }
     requires numbered { AgreesWithDraft network.now }
     ensures { OnOk result (broken.new ≡ broken.old
-        ++ broken_below rule (count_in_network network.now.net.now (place_kind_of rule))
-        (breaks_network network.now.net.now rule)) }
+        ++ broken_below rule (place_count_in_network network.now.net.now (place_kind_of rule))
+        (breaks_network_rule_at network.now.net.now rule)) }
 {
     for x in 0..network.count(rule.places()) {
         let entry = Broken {
@@ -165,9 +162,9 @@ fn push_broken(broken: &mut Row<Broken>, network: &Network, rule: Rule) -> Resul
     Ok(())
 }
 
-/// Returns every rule of the network, N1 to N8, that a draft violates, with its location. The draft
-/// must be within the limits. The order is by rule, then by location. A location is a board number
-/// for N2, otherwise a section number. The draft doesn't change. Fails only if memory runs out.
+/// Returns every violated rule of the network, N1 to N8, with its location, ordered by rule and
+/// location. A location is a board number for N2, otherwise a section number. The draft must be
+/// within the limits. Fails only if memory runs out.
 pub fn check_network(alloc: Global, net: &NetDraft) -> Result<Row<Broken>, AllocError>
     requires { length net.now.sections ≤ MAX_SECTIONS }
     ensures rules { IfOk result (λ broken. broken ≡ network_rules_broken net.now) }
@@ -179,14 +176,15 @@ pub fn check_network(alloc: Global, net: &NetDraft) -> Result<Row<Broken>, Alloc
     check_network_with_names(alloc, net, &names)
 }
 
-/// Returns the same as `check_network`, from existing names of the network.
+/// Returns every violated rule of the network, as `check_network` does. `names` must be the names
+/// of `net`. Fails only if memory runs out.
 pub fn check_network_with_names(
     alloc: Global,
     net: &NetDraft,
     names: &NetNames,
 ) -> Result<Row<Broken>, AllocError>
     requires few { length net.now.sections ≤ MAX_SECTIONS }
-    requires named { HasNamesOf names.now net.now }
+    requires named { HasBoardsAndNamesOf names.now net.now }
     ensures rules { IfOk result (λ broken. broken ≡ network_rules_broken net.now) }
     ensures walks { IfOk result (λ broken. (x : ℕ) →
         Contains broken (record { rule = N7; first = x; second = None }) ↔ IsOnUpCycle net.now x) }

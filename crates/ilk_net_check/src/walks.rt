@@ -3,8 +3,8 @@ ghost use Rattle.ilk_plant.specs.NetworkRules.{IsOnUpCycle, is_on_up_cycle};
 
 use ilk_plant::NetDraft;
 
-/// By the test `is_on_up_cycle`, section `x` violates rule N7 if and only if a walk up of one or
-/// more steps, of any length, returns to it. Proof only; no run-time effect.
+/// The test `is_on_up_cycle` finds section `x` in violation of rule N7 if and only if a walk up
+/// from `x`, of one or more steps and any length, returns to `x`. Proof only; no run-time effect.
 pub fn walk_test_is_exact(net: &NetDraft, x: u32)
     ensures { IsTrue (is_on_up_cycle net.now x) ↔ IsOnUpCycle net.now x }
 {}

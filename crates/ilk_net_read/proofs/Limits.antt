@@ -2,7 +2,7 @@
 use Rattle.std.proofs.Common.{◌≡◌, ℕ, ◌≤◌, true, leb, length}
 use Rattle.std.proofs.lemmas.Bool.{leb-true, and_parts}
 use Rattle.ilk_plant.specs.Name.{is_between}
-use Rattle.ilk_plant.specs.Limits.{counts_are_allowed}
+use Rattle.ilk_plant.specs.Limits.{section_and_route_counts_allowed}
 use Rattle.ilk_plant.specs.declared.limits.TheConstants.{MAX_ROUTES, MAX_SECTIONS}
 use Rattle.ilk_net_read.specs.Document.{VersionedDocument, has_allowed_counts}
 use Rattle.ilk_net_read.specs.Seen.{HasAllowedCounts, document_view}
@@ -20,7 +20,7 @@ has_allowed_counts-true document e =
     let sections = is_between-true 1 MAX_SECTIONS _ parts.0 in
     record { some = sections.0; few = sections.1; routes = leb-true _ MAX_ROUTES parts.1 }
 
-pub has_allowed_counts-document_view : (document : Document) → has_allowed_counts (document_view document) ≡ counts_are_allowed (length document.sections.now) (length document.routes.now)
+pub has_allowed_counts-document_view : (document : Document) → has_allowed_counts (document_view document) ≡ section_and_route_counts_allowed (length document.sections.now) (length document.routes.now)
 has_allowed_counts-document_view document = simp items_len-items_view
 
 pub few_routes : (document : Document) → HasAllowedCounts (document_view document) → length document.routes.now ≤ MAX_ROUTES

@@ -4,7 +4,7 @@ use Rattle.std.specs.Str.{IsUtf8, is_utf8}
 use Rattle.std.proofs.lemmas.Str.{IsUtf8-from_is_utf8, is_utf8-from_IsUtf8}
 use Rattle.serde_json.specs.Data.{Data}
 use Rattle.serde_json.specs.Read.{read}
-use Rattle.ilk_net_read.specs.Fault.{fault_for_rule, or_fault}
+use Rattle.ilk_net_read.specs.Fault.{rule_fault_at_place, or_fault}
 use Rattle.ilk_net_read.specs.Network.{value_of}
 use Rattle.ilk_net_read.specs.declared.fault.Form.TheVariants.{F2}
 use Rattle.ilk_net_read.specs.declared.fault.Place.TheVariants.{Document}
@@ -16,5 +16,5 @@ unread : (bytes : List ℕ) (b : Bool) → is_utf8 bytes ≡ b → (IsUtf8 bytes
 unread bytes true is none = none (IsUtf8-from_is_utf8 bytes is)
 unread bytes false is none = refl
 
-pub value_of-refused : (bytes : List ℕ) → (IsUtf8 bytes → read bytes ≡ None) → value_of bytes ≡ Err (fault_for_rule F2 Document)
-value_of-refused bytes none = ap (or_fault (fault_for_rule F2 Document)) (unread bytes (is_utf8 bytes) refl none)
+pub value_of-refused : (bytes : List ℕ) → (IsUtf8 bytes → read bytes ≡ None) → value_of bytes ≡ Err (rule_fault_at_place F2 Document)
+value_of-refused bytes none = ap (or_fault (rule_fault_at_place F2 Document)) (unread bytes (is_utf8 bytes) refl none)

@@ -9,37 +9,39 @@ use Rattle.ilk_net_read.specs.declared.fault.ValueReadError.{ValueReadError}
 use Rattle.ilk_net_read.specs.declared.fault.ValueReadError.TheVariants.{WrongKind, OutOfMemory as NoMemory}
 use Rattle.ilk_net_read.specs.declared.fault.Place.{Place}
 
--- The fault: this rule is violated at this location.
-abbrev pub fault_for_rule : Form → Place → FormFault
-fault_for_rule rule place = record { rule = rule; place = place }
+-- Returns the fault that says that `rule` is violated at `place`.
+abbrev pub rule_fault_at_place : Form → Place → FormFault
+rule_fault_at_place rule place = record { rule = rule; place = place }
 
--- The value, or the fault if there is none.
+-- Returns the value if there is one, otherwise the error `fault`.
 abbrev pub or_fault : {A : Type 0} → FormFault → Option A → Result A FormFault
 or_fault fault (Some x) = Ok x
 or_fault fault None = Err fault
 
--- The value if it passes the test, otherwise the fault.
+-- Returns `x` if it passes `test`, otherwise the error `fault`.
 abbrev pub value_if_passes : {A : Type 0} → (A → Bool) → FormFault → A → Result A FormFault
 value_if_passes test fault x = if test x then Ok x else Err fault
 
--- Holds if a reader's result, seen by `view`, is exactly the given value or fault, or memory ran
--- out.
+-- Holds if a reader's result, seen by `view`, is the value or fault `given`. It also holds if
+-- memory ran out.
 abbrev pub ViewMatchesUnlessOutOfMemory : {X Y : Type 0} → (X → Y) → Result X FormError → Result Y FormFault → Type 0
 ViewMatchesUnlessOutOfMemory view (Ok x) given = given ≡ Ok (view x)
 ViewMatchesUnlessOutOfMemory view (Err (Fault fault)) given = given ≡ Err fault
 ViewMatchesUnlessOutOfMemory view (Err OutOfMemory) given = Unit {0}
 
--- Holds if a reader's result is exactly the given value or fault, or memory ran out.
+-- Holds if a reader's result is the value or fault `given`. It also holds if memory ran out.
 abbrev pub MatchesUnlessOutOfMemory : {X : Type 0} → Result X FormError → Result X FormFault → Type 0
 MatchesUnlessOutOfMemory answer given = ViewMatchesUnlessOutOfMemory (λ x. x) answer given
 
--- Holds if a value is read if and only if it is of the expected kind, or memory ran out.
+-- Holds if a reader returns the value `found`, or the error `WrongKind` if there is none. It also
+-- holds if memory ran out.
 abbrev pub IsReadIfKindMatches : {X : Type 0} → Result X ValueReadError → Option X → Type 0
 IsReadIfKindMatches (Ok x) found = found ≡ Some x
 IsReadIfKindMatches (Err WrongKind) found = found ≡ None
 IsReadIfKindMatches (Err NoMemory) found = Unit {0}
 
--- The error at a location that expects a kind of value: F3, or out of memory.
-abbrev pub into_form_error : ValueReadError → Place → FormError
-into_form_error WrongKind place = Fault (fault_for_rule F3 place)
-into_form_error NoMemory place = OutOfMemory
+-- Returns the error of a configuration's reader for a value read at `place`: a violation of F3
+-- there, or out of memory.
+abbrev pub into_form_error_at : ValueReadError → Place → FormError
+into_form_error_at WrongKind place = Fault (rule_fault_at_place F3 place)
+into_form_error_at NoMemory place = OutOfMemory

@@ -1,4 +1,4 @@
--- The members of a document, as data.
+-- How definitions see the code's documents.
 use Rattle.std.specs.Prelude.{◌≤◌}
 use Rattle.serde_json.specs.Events.{items_len}
 use Rattle.serde_json.specs.View.{items_view}
@@ -7,7 +7,7 @@ use Rattle.ilk_net_read.specs.Document.{VersionedDocument, DocumentMembers}
 use Rattle.ilk_net_read.specs.declared.document.Document.{Document}
 use Rattle.ilk_net_read.specs.declared.document.Members.{Members}
 
--- The members of a document, as the logic sees the `Members` of the code.
+-- Returns the members of a document from the `Members` of the code.
 abbrev pub document_members_view : Members → DocumentMembers
 document_members_view members = record {
   version = members.version;

@@ -1,5 +1,3 @@
-//! The document: its version, and the arrays of its sections and routes.
-
 ghost use Rattle.std.specs.Prelude.{◌≡◌, ◌&&◌, option_map, true, IfOk};
 ghost use Rattle.serde_json.specs.View.{view};
 ghost use Rattle.ilk_plant.specs.Limits as limits;
@@ -8,14 +6,13 @@ ghost use Rattle.ilk_net_read.specs.Fault.{ViewMatchesUnlessOutOfMemory};
 ghost use Rattle.ilk_net_read.specs.Network as network;
 ghost use Rattle.ilk_net_read.specs.Seen.{document_view, document_members_view, HasAllowedCounts};
 
-use crate::fault::error_for_rule;
-use crate::member::{array_member, has_member_count, number_member};
+use crate::fault::rule_error_at_place;
+use crate::member::{has_member_count, member_as_array, member_as_u64};
 use crate::name::is_between;
 use crate::{Form, FormError, Place, Version};
 use ilk_plant::{MAX_ROUTES, MAX_SECTIONS};
 use serde_json::Value;
 
-// The members of a document as written.
 #[derive(Drop)]
 struct Members<'v> {
     version: u64,
@@ -23,7 +20,7 @@ struct Members<'v> {
     routes: &'v [Value],
 }
 
-/// A document of a known version, with its sections and routes.
+/// A configuration's document of a known version, with its sections and routes.
 #[derive(Drop)]
 pub struct Document<'v> {
     pub version: Version,
@@ -34,9 +31,9 @@ pub struct Document<'v> {
 fn written(value: &Value) -> Option<Members<'_>>
     ensures { option_map document_members_view result ≡ parts.as_document (view value.now) }
 {
-    let version = number_member(value, "version")?;
-    let sections = array_member(value, "sections")?;
-    let routes = array_member(value, "routes")?;
+    let version = member_as_u64(value, "version")?;
+    let sections = member_as_array(value, "sections")?;
+    let routes = member_as_array(value, "routes")?;
     if !has_member_count(value, 3) {
         return None;
     }
@@ -59,8 +56,8 @@ fn in_version<'v>(members: &Members<'v>) -> Option<Document<'v>>
     })
 }
 
-fn counts_are_allowed(sections: usize, routes: usize) -> bool
-    ensures { result ≡ limits.counts_are_allowed sections routes }
+fn section_and_route_counts_allowed(sections: usize, routes: usize) -> bool
+    ensures { result ≡ limits.section_and_route_counts_allowed sections routes }
 {
     is_between(1, MAX_SECTIONS as usize, sections) && routes <= MAX_ROUTES as usize
 }
@@ -69,25 +66,26 @@ fn has_allowed_counts(document: &Document<'_>) -> bool
     ensures exact { result ≡ parts.has_allowed_counts (document_view document.now) }
     ensures limits { result ≡ true → HasAllowedCounts (document_view document.now) }
 {
-    counts_are_allowed(document.sections.len(), document.routes.len())
+    section_and_route_counts_allowed(document.sections.len(), document.routes.len())
 }
 
-/// Reads the document. Rule F3 is violated if the value isn't one. Then F4 is violated if the
-/// version is neither 1 nor 2. Then F6 is violated if there is no section, or more sections or
-/// routes than allowed.
-pub fn read_document(value: &Value) -> Result<Document<'_>, FormError>
+/// Reads a configuration's document: its version, and the arrays of its sections and routes.
+/// Returns the first violated rule otherwise. It is F3 if `value` isn't a document, F4 if the
+/// version is neither 1 nor 2, and F6 if there is no section, or more sections or routes than
+/// allowed.
+pub fn document_from_value(value: &Value) -> Result<Document<'_>, FormError>
     ensures exact { ViewMatchesUnlessOutOfMemory document_view result
-        (network.read_document (view value.now)) }
+        (network.document_from_value (view value.now)) }
     ensures limits { IfOk result (λ document. HasAllowedCounts (document_view document)) }
 {
     let Some(members) = written(value) else {
-        return Err(error_for_rule(Form::F3, Place::Document));
+        return Err(rule_error_at_place(Form::F3, Place::Document));
     };
     let Some(document) = in_version(&members) else {
-        return Err(error_for_rule(Form::F4, Place::Document));
+        return Err(rule_error_at_place(Form::F4, Place::Document));
     };
     if !has_allowed_counts(&document) {
-        return Err(error_for_rule(Form::F6, Place::Document));
+        return Err(rule_error_at_place(Form::F6, Place::Document));
     }
     Ok(document)
 }

@@ -3,20 +3,20 @@
 ghost use Rattle.std.specs.Prelude.{◌≡◌};
 ghost use Rattle.ilk_net_read.specs.declared.fault.ValueReadError.TheVariants.{OutOfMemory as NoMemory};
 ghost use Rattle.ilk_net_read.specs.declared.fault.FormError.TheVariants.{Fault, OutOfMemory};
-ghost use Rattle.ilk_net_read.specs.Fault.{into_form_error, fault_for_rule as broken_below};
+ghost use Rattle.ilk_net_read.specs.Fault.{into_form_error_at, rule_fault_at_place as broken_below};
 
 use std::alloc::AllocError;
 use thiserror::Error;
 
-/// A rule of the form.
+/// A rule that the form of a configuration has to keep.
 #[derive(Clone, Copy, PartialEq, Eq, Debug)]
 pub enum Form {
     /// The configuration has at most 4194304 bytes, and the other input file at most the limit of
     /// its kind.
     F1,
-    /// It is a JSON text.
+    /// The configuration is a JSON text.
     F2,
-    /// Each member is present, known and of its kind.
+    /// Each member of an object is present, known and of its kind.
     F3,
     /// The version is 1 or 2.
     F4,
@@ -26,7 +26,7 @@ pub enum Form {
     F6,
 }
 
-/// The location of a violation: the whole document, the extra input, or a section or route by
+/// The location of a violation: the whole document, the extra input file, or a section or route by
 /// number from 0.
 #[derive(Clone, Copy, PartialEq, Eq, Debug)]
 pub enum Place {
@@ -61,14 +61,14 @@ impl From<AllocError> for FormError {
     }
 }
 
-/// Returns the error for `rule`, violated at `place`.
-pub fn error_for_rule(rule: Form, place: Place) -> FormError
+/// Returns the error that says that `rule` is violated at `place`.
+pub fn rule_error_at_place(rule: Form, place: Place) -> FormError
     ensures { result ≡ Fault (broken_below rule place) }
 {
     FormError::Fault(FormFault { rule, place })
 }
 
-/// The reason why a value isn't read as expected: it is of another kind, or memory ran out.
+/// The reason why a JSON value isn't read: it isn't of the expected kind, or memory ran out.
 #[derive(Debug, Drop, Error)]
 pub enum ValueReadError {
     #[error("a member is missing, unknown or of the wrong kind")]
@@ -78,12 +78,13 @@ pub enum ValueReadError {
 }
 
 impl ValueReadError {
-    /// Returns the error of a reader at this location: rule F3, or out of memory.
-    pub fn into_form_error(self, place: Place) -> FormError
-        ensures { result ≡ into_form_error self place }
+    /// Returns the error of a configuration's reader for a value read at `place`: a violation of F3
+    /// there, or out of memory.
+    pub fn into_form_error_at(self, place: Place) -> FormError
+        ensures { result ≡ into_form_error_at self place }
     {
         match self {
-            ValueReadError::WrongKind => error_for_rule(Form::F3, place),
+            ValueReadError::WrongKind => rule_error_at_place(Form::F3, place),
             ValueReadError::OutOfMemory => FormError::OutOfMemory,
         }
     }

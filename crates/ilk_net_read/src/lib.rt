@@ -2,7 +2,7 @@
 //! schema).
 //!
 //! The rules are checked in one order, the same as in the definition, so a configuration has one
-//! first fault. `read_value` reads the bytes as JSON, `read_document` the document, and
+//! first fault. `read_value` reads the bytes as JSON, `document_from_value` the document, and
 //! `network_from_document` its sections; `read_network` does the last two. The crate re-exports its
 //! readers of documents and members for the reader of the interlocking table.
 #![tactic(auto)]
@@ -16,11 +16,11 @@ mod section;
 mod text;
 mod version;
 
-pub use document::{Document, read_document};
-pub use fault::{Form, FormError, FormFault, Place, ValueReadError, error_for_rule};
+pub use document::{Document, document_from_value};
+pub use fault::{Form, FormError, FormFault, Place, ValueReadError, rule_error_at_place};
 pub use member::{
-    array_member, has_member_count, number_member, string_member, text_member, text_or_null_member,
-    texts_member,
+    has_member_count, member_as_array, member_as_optional_text, member_as_str, member_as_text,
+    member_as_texts, member_as_u64,
 };
 pub use name::{is_between, is_name, is_name_if_given};
 pub use network::{network_from_document, read_network};

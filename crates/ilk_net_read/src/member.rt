@@ -1,5 +1,3 @@
-//! The members of an object, and their kinds.
-
 ghost use Rattle.std.specs.Prelude.{◌≡◌, option_map, Option};
 ghost use Rattle.serde_json.specs.Find.{as_str};
 ghost use Rattle.serde_json.specs.View.{view, items_view};
@@ -11,7 +9,7 @@ use ilk_plant::{Row, Text};
 use serde_json::Value;
 use std::alloc::Global;
 
-/// Returns whether the value is an object of `count` members.
+/// Returns whether `value` is an object of exactly `count` members.
 pub fn has_member_count(value: &Value, count: usize) -> bool
     ensures { result ≡ member.has_member_count count (view value.now) }
 {
@@ -21,40 +19,42 @@ pub fn has_member_count(value: &Value, count: usize) -> bool
     }
 }
 
-/// Returns the member `name`, if it is a non-negative whole number.
-pub fn number_member(value: &Value, name: &str) -> Option<u64>
-    ensures { result ≡ member.number_member name.now (view value.now) }
+/// Returns the member `name` of an object, if it is a non-negative whole number. Otherwise returns
+/// `None`.
+pub fn member_as_u64(value: &Value, name: &str) -> Option<u64>
+    ensures { result ≡ member.member_as_u64 name.now (view value.now) }
 {
     value.get(name).and_then(Value::as_u64)
 }
 
-/// Returns the member `name`, if it is an array.
-pub fn array_member<'v>(value: &'v Value, name: &str) -> Option<&'v [Value]>
+/// Returns the items of the member `name` of an object, if it is an array. Otherwise returns
+/// `None`.
+pub fn member_as_array<'v>(value: &'v Value, name: &str) -> Option<&'v [Value]>
     ensures { option_map (λ items. items_view items.now) result
-        ≡ member.array_member name.now (view value.now) }
+        ≡ member.member_as_array name.now (view value.now) }
 {
     let items = value.get(name)?.as_array()?;
     Some(items.as_slice())
 }
 
-/// Returns the member `name`, if it is a text.
-pub fn string_member<'v>(value: &'v Value, name: &str) -> Option<&'v str>
-    ensures { option_map (λ text. text.now) result ≡ member.text_member name.now (view value.now) }
+/// Returns the member `name` of an object, if it is a text. Otherwise returns `None`.
+pub fn member_as_str<'v>(value: &'v Value, name: &str) -> Option<&'v str>
+    ensures { option_map (λ text. text.now) result ≡
+        member.member_as_text name.now (view value.now) }
 {
     value.get(name).and_then(Value::as_str)
 }
 
-/// Returns a copy of the member `name`, which must be a text.
-pub fn text_member(alloc: Global, value: &Value, name: &str) -> Result<Text, ValueReadError>
-    ensures { IsReadIfKindMatches result (member.text_member name.now (view value.now)) }
+/// Returns a copy of the member `name` of an object. Fails if it isn't a text, or memory runs out.
+pub fn member_as_text(alloc: Global, value: &Value, name: &str) -> Result<Text, ValueReadError>
+    ensures { IsReadIfKindMatches result (member.member_as_text name.now (view value.now)) }
 {
-    match string_member(value, name) {
+    match member_as_str(value, name) {
         Some(text) => Ok(Text::of(String::from_str(alloc, text)?)),
         None => Err(ValueReadError::WrongKind),
     }
 }
 
-/// Returns a copy of a text, or `None` for null; the value must be one of the two.
 fn optional_text(alloc: Global, value: &Value) -> Result<Option<Text>, ValueReadError>
     ensures { IsReadIfKindMatches result (member.as_optional_text (view value.now)) }
 {
@@ -65,13 +65,15 @@ fn optional_text(alloc: Global, value: &Value) -> Result<Option<Text>, ValueRead
     }
 }
 
-/// Returns a copy of the member `name`, which must be a text or null.
-pub fn text_or_null_member(
+/// Returns a copy of the member `name` of an object, or `None` if it is null. Fails if it is
+/// neither a text nor null, or memory runs out.
+pub fn member_as_optional_text(
     alloc: Global,
     value: &Value,
     name: &str,
 ) -> Result<Option<Text>, ValueReadError>
-    ensures { IsReadIfKindMatches result (member.text_or_null_member name.now (view value.now)) }
+    ensures { IsReadIfKindMatches result (member.member_as_optional_text name.now
+        (view value.now)) }
 {
     match value.get(name) {
         Some(found) => optional_text(alloc, found),
@@ -99,11 +101,16 @@ fn texts(alloc: Global, values: &[Value]) -> Result<Row<Text>, ValueReadError>
     Ok(texts)
 }
 
-/// Returns a copy of the member `name`, which must be an array of texts.
-pub fn texts_member(alloc: Global, value: &Value, name: &str) -> Result<Row<Text>, ValueReadError>
-    ensures { IsReadIfKindMatches result (member.texts_member name.now (view value.now)) }
+/// Returns a copy of the member `name` of an object. Fails if it isn't an array of texts, or memory
+/// runs out.
+pub fn member_as_texts(
+    alloc: Global,
+    value: &Value,
+    name: &str,
+) -> Result<Row<Text>, ValueReadError>
+    ensures { IsReadIfKindMatches result (member.member_as_texts name.now (view value.now)) }
 {
-    match array_member(value, name) {
+    match member_as_array(value, name) {
         Some(values) => texts(alloc, values),
         None => Err(ValueReadError::WrongKind),
     }

@@ -1,5 +1,3 @@
-//! Names.
-
 ghost use Rattle.std.specs.Prelude.{◌≡◌};
 ghost use Rattle.std.specs.List.{list_all};
 ghost use Rattle.ilk_plant.specs.Name as name;
@@ -13,7 +11,6 @@ pub fn is_between(low: usize, high: usize, number: usize) -> bool
     low <= number && number <= high
 }
 
-/// Returns whether a byte is allowed in a name: `A-Z a-z 0-9 _ -`.
 fn is_name_character(byte: u8) -> bool
     ensures { result ≡ name.is_name_character byte }
 {
@@ -34,7 +31,7 @@ fn has_name_characters(bytes: &[u8]) -> bool
     bytes.iter().all(|byte| is_name_character(*byte))
 }
 
-/// Returns whether an optional text is missing or a name.
+/// Returns whether an optional text is missing, or is a name by `is_name`.
 pub fn is_name_if_given(text: &Option<Text>) -> bool
     ensures { result ≡ name.is_name_if_given text.now }
 {

@@ -1,5 +1,3 @@
-//! The network.
-
 ghost use Rattle.std.specs.Prelude.{◌≡◌, ◌≤◌, length, true, IfOk};
 ghost use Rattle.std.specs.List.{list_all};
 ghost use Rattle.serde_json.specs.View.{view, items_view};
@@ -7,12 +5,12 @@ ghost use Rattle.ilk_plant.specs.Limits.{NetworkWithinLimits, section_names_vali
 ghost use Rattle.ilk_net_read.specs.Fault.{MatchesUnlessOutOfMemory};
 ghost use Rattle.ilk_base.specs.Result.{try_map_numbered};
 ghost use Rattle.ilk_net_read.specs.Member.{array_entries};
-ghost use Rattle.ilk_net_read.specs.Network.{network_from_document, network_from_data, read_section};
+ghost use Rattle.ilk_net_read.specs.Network.{network_from_document, network_from_value, section_from_value};
 ghost use Rattle.ilk_net_read.specs.Seen.{HasAllowedCounts, document_view};
 
 use crate::FormError;
-use crate::document::{Document, read_document};
-use crate::section::read_section;
+use crate::document::{Document, document_from_value};
+use crate::section::section_from_value;
 use ilk_plant::{MAX_SECTIONS, NetDraft, Row, SectionDraft};
 use serde_json::Value;
 use std::alloc::Global;
@@ -20,13 +18,13 @@ use std::alloc::Global;
 fn sections(alloc: Global, values: &[Value]) -> Result<Row<SectionDraft>, FormError>
     requires { length values.now ≤ MAX_SECTIONS }
     ensures exact { MatchesUnlessOutOfMemory result
-        (try_map_numbered read_section 0 (array_entries (items_view values.now))) }
+        (try_map_numbered section_from_value 0 (array_entries (items_view values.now))) }
     ensures count { IfOk result (λ sections. length sections ≡ length values.now) }
     ensures named { IfOk result (λ sections. list_all section_names_valid sections ≡ true) }
 {
     let mut sections = Row::new(alloc);
     for (i, value) in values.iter().enumerate() {
-        let section = read_section(alloc, i as u32, value)?;
+        let section = section_from_value(alloc, i as u32, value)?;
         sections.push(section)?;
     }
     Ok(sections)
@@ -45,13 +43,13 @@ pub fn network_from_document(alloc: Global, document: &Document<'_>) -> Result<N
     Ok(NetDraft { sections })
 }
 
-/// Returns the network of a configuration, or the first violated rule. It checks the document (F3,
-/// F4, F6), then its sections in order (F3, then F5, of each).
+/// Returns the network of the configuration `value`, or the first violated rule. It checks the
+/// document (F3, F4, F6), then each section in order (F3, F5).
 pub fn read_network(alloc: Global, value: &Value) -> Result<NetDraft, FormError>
-    ensures exact { MatchesUnlessOutOfMemory result (network_from_data (view value.now)) }
+    ensures exact { MatchesUnlessOutOfMemory result (network_from_value (view value.now)) }
     // At least one section, no more than allowed, and all texts are names.
     ensures limits { IfOk result NetworkWithinLimits }
 {
-    let document = read_document(value)?;
+    let document = document_from_value(value)?;
     network_from_document(alloc, &document)
 }

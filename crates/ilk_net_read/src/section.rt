@@ -1,5 +1,3 @@
-//! The sections.
-
 ghost use Rattle.std.specs.Prelude.{◌≡◌, true, IfOk};
 ghost use Rattle.serde_json.specs.View.{view};
 ghost use Rattle.ilk_plant.specs.Limits.{neighbour_and_board_names_valid, section_names_valid};
@@ -7,8 +5,8 @@ ghost use Rattle.ilk_net_read.specs.Fault.{MatchesUnlessOutOfMemory, IsReadIfKin
 ghost use Rattle.ilk_net_read.specs.Network as network;
 ghost use Rattle.ilk_net_read.specs.Section as section;
 
-use crate::fault::error_for_rule;
-use crate::member::{has_member_count, string_member, text_member, text_or_null_member};
+use crate::fault::rule_error_at_place;
+use crate::member::{has_member_count, member_as_optional_text, member_as_str, member_as_text};
 use crate::name::{is_name, is_name_if_given};
 use crate::{Form, FormError, Place, ValueReadError};
 use ilk_plant::{Dir, KindDraft, SectionDraft};
@@ -18,11 +16,11 @@ use std::alloc::Global;
 fn linear(alloc: Global, value: &Value) -> Result<SectionDraft, ValueReadError>
     ensures { IsReadIfKindMatches result (section.as_linear (view value.now)) }
 {
-    let name = text_member(alloc, value, "name")?;
-    let down = text_or_null_member(alloc, value, "down")?;
-    let up = text_or_null_member(alloc, value, "up")?;
-    let board_down = text_or_null_member(alloc, value, "board_down")?;
-    let board_up = text_or_null_member(alloc, value, "board_up")?;
+    let name = member_as_text(alloc, value, "name")?;
+    let down = member_as_optional_text(alloc, value, "down")?;
+    let up = member_as_optional_text(alloc, value, "up")?;
+    let board_down = member_as_optional_text(alloc, value, "board_down")?;
+    let board_up = member_as_optional_text(alloc, value, "board_up")?;
     if !has_member_count(value, 6) {
         return Err(ValueReadError::WrongKind);
     }
@@ -38,16 +36,16 @@ fn linear(alloc: Global, value: &Value) -> Result<SectionDraft, ValueReadError>
 fn faces(value: &Value) -> Option<Dir>
     ensures { result ≡ section.facing_direction (view value.now) }
 {
-    Dir::from_word(string_member(value, "faces")?.as_bytes())
+    Dir::from_word(member_as_str(value, "faces")?.as_bytes())
 }
 
 fn point(alloc: Global, value: &Value) -> Result<SectionDraft, ValueReadError>
     ensures { IsReadIfKindMatches result (section.as_point (view value.now)) }
 {
-    let name = text_member(alloc, value, "name")?;
-    let stem = text_member(alloc, value, "stem")?;
-    let plus = text_member(alloc, value, "plus")?;
-    let minus = text_member(alloc, value, "minus")?;
+    let name = member_as_text(alloc, value, "name")?;
+    let stem = member_as_text(alloc, value, "stem")?;
+    let plus = member_as_text(alloc, value, "plus")?;
+    let minus = member_as_text(alloc, value, "minus")?;
     let Some(faces) = faces(value) else {
         return Err(ValueReadError::WrongKind);
     };
@@ -66,7 +64,7 @@ fn point(alloc: Global, value: &Value) -> Result<SectionDraft, ValueReadError>
 fn section(alloc: Global, value: &Value) -> Result<SectionDraft, ValueReadError>
     ensures { IsReadIfKindMatches result (section.as_section (view value.now)) }
 {
-    match string_member(value, "kind") {
+    match member_as_str(value, "kind") {
         Some("linear") => linear(alloc, value),
         Some("point") => point(alloc, value),
         _ => Err(ValueReadError::WrongKind),
@@ -97,22 +95,23 @@ fn has_names(kind: &KindDraft) -> bool
     }
 }
 
-/// Returns section `number`, from its value.
-pub(crate) fn read_section(
+/// Returns section `number` from its value, or its first violated rule.
+pub(crate) fn section_from_value(
     alloc: Global,
     number: u32,
     value: &Value,
 ) -> Result<SectionDraft, FormError>
-    ensures exact { MatchesUnlessOutOfMemory result (network.read_section number (view value.now)) }
+    ensures exact { MatchesUnlessOutOfMemory result (network.section_from_value number
+        (view value.now)) }
     ensures named { IfOk result (λ draft. section_names_valid draft ≡ true) }
 {
     let place = Place::Section(number);
     let draft = match section(alloc, value) {
         Ok(draft) => draft,
-        Err(error) => return Err(error.into_form_error(place)),
+        Err(error) => return Err(error.into_form_error_at(place)),
     };
     if !is_name(&draft.name) || !has_names(&draft.kind) {
-        return Err(error_for_rule(Form::F5, place));
+        return Err(rule_error_at_place(Form::F5, place));
     }
     Ok(draft)
 }

@@ -1,9 +1,7 @@
-//! The versions of a configuration's form.
-
 ghost use Rattle.std.specs.Prelude.{◌≡◌};
 ghost use Rattle.ilk_net_read.specs.Version.{version_from_number};
 
-/// A version of a configuration's form.
+/// A version of the form of a configuration.
 #[derive(Clone, Copy, PartialEq, Eq, Debug)]
 pub enum Version {
     /// Version 1, in which a route has no lists of protecting points and boards.
@@ -13,7 +11,7 @@ pub enum Version {
 }
 
 impl Version {
-    /// Returns the version with this number. Returns `None` if there is none.
+    /// Returns the version with this number, 1 or 2. Returns `None` for any other number.
     pub fn from_number(number: u64) -> Option<Version>
         ensures { result ≡ version_from_number number }
     {

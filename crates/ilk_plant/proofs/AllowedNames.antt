@@ -3,7 +3,7 @@ use Rattle.std.proofs.Common.{◌≡◌, ℕ, ◌+◌, true, Option, Some, None,
 use Rattle.std.specs.List.{list_all}
 use Rattle.std.proofs.lemmas.List.{map-append}
 use Rattle.std.proofs.lemmas.List.Folds.{list_all-append, list_all-map}
-use Rattle.ilk_plant.specs.Draft.{boards_from, boards_on, names_of_boards, names_of_routes, names_of_sections, board_if_named}
+use Rattle.ilk_plant.specs.Draft.{boards_of_sections_from, boards_on, names_of_boards, names_of_routes, names_of_sections, board_if_named}
 use Rattle.ilk_plant.specs.Limits.{neighbour_and_board_names_valid, route_names_valid, section_names_valid}
 use Rattle.ilk_plant.specs.Name.{IsName, Name, is_name, is_name_if_given}
 use Rattle.ilk_plant.specs.declared.draft.KindDraft.{KindDraft}
@@ -55,12 +55,12 @@ boards-here x (LinearDraft down up board_down board_up) h =
     ∙ rw (one-board x Down board_down before.1) (one-board x Up board_up last.1)
 boards-here x (PointDraft stem plus minus faces) h = refl
 
-boards-tested : (x : ℕ) (sections : List SectionDraft) → list_all section_names_valid sections ≡ true → list_all is_name (names_in (boards_from x sections)) ≡ true
+boards-tested : (x : ℕ) (sections : List SectionDraft) → list_all section_names_valid sections ≡ true → list_all is_name (names_in (boards_of_sections_from x sections)) ≡ true
 boards-tested x [] h = refl
 boards-tested x (section ∷ rest) h =
     let parts = and_parts (section_names_valid section) (list_all section_names_valid rest) h in
-    ap (list_all is_name) (map-append (λ named. named.name) (boards_on x section.kind) (boards_from (x + 1) rest))
-    ∙ list_all-append is_name (names_in (boards_on x section.kind)) (names_in (boards_from (x + 1) rest))
+    ap (list_all is_name) (map-append (λ named. named.name) (boards_on x section.kind) (boards_of_sections_from (x + 1) rest))
+    ∙ list_all-append is_name (names_in (boards_on x section.kind)) (names_in (boards_of_sections_from (x + 1) rest))
     ∙ rw (boards-here x section.kind (and_parts (is_name section.name) (neighbour_and_board_names_valid section.kind) parts.0).1) (boards-tested (x + 1) rest parts.1)
 
 pub board_names-allowed : (sections : List SectionDraft) → list_all section_names_valid sections ≡ true → All IsName (names_of_boards sections)

@@ -5,7 +5,7 @@ use Rattle.std.proofs.lemmas.Option.{same_Some, slice_get-map, slice_get_within,
 use Rattle.ilk_plant.proofs.NamesDiffer.{number_of-own}
 use Rattle.ilk_plant.proofs.Rules.{KeepsNetworkRules}
 use Rattle.ilk_plant.proofs.KnownNames.{board_on-known, boards_known}
-use Rattle.ilk_plant.specs.Draft.{NamedBoard, boards_from, boards_on, names_of_boards, names_of_sections, number_or_len, plant_from_drafts, numbered_section, board_if_named}
+use Rattle.ilk_plant.specs.Draft.{NamedBoard, boards_of_sections_from, boards_on, names_of_boards, names_of_sections, number_or_len, plant_from_drafts, numbered_section, board_if_named}
 use Rattle.ilk_plant.specs.Name.{Name}
 use Rattle.ilk_plant.specs.declared.broken.Rule.TheVariants.{N8}
 use Rattle.ilk_plant.specs.Network.{neighbours_on, board_on}
@@ -24,7 +24,7 @@ use Rattle.ilk_base.proofs.Lists.{at-before, at-either, at-past, map-at}
 use Rattle.ilk_base.proofs.Options.{mapped-Some}
 use Rattle.ilk_base.proofs.Tested.{list_all-slice_get}
 use Rattle.std.proofs.lemmas.Bool.{and_parts}
-use Rattle.ilk_plant.proofs.FewBoards.{boards_from-known}
+use Rattle.ilk_plant.proofs.FewBoards.{boards_of_sections_from-known}
 
 plant_from_drafts-at : {P : Type 0} (sections : List SectionDraft) (names boards : List Name) (x : ℕ) (k : Section) →
     slice_get (map (λ section. numbered_section names boards section.kind) sections) x ≡ Some k →
@@ -46,13 +46,13 @@ plant_from_drafts-at sections names boards x k e f =
 
 pub boards-plant_from_drafts : (net : NetDraft) (table : TableDraft) (x m : ℕ) (d : Dir) → board_of (plant_from_drafts net table) x d ≡ Some m → m < length (plant_from_drafts net table).boards
 boards-plant_from_drafts net table x m d e =
-    rw (length-map (boards_from 0 net.sections) (λ named. named.board), ← length-map (boards_from 0 net.sections) (λ named. named.name))
+    rw (length-map (boards_of_sections_from 0 net.sections) (λ named. named.board), ← length-map (boards_of_sections_from 0 net.sections) (λ named. named.name))
     (option_and_then_some (λ k. board_on k d) (slice_get (plant_from_drafts net table).sections x) m e (λ k at e1.
     plant_from_drafts-at net.sections (names_of_sections net.sections) (names_of_boards net.sections) x k at (λ section there same.
     let on_numbered : board_on (numbered_section (names_of_sections net.sections) (names_of_boards net.sections) section.kind) d ≡ Some m = rw same at e1 in
     board_on-known (names_of_sections net.sections) (names_of_boards net.sections) section.kind d m
     (list_all-slice_get (λ s. boards_known (names_of_boards net.sections) s.kind) net.sections x section
-    (boards_from-known 0 net.sections) there) on_numbered)))
+    (boards_of_sections_from-known 0 net.sections) there) on_numbered)))
 
 abbrev board_drafted : KindDraft → Dir → Option Name
 board_drafted (LinearDraft down up board_down board_up) Down = board_down
@@ -95,7 +95,7 @@ named-drafted x (PointDraft stem plus minus faces) k named e = cc
 drafts-listed :
     (first : ℕ) (sections : List SectionDraft) (x i : ℕ) (section : SectionDraft) (d : Dir) (name : Name) →
     x ≡ first + i → slice_get sections i ≡ Some section → board_drafted section.kind d ≡ Some name →
-    (k : ℕ) × (slice_get (boards_from first sections) k ≡ Some (named_on x d name))
+    (k : ℕ) × (slice_get (boards_of_sections_from first sections) k ≡ Some (named_on x d name))
 drafts-listed first [] x i section d name n at e = cc
 drafts-listed first (section ∷ rest) x zero other d name n at e =
     let same : section ≡ other = cc in
@@ -103,18 +103,18 @@ drafts-listed first (section ∷ rest) x zero other d name n at e =
     let here : first ≡ x = omega (arith, n) in
     let there = named-listed first section.kind d name named in
     let listed : slice_get (boards_on first section.kind) there.0 ≡ Some (named_on x d name) = there.1 ∙ ap (λ n. Some (named_on n d name)) here in
-    (there.0, at-before (boards_on first section.kind) (boards_from (first + 1) rest) there.0 (named_on x d name) listed)
+    (there.0, at-before (boards_on first section.kind) (boards_of_sections_from (first + 1) rest) there.0 (named_on x d name) listed)
 drafts-listed first (section ∷ rest) x (suc i) other d name n at e =
     let there = drafts-listed (first + 1) rest x i other d name (omega (arith, n)) at e in
-    (length (boards_on first section.kind) + there.0, at-past (boards_on first section.kind) (boards_from (first + 1) rest) there.0 (named_on x d name) there.1)
+    (length (boards_on first section.kind) + there.0, at-past (boards_on first section.kind) (boards_of_sections_from (first + 1) rest) there.0 (named_on x d name) there.1)
 
 listed-drafts : (first : ℕ) (sections : List SectionDraft) (k : ℕ) (named : NamedBoard) →
-    slice_get (boards_from first sections) k ≡ Some named →
+    slice_get (boards_of_sections_from first sections) k ≡ Some named →
     (i : ℕ) × (section : SectionDraft) × (slice_get sections i ≡ Some section) ×
     (named.board.section ≡ first + i) × (board_drafted section.kind named.board.dir ≡ Some named.name)
 listed-drafts first [] k named e = cc
 listed-drafts first (section ∷ rest) k named e =
-    elim (at-either (boards_on first section.kind) (boards_from (first + 1) rest) k named e) [
+    elim (at-either (boards_on first section.kind) (boards_of_sections_from (first + 1) rest) k named e) [
       | inl h ↦ let here = named-drafted first section.kind h.0 named h.1 in
           (zero, section, refl, here.0 ∙ omega arith, here.1)
       | inr h ↦ let there = listed-drafts (first + 1) rest h.0 named h.1 in
@@ -143,21 +143,21 @@ board-listed net table once x m d e =
     let drafted = board-drafted net table x m d e in
     let name : Name = drafted.1 in
     let listed = drafts-listed 0 net.sections x x drafted.0 d name (omega arith) drafted.2 drafted.3 in
-    let named : slice_get (names_of_boards net.sections) listed.0 ≡ Some name = slice_get-map (λ n. n.name) (boards_from 0 net.sections) listed.0 ∙ ap (option_map (λ n. n.name)) listed.1 in
+    let named : slice_get (names_of_boards net.sections) listed.0 ≡ Some name = slice_get-map (λ n. n.name) (boards_of_sections_from 0 net.sections) listed.0 ∙ ap (option_map (λ n. n.name)) listed.1 in
     let same : listed.0 ≡ m = sym (number_of-own (names_of_boards net.sections) name listed.0 once named) ∙ drafted.4 in
-    let there : slice_get (plant_from_drafts net table).boards listed.0 ≡ Some (record { section = x; dir = d }) = slice_get-map (λ n. n.board) (boards_from 0 net.sections) listed.0 ∙ ap (option_map (λ n. n.board)) listed.1 in
+    let there : slice_get (plant_from_drafts net table).boards listed.0 ≡ Some (record { section = x; dir = d }) = slice_get-map (λ n. n.board) (boards_of_sections_from 0 net.sections) listed.0 ∙ ap (option_map (λ n. n.board)) listed.1 in
     rw same at there
 
 listed-board : (net : NetDraft) (table : TableDraft) → EachOnce (names_of_boards net.sections) → (x m : ℕ) (d : Dir) → slice_get (plant_from_drafts net table).boards m ≡ Some (record { section = x; dir = d })
     → board_of (plant_from_drafts net table) x d ≡ Some m
 listed-board net table once x m d e =
-    let listed = map-at (λ n. n.board) (boards_from 0 net.sections) m (record { section = x; dir = d }) e in
+    let listed = map-at (λ n. n.board) (boards_of_sections_from 0 net.sections) m (record { section = x; dir = d }) e in
     let drafted = listed-drafts 0 net.sections m listed.0 listed.1 in
     let here : drafted.0 ≡ x = sym (drafted.3 ∙ omega arith) ∙ ap (λ b. b.section) listed.2 in
     let there : slice_get net.sections x ≡ Some drafted.1 = rw here at drafted.2 in
     let direction : listed.0.board.dir ≡ d = ap (λ b. b.dir) listed.2 in
     let given : board_drafted drafted.1.kind d ≡ Some listed.0.name = rw direction at drafted.4 in
-    let named : slice_get (names_of_boards net.sections) m ≡ Some listed.0.name = slice_get-map (λ n. n.name) (boards_from 0 net.sections) m ∙ ap (option_map (λ n. n.name)) listed.1 in
+    let named : slice_get (names_of_boards net.sections) m ≡ Some listed.0.name = slice_get-map (λ n. n.name) (boards_of_sections_from 0 net.sections) m ∙ ap (option_map (λ n. n.name)) listed.1 in
     let number : number_or_len (names_of_boards net.sections) listed.0.name ≡ m = number_of-own (names_of_boards net.sections) listed.0.name m once named in
     let numbered_there : slice_get (plant_from_drafts net table).sections x
     ≡ Some

@@ -5,7 +5,7 @@ use Rattle.std.proofs.lemmas.List.{length-map, map-append}
 use Rattle.std.proofs.lemmas.List.Folds.{list_any-append}
 use Rattle.std.proofs.lemmas.Slice.Eq.{bytes_eq-Decides}
 use Rattle.ilk_plant.proofs.KnownNames.{boards_known, is_known}
-use Rattle.ilk_plant.specs.Draft.{NamedBoard, boards_from, boards_on, names_of_boards, board_if_named}
+use Rattle.ilk_plant.specs.Draft.{NamedBoard, boards_of_sections_from, boards_on, names_of_boards, board_if_named}
 use Rattle.ilk_plant.specs.Name.{Name}
 use Rattle.ilk_plant.specs.declared.limits.TheConstants.{MAX_BOARDS, MAX_SECTIONS}
 use Rattle.ilk_plant.specs.declared.network.Dir.{Dir}
@@ -54,15 +54,15 @@ boards-after front names (LinearDraft down up board_down board_up) h =
     let parts = and_parts _ _ h in rw (known-after front names board_down parts.0, known-after front names board_up parts.1) refl
 boards-after front names (PointDraft stem plus minus faces) h = refl
 
-pub boards_from-known : (x : ℕ) (sections : List SectionDraft) → list_all (λ section. boards_known (names_in (boards_from x sections)) section.kind) sections ≡ true
-boards_from-known x [] = refl
-boards_from-known x (section ∷ rest) =
+pub boards_of_sections_from-known : (x : ℕ) (sections : List SectionDraft) → list_all (λ section. boards_known (names_in (boards_of_sections_from x sections)) section.kind) sections ≡ true
+boards_of_sections_from-known x [] = refl
+boards_of_sections_from-known x (section ∷ rest) =
     let front : List Name = names_in (boards_on x section.kind) in
-    let back : List Name = names_in (boards_from (x + 1) rest) in
+    let back : List Name = names_in (boards_of_sections_from (x + 1) rest) in
     let P : List Name → Type 0 = λ names. list_all (λ s. boards_known names s.kind) (section ∷ rest) ≡ true in
-    subst P (sym (map-append (λ named. named.name) (boards_on x section.kind) (boards_from (x + 1) rest)))
+    subst P (sym (map-append (λ named. named.name) (boards_on x section.kind) (boards_of_sections_from (x + 1) rest)))
     (rw (boards-before front back section.kind (boards-own x section.kind))
-    (list_all-weaken (λ s. boards_known back s.kind) (λ s. boards_known (front ++ back) s.kind) (λ s known. boards-after front back s.kind known) rest (boards_from-known (x + 1) rest)))
+    (list_all-weaken (λ s. boards_known back s.kind) (λ s. boards_known (front ++ back) s.kind) (λ s known. boards-after front back s.kind known) rest (boards_of_sections_from-known (x + 1) rest)))
 
 length-boards_on : (x : ℕ) (kind : KindDraft) → length (boards_on x kind) ≤ 2
 length-boards_on x (LinearDraft down up None None) = omega arith
@@ -71,11 +71,11 @@ length-boards_on x (LinearDraft down up (Some b) None) = omega arith
 length-boards_on x (LinearDraft down up (Some b) (Some c)) = omega arith
 length-boards_on x (PointDraft stem plus minus faces) = omega arith
 
-length-boards_from : (x : ℕ) (sections : List SectionDraft) → length (boards_from x sections) ≤ 2 * length sections
-length-boards_from x [] = omega arith
-length-boards_from x (section ∷ rest) =
-    omega (arith, length-append (boards_on x section.kind) (boards_from (x + 1) rest), length-boards_on x section.kind, length-boards_from (x + 1) rest)
+length-boards_of_sections_from : (x : ℕ) (sections : List SectionDraft) → length (boards_of_sections_from x sections) ≤ 2 * length sections
+length-boards_of_sections_from x [] = omega arith
+length-boards_of_sections_from x (section ∷ rest) =
+    omega (arith, length-append (boards_on x section.kind) (boards_of_sections_from (x + 1) rest), length-boards_on x section.kind, length-boards_of_sections_from (x + 1) rest)
 
 pub few-boards : (sections : List SectionDraft) → length sections ≤ MAX_SECTIONS → length (names_of_boards sections) ≤ MAX_BOARDS
 few-boards sections few =
-    rw (length-map (boards_from 0 sections) (λ named. named.name)) (omega (arith, length-boards_from 0 sections))
+    rw (length-map (boards_of_sections_from 0 sections) (λ named. named.name)) (omega (arith, length-boards_of_sections_from 0 sections))

@@ -10,9 +10,9 @@ use Rattle.ilk_plant.proofs.Once.{numbers_differ-turned}
 use Rattle.ilk_plant.proofs.Rules.{KeepsNetworkRules}
 use Rattle.ilk_plant.specs.Draft.{names_of_boards, names_of_sections, number_or_len, plant_from_drafts, numbered_section}
 use Rattle.ilk_plant.specs.Name.{Name}
-use Rattle.ilk_plant.specs.Network.{neighbours_on, has_section, same_direction}
+use Rattle.ilk_plant.specs.Network.{neighbours_on, contains_section, same_direction}
 use Rattle.ilk_base.specs.Option.{is_some_and}
-use Rattle.ilk_plant.specs.NetworkRules.{End, ends_of_draft, ends_of, is_linear_without_neighbours, refers_to_another, names_back_once, refers_to_section, opposite_direction, section_named, is_isolated}
+use Rattle.ilk_plant.specs.NetworkRules.{End, ends_of_draft, ends_of, is_linear_without_neighbours, refers_to_another, names_back_once, refers_to_section, opposite_direction, section_named, is_isolated_linear_section}
 use Rattle.ilk_plant.specs.Once.{names_differ, numbers_differ}
 use Rattle.ilk_plant.specs.Plant.{first_number_named, next_to}
 use Rattle.ilk_plant.specs.declared.broken.Rule.TheVariants.{N3, N4, N5, N6}
@@ -32,7 +32,7 @@ use Rattle.ilk_base.proofs.Tested.{list_any-at, list_any-from, list_any-none}
 abbrev pub end_leads_to : List Name → Dir → ℕ → End → Bool
 end_leads_to names d y end = same_direction end.side d && (number_or_len names end.name == y)
 
-neighbours_on-ends_of_draft : (names boards : List Name) (kind : KindDraft) (d : Dir) (y : ℕ) → has_section y (neighbours_on (numbered_section names boards kind) d) ≡ list_any (end_leads_to names d y) (ends_of_draft kind)
+neighbours_on-ends_of_draft : (names boards : List Name) (kind : KindDraft) (d : Dir) (y : ℕ) → contains_section y (neighbours_on (numbered_section names boards kind) d) ≡ list_any (end_leads_to names d y) (ends_of_draft kind)
 neighbours_on-ends_of_draft names boards (LinearDraft None None board_down board_up) Down y = refl
 neighbours_on-ends_of_draft names boards (LinearDraft None None board_down board_up) Up y = refl
 neighbours_on-ends_of_draft names boards (LinearDraft None (Some up) board_down board_up) Down y = refl
@@ -46,10 +46,10 @@ neighbours_on-ends_of_draft names boards (PointDraft stem plus minus Up) Down y 
 neighbours_on-ends_of_draft names boards (PointDraft stem plus minus Down) Up y = refl
 neighbours_on-ends_of_draft names boards (PointDraft stem plus minus Down) Down y = refl
 
-pub next_to-ends_of_draft : (net : NetDraft) (table : TableDraft) (x : ℕ) (d : Dir) (y : ℕ) → has_section y (next_to (plant_from_drafts net table) x d) ≡ list_any (end_leads_to (names_of_sections net.sections) d y) (ends_of net x)
+pub next_to-ends_of_draft : (net : NetDraft) (table : TableDraft) (x : ℕ) (d : Dir) (y : ℕ) → contains_section y (next_to (plant_from_drafts net table) x d) ≡ list_any (end_leads_to (names_of_sections net.sections) d y) (ends_of net x)
 next_to-ends_of_draft net table x d y = by_section (slice_get net.sections x) refl
   where
-    by_section : (o : Option SectionDraft) → slice_get net.sections x ≡ o → has_section y (next_to (plant_from_drafts net table) x d) ≡ list_any (end_leads_to (names_of_sections net.sections) d y) (ends_of net x)
+    by_section : (o : Option SectionDraft) → slice_get net.sections x ≡ o → contains_section y (next_to (plant_from_drafts net table) x d) ≡ list_any (end_leads_to (names_of_sections net.sections) d y) (ends_of net x)
     by_section None at =
         let none : slice_get (plant_from_drafts net table).sections x ≡ None =
         slice_get-map
@@ -91,7 +91,7 @@ end-names net rules x k end at =
     not-not false h = cc
 
 pub next-end : (net : NetDraft) (table : TableDraft) (x y : ℕ) (d : Dir) →
-    has_section y (next_to (plant_from_drafts net table) x d) ≡ true →
+    contains_section y (next_to (plant_from_drafts net table) x d) ≡ true →
     (k : ℕ) × (end : End) × (slice_get (ends_of net x) k ≡ Some end) ×
     (end_leads_to (names_of_sections net.sections) d y end ≡ true)
 next-end net table x y d h =
@@ -112,16 +112,16 @@ end-number net rules x k y end at number =
     not-yes true h = cc
     not-yes false h = refl
 
-pub next-known : (net : NetDraft) (table : TableDraft) → KeepsNetworkRules net → (x y : ℕ) (d : Dir) → has_section y (next_to (plant_from_drafts net table) x d) ≡ true → (y < length (names_of_sections net.sections)) × ((y == x) ≡ false)
+pub next-known : (net : NetDraft) (table : TableDraft) → KeepsNetworkRules net → (x y : ℕ) (d : Dir) → contains_section y (next_to (plant_from_drafts net table) x d) ≡ true → (y < length (names_of_sections net.sections)) × ((y == x) ≡ false)
 next-known net table rules x y d h =
     let found : (k : ℕ) × (end : End) × (slice_get (ends_of net x) k ≡ Some end) × (end_leads_to (names_of_sections net.sections) d y end ≡ true) = next-end net table x y d h in
     let leads = and_parts (same_direction found.1.side d) (number_or_len (names_of_sections net.sections) found.1.name == y) found.3 in
     let facts = end-number net rules x found.0 y found.1 found.2 (eqb-true _ _ leads.1) in
     (facts.1, facts.2)
 
-pub next-other : (net : NetDraft) (table : TableDraft) → KeepsNetworkRules net → (x : ℕ) (d : Dir) → has_section x (next_to (plant_from_drafts net table) x d) ≡ false
+pub next-other : (net : NetDraft) (table : TableDraft) → KeepsNetworkRules net → (x : ℕ) (d : Dir) → contains_section x (next_to (plant_from_drafts net table) x d) ≡ false
 next-other net table rules x d =
-    false_from_ne_true (has_section x (next_to (plant_from_drafts net table) x d)) (λ h.
+    false_from_ne_true (contains_section x (next_to (plant_from_drafts net table) x d)) (λ h.
     let other : (x == x) ≡ false = (next-known net table rules x x d h).1 in
     let own : (x == x) ≡ true = eq-eqb x x refl in
     cc)
@@ -143,8 +143,8 @@ back-end net rules x k y end at number =
     by-tests false true e h = refl
     by-tests false false e h = cc
 
-pub next-back : (net : NetDraft) (table : TableDraft) → KeepsNetworkRules net → (x y : ℕ) (d : Dir) → has_section y (next_to (plant_from_drafts net table) x d) ≡ true
-    → has_section x (next_to (plant_from_drafts net table) y (opposite_direction d)) ≡ true
+pub next-back : (net : NetDraft) (table : TableDraft) → KeepsNetworkRules net → (x y : ℕ) (d : Dir) → contains_section y (next_to (plant_from_drafts net table) x d) ≡ true
+    → contains_section x (next_to (plant_from_drafts net table) y (opposite_direction d)) ≡ true
 next-back net table rules x y d h =
     let names : List Name = names_of_sections net.sections in
     let found : (k : ℕ) × (end : End) × (slice_get (ends_of net x) k ≡ Some end) × (end_leads_to names d y end ≡ true) = next-end net table x y d h in
@@ -247,7 +247,7 @@ pub next-some : (net : NetDraft) (table : TableDraft) → KeepsNetworkRules net 
 next-some net table rules x within = by_section (slice_get net.sections x) refl
   where
     by_kind : (section : SectionDraft) (kind : KindDraft) → slice_get net.sections x ≡ Some section →
-        section.kind ≡ kind → is_isolated net x ≡ false →
+        section.kind ≡ kind → is_isolated_linear_section net x ≡ false →
         0
         < length
         (neighbours_on

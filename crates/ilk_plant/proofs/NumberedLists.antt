@@ -1,6 +1,6 @@
 -- Lists numbered one by one are the numbered drafts.
 use Rattle.std.proofs.Common.{◌≡◌, List, map, refl}
-use Rattle.ilk_plant.specs.Draft.{boards_from, names_of_boards, names_of_routes, names_of_sections, plant_from_drafts, numbered_route, numbered_section}
+use Rattle.ilk_plant.specs.Draft.{boards_of_sections_from, names_of_boards, names_of_routes, names_of_sections, plant_from_drafts, numbered_route, numbered_section}
 use Rattle.ilk_plant.specs.Name.{Name}
 use Rattle.ilk_plant.specs.Plant.{PlantLists}
 use Rattle.ilk_plant.specs.declared.draft.NetDraft.{NetDraft}
@@ -15,7 +15,7 @@ pub plant_from_drafts-lists :
     section_names ≡ names_of_sections net.sections → board_names ≡ names_of_boards net.sections →
     route_names ≡ names_of_routes table.routes →
     sections ≡ map (λ section. numbered_section section_names board_names section.kind) net.sections →
-    boards ≡ map (λ named. named.board) (boards_from 0 net.sections) →
+    boards ≡ map (λ named. named.board) (boards_of_sections_from 0 net.sections) →
     routes ≡ map (numbered_route section_names board_names route_names) table.routes → let lists : PlantLists =
     record {
       sections = sections;

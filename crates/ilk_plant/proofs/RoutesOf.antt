@@ -11,10 +11,10 @@ use Rattle.ilk_plant.specs.Draft.{names_of_boards, names_of_routes, names_of_sec
 use Rattle.ilk_plant.specs.Limits.{route_within_limits}
 use Rattle.ilk_plant.specs.declared.broken.Rule.TheVariants.{R2, R3, R4, R5, R6, R7, R8}
 use Rattle.ilk_plant.specs.declared.limits.TheConstants.{MAX_ROUTE_CONFLICTS, MAX_OVERLAP, MAX_PATH, MAX_ROUTE_POINTS, MAX_PROTECTING_BOARDS, MAX_PROTECTING_POINTS}
-use Rattle.ilk_plant.specs.Network.{has_section, is_point}
+use Rattle.ilk_plant.specs.Network.{contains_section, is_point}
 use Rattle.ilk_base.specs.Option.{is_some_and}
 use Rattle.ilk_plant.specs.Plant.{IsValidRouteOf, PlantLists, point_number, is_point_section}
-use Rattle.ilk_plant.specs.TableRules.{has_conflicts_once, has_destination_or_none, has_points_once, has_protecting_boards_once, has_protecting_points_once, has_sections_once, has_source, is_board, is_other_route, is_section, points_of, protecting_points_of, route_fails, sections_of}
+use Rattle.ilk_plant.specs.TableRules.{conflicts_are_other_routes_once, destination_is_board_or_none, lists_passed_points_once, has_nonsource_protecting_boards_once, has_outside_protecting_points_once, has_sections_once, source_is_board, is_board, is_other_route, is_section, points_of, protecting_points_of, route_fails, path_and_overlap_of}
 use Rattle.ilk_plant.specs.Once.{numbers_differ}
 use Rattle.ilk_plant.specs.declared.draft.NetDraft.{NetDraft}
 use Rattle.ilk_plant.specs.declared.draft.RouteDraft.{RouteDraft}
@@ -111,57 +111,59 @@ pub route-known : (net : NetDraft) (table : TableDraft) → KeepsTableRules (pla
 route-known net table rules each r route e =
     let p : PlantLists = plant_from_drafts net table in
     let within : r < length p.routes = slice_get_within p.routes r route e in
-    let source = route-passes p (has_source p) r route (rules 1 R2 refl r within) e in
-    let sections = and_parts (list_all (is_section p) (sections_of route)) (numbers_differ (sections_of route)) (route-passes p (has_sections_once p) r route (rules 2 R3 refl r within) e) in
+    let source = route-passes p (source_is_board p) r route (rules 1 R2 refl r within) e in
+    let sections = and_parts (list_all (is_section p) (path_and_overlap_of route)) (numbers_differ (path_and_overlap_of route)) (route-passes p (has_sections_once p) r route (rules 2 R3 refl r within) e) in
     let each_section = and_parts (list_all (is_section p) route.path) (list_all (is_section p) route.overlap) (sym (list_all-append (is_section p) route.path route.overlap) ∙ sections.0) in
-    let points = and_parts (list_all (λ x. is_point_section p x && has_section x (sections_of route)) (points_of route)) (numbers_differ (points_of route)) (route-passes p (has_points_once p) r route (rules 3 R4 refl r within) e) in
+    let points = and_parts (list_all (λ x. is_point_section p x && contains_section x (path_and_overlap_of route)) (points_of route)) (numbers_differ (points_of route)) (route-passes p (lists_passed_points_once p) r route
+    (rules 3 R4 refl r within) e) in
     let each_point :
-    list_all (λ listed. is_point_section p listed.point && has_section listed.point (sections_of route))
+    list_all (λ listed. is_point_section p listed.point && contains_section listed.point (path_and_overlap_of route))
     route.points ≡ true =
     sym
-    (list_all-map (λ x. is_point_section p x && has_section x (sections_of route))
+    (list_all-map (λ x. is_point_section p x && contains_section x (path_and_overlap_of route))
     (λ listed. listed.point) route.points) ∙ points.0 in
-    let destination = route-passes p (λ a. has_destination_or_none p a.destination) r route (rules 4 R5 refl r within) e in
-    let conflicts = and_parts (list_all (is_other_route p r) route.conflicts) (numbers_differ route.conflicts) (route-passes p (has_conflicts_once p r) r route (rules 5 R6 refl r within) e) in
+    let destination = route-passes p (λ a. destination_is_board_or_none p a.destination) r route (rules 4 R5 refl r within) e in
+    let conflicts = and_parts (list_all (is_other_route p r) route.conflicts) (numbers_differ route.conflicts) (route-passes p (conflicts_are_other_routes_once p r) r route (rules 5 R6 refl r within) e) in
     let protecting = and_parts
-    (list_all (λ x. is_point_section p x && not (has_section x (sections_of route)))
+    (list_all (λ x. is_point_section p x && not (contains_section x (path_and_overlap_of route)))
     (protecting_points_of route))
     (numbers_differ (protecting_points_of route))
-    (route-passes p (has_protecting_points_once p) r route (rules 6 R7 refl r within) e) in
+    (route-passes p (has_outside_protecting_points_once p) r route (rules 6 R7 refl r within) e) in
     let each_protecting :
     list_all
-    (λ listed. is_point_section p listed.point && not (has_section listed.point (sections_of route)))
+    (λ listed. is_point_section p listed.point && not (contains_section listed.point (path_and_overlap_of route)))
     route.protecting_points ≡ true =
     sym
-    (list_all-map (λ x. is_point_section p x && not (has_section x (sections_of route)))
+    (list_all-map (λ x. is_point_section p x && not (contains_section x (path_and_overlap_of route)))
     (λ listed. listed.point) route.protecting_points)
     ∙ protecting.0 in
-    let boards = and_parts (list_all (λ m. is_board p m && not (m == route.source)) route.protecting_boards) (numbers_differ route.protecting_boards) (route-passes p (has_protecting_boards_once p) r route (rules 7 R8 refl r within) e) in
+    let boards = and_parts (list_all (λ m. is_board p m && not (m == route.source)) route.protecting_boards) (numbers_differ route.protecting_boards) (route-passes p (has_nonsource_protecting_boards_once p) r route (rules 7 R8 refl r within) e) in
     let lengths = route-limits net table r route each e in
     record {
       destination = λ m is. let known : is_board p m ≡ true = rw is at destination in below m (length p.boards) known;
       sections_once = sections.1;
       points_are_points = All-tested
-          (λ listed. is_point_section p listed.point && has_section listed.point (sections_of route))
+          (λ listed. is_point_section p listed.point && contains_section listed.point (path_and_overlap_of route))
           (λ listed. IsSome (point_number p listed.point))
           (λ listed h. point-plant_from_drafts p listed.point (and_parts _ _ h).0) route.points each_point;
-      points_passed = All-tested (λ listed. is_point_section p listed.point && has_section listed.point (sections_of route)) (λ listed. IsTrue (has_section listed.point (sections_of route))) (λ listed h. (and_parts _ _ h).1) route.points each_point;
+      points_passed = All-tested (λ listed. is_point_section p listed.point && contains_section listed.point (path_and_overlap_of route)) (λ listed. IsTrue (contains_section listed.point (path_and_overlap_of route))) (λ listed h.
+          (and_parts _ _ h).1) route.points each_point;
       points_once = points.1;
       conflicts_once = conflicts.1;
       protecting_points = All-tested
-          (λ listed. is_point_section p listed.point && not (has_section listed.point (sections_of route)))
+          (λ listed. is_point_section p listed.point && not (contains_section listed.point (path_and_overlap_of route)))
           (λ listed. listed.point < length p.sections)
           (λ listed h. point-within p listed.point (and_parts _ _ h).0) route.protecting_points
           each_protecting;
       protecting_points_are_points = All-tested
-          (λ listed. is_point_section p listed.point && not (has_section listed.point (sections_of route)))
+          (λ listed. is_point_section p listed.point && not (contains_section listed.point (path_and_overlap_of route)))
           (λ listed. IsSome (point_number p listed.point))
           (λ listed h. point-plant_from_drafts p listed.point (and_parts _ _ h).0) route.protecting_points
           each_protecting;
       protecting_points_apart = All-tested
-          (λ listed. is_point_section p listed.point && not (has_section listed.point (sections_of route)))
-          (λ listed. has_section listed.point (sections_of route) ≡ false)
-          (λ listed h. apart (is_point_section p listed.point) (has_section listed.point (sections_of route))
+          (λ listed. is_point_section p listed.point && not (contains_section listed.point (path_and_overlap_of route)))
+          (λ listed. contains_section listed.point (path_and_overlap_of route) ≡ false)
+          (λ listed h. apart (is_point_section p listed.point) (contains_section listed.point (path_and_overlap_of route))
           h)
           route.protecting_points each_protecting;
       protecting_points_once = protecting.1;
@@ -176,7 +178,8 @@ route-known net table rules each r route e =
       source = below route.source (length p.boards) source;
       path = All-tested (is_section p) (λ x. x < length p.sections) (λ x h. below x (length p.sections) h) route.path each_section.0;
       overlap = All-tested (is_section p) (λ x. x < length p.sections) (λ x h. below x (length p.sections) h) route.overlap each_section.1;
-      points = All-tested (λ listed. is_point_section p listed.point && has_section listed.point (sections_of route)) (λ listed. listed.point < length p.sections) (λ listed h. point-within p listed.point (and_parts _ _ h).0) route.points each_point;
+      points = All-tested (λ listed. is_point_section p listed.point && contains_section listed.point (path_and_overlap_of route)) (λ listed. listed.point < length p.sections) (λ listed h. point-within
+          p listed.point (and_parts _ _ h).0) route.points each_point;
       conflicts = All-tested (is_other_route p r) (λ q. q < length p.routes) (λ q h. below q (length p.routes) (and_parts _ _ h).0) route.conflicts conflicts.0;
       path_begins = omega (arith, lengths.0);
       path_ends = lengths.1;
@@ -184,5 +187,5 @@ route-known net table rules each r route e =
 
 pub conflicts-other : (p : PlantLists) → KeepsTableRules p → (r : ℕ) (route : Route) → slice_get p.routes r ≡ Some route → All (λ q. q ≢ r) route.conflicts
 conflicts-other p rules r route e =
-    let conflicts = and_parts (list_all (is_other_route p r) route.conflicts) (numbers_differ route.conflicts) (route-passes p (has_conflicts_once p r) r route (rules 5 R6 refl r (slice_get_within p.routes r route e)) e) in
+    let conflicts = and_parts (list_all (is_other_route p r) route.conflicts) (numbers_differ route.conflicts) (route-passes p (conflicts_are_other_routes_once p r) r route (rules 5 R6 refl r (slice_get_within p.routes r route e)) e) in
     All-tested (is_other_route p r) (λ q. q ≢ r) (λ q h. other p r q h) route.conflicts conflicts.0

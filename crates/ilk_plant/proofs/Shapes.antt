@@ -4,9 +4,9 @@ use Rattle.std.specs.List.{last_or, list_all}
 use Rattle.std.proofs.lemmas.Bool.Decides.{nat_tests}
 use Rattle.std.proofs.lemmas.List.{length-replicate}
 use Rattle.ilk_plant.specs.Plant.{PlantLists, point_count}
-use Rattle.ilk_plant.specs.Shape.{train_body_is_valid, seen_and_released_fit_path, HasShape}
-use Rattle.ilk_plant.specs.Lengths.{HasLengths}
-use Rattle.ilk_plant.specs.Start.{free_route, plus_point, start}
+use Rattle.ilk_plant.specs.Shape.{has_nonempty_connected_body, seen_and_released_fit_path, HasShape}
+use Rattle.ilk_plant.specs.Lengths.{HasLengthsOfPlant}
+use Rattle.ilk_plant.specs.Start.{free_route_state, plus_point_state, start}
 use Rattle.ilk_plant.specs.declared.state.Aspect.TheVariants.{Closed}
 use Rattle.ilk_plant.specs.declared.state.Hold.TheVariants.{Free}
 use Rattle.ilk_plant.specs.declared.state.RouteState.{RouteState}
@@ -16,10 +16,10 @@ use Rattle.ilk_plant.specs.declared.state.Train.{Train}
 use Rattle.ilk_base.proofs.Lists.{copied, last-some}
 use Rattle.std.proofs.lemmas.Bool.{and_parts}
 
-pub body-last : (p : PlantLists) (train : Train) → train_body_is_valid p train ≡ true → (x : ℕ) × (last_or None train.body ≡ Some x)
+pub body-last : (p : PlantLists) (train : Train) → has_nonempty_connected_body p train ≡ true → (x : ℕ) × (last_or None train.body ≡ Some x)
 body-last p train h = of_body train.body h
   where
-    of_body : (body : List ℕ) → train_body_is_valid p (record train { body = body }) ≡ true → (x : ℕ) × (last_or None body ≡ Some x)
+    of_body : (body : List ℕ) → has_nonempty_connected_body p (record train { body = body }) ≡ true → (x : ℕ) × (last_or None body ≡ Some x)
     of_body [] h = cc
     of_body (x ∷ rest) h = last-some x rest
 
@@ -57,7 +57,7 @@ counts-test (x ∷ routes) [] h = refl
 counts-test (x ∷ routes) (y ∷ states) h =
     rw (h 0 x y refl refl) (counts-test routes states (λ r route now e f. h (suc r) route now e f))
 
-pub shape-true : (p : PlantLists) (s : State) → HasLengths p s → list_all (λ pair. seen_and_released_fit_path pair.0 pair.1) (zip p.routes s.routes) ≡ true → list_all (train_body_is_valid p) s.trains ≡ true → HasShape p s
+pub shape-true : (p : PlantLists) (s : State) → HasLengthsOfPlant p s → list_all (λ pair. seen_and_released_fit_path pair.0 pair.1) (zip p.routes s.routes) ≡ true → list_all (has_nonempty_connected_body p) s.trains ≡ true → HasShape p s
 shape-true p s lengths counts bodies = record {
   routes = lengths.routes;
   points = lengths.points;
@@ -67,17 +67,17 @@ shape-true p s lengths counts bodies = record {
   bodies = bodies;
 }
 
-pub shape-tests : (p : PlantLists) (s : State) → HasShape p s → HasLengths p s × (list_all (λ pair. seen_and_released_fit_path pair.0 pair.1) (zip p.routes s.routes) ≡ true) × (list_all (train_body_is_valid p) s.trains ≡ true)
+pub shape-tests : (p : PlantLists) (s : State) → HasShape p s → HasLengthsOfPlant p s × (list_all (λ pair. seen_and_released_fit_path pair.0 pair.1) (zip p.routes s.routes) ≡ true) × (list_all (has_nonempty_connected_body p) s.trains ≡ true)
 shape-tests p s shape = (record { routes = shape.routes; points = shape.points; boards = shape.boards; locks = shape.locks }, counts-test p.routes s.routes shape.counts, shape.bodies)
 
 pub start-shape : (p : PlantLists) → HasShape p (start p)
 start-shape p = record {
-  routes = length-replicate (length p.routes) free_route;
-  points = length-replicate (point_count p) plus_point;
+  routes = length-replicate (length p.routes) free_route_state;
+  points = length-replicate (point_count p) plus_point_state;
   boards = length-replicate (length p.boards) Closed;
   locks = length-replicate (length p.sections) Free;
   counts = λ r route now here at.
-      (let free : free_route ≡ now = copied (length p.routes) r free_route now at in
-      let P : RouteState → Type 0 = λ q. seen_and_released_fit_path route q ≡ true in subst P free (seen_and_released_fit_path-from_counts route free_route (omega arith) (omega arith)));
+      (let free : free_route_state ≡ now = copied (length p.routes) r free_route_state now at in
+      let P : RouteState → Type 0 = λ q. seen_and_released_fit_path route q ≡ true in subst P free (seen_and_released_fit_path-from_counts route free_route_state (omega arith) (omega arith)));
   bodies = refl;
 }

@@ -10,13 +10,13 @@ use Rattle.ilk_plant.proofs.Once.{names_differ-from_places}
 use Rattle.ilk_plant.proofs.RoutesOf.{conflicts-other, route-known}
 use Rattle.ilk_plant.proofs.Rules.{network_rules-kept, table_rules-kept}
 use Rattle.ilk_plant.proofs.Walks.{never-is_on_up_cycle}
-use Rattle.ilk_plant.specs.Draft.{boards_from, names_of_boards, names_of_routes, names_of_sections, plant_from_drafts, numbered_route, numbered_section}
+use Rattle.ilk_plant.specs.Draft.{boards_of_sections_from, names_of_boards, names_of_routes, names_of_sections, plant_from_drafts, numbered_route, numbered_section}
 use Rattle.ilk_plant.specs.Plant.{IsPlant, PlantLists}
 use Rattle.ilk_base.proofs.Once.{EachOnce}
 use Rattle.ilk_plant.specs.declared.broken.Rule.TheVariants.{N1, N2, R1}
 use Rattle.ilk_plant.specs.declared.network.Dir.TheVariants.{Up, Down}
 use Rattle.ilk_plant.specs.Sound.{AreSoundDrafts, IsFromSoundDrafts}
-use Rattle.ilk_plant.specs.Kept.{IsPlantFromSoundDrafts}
+use Rattle.ilk_plant.specs.Kept.{IsAcyclicFromSoundDrafts}
 use Rattle.ilk_plant.specs.TableRules.{plant_table_rules_broken}
 use Rattle.ilk_plant.specs.declared.draft.NetDraft.{NetDraft}
 use Rattle.ilk_plant.specs.declared.draft.TableDraft.{TableDraft}
@@ -27,7 +27,8 @@ sound-IsPlant net table sound =
     let routes = table_rules-kept (plant_from_drafts net table) sound.routes in
     let count : length (plant_from_drafts net table).sections ≡ length net.sections = length-map net.sections (λ section. numbered_section (names_of_sections net.sections) (names_of_boards net.sections) section.kind) in
     let names : length (names_of_sections net.sections) ≡ length net.sections = length-map net.sections (λ section. section.name) in
-    let boards : length (plant_from_drafts net table).boards ≡ length (names_of_boards net.sections) = length-map (boards_from 0 net.sections) (λ named. named.board) ∙ sym (length-map (boards_from 0 net.sections) (λ named. named.name)) in
+    let boards : length (plant_from_drafts net table).boards ≡ length (names_of_boards net.sections) = length-map (boards_of_sections_from 0 net.sections) (λ named. named.board) ∙ sym (length-map (boards_of_sections_from 0 net.sections)
+    (λ named. named.name)) in
     let count_routes : length (plant_from_drafts net table).routes ≡ length table.routes = length-map table.routes (numbered_route (names_of_sections net.sections) (names_of_boards net.sections) (names_of_routes table.routes)) in
     let board_names : EachOnce (names_of_boards net.sections) = named-once (names_of_boards net.sections) (network 1 N2 refl) in
     let count_names : length (names_of_routes table.routes) ≡ length table.routes = length-map table.routes (λ route. route.name) in
@@ -57,15 +58,15 @@ sound-IsPlant net table sound =
       routes_known = route-known net table routes sound.limits.of_table.each;
     }
 
-pub plant_from_drafts-IsSound : (net : NetDraft) (table : TableDraft) → AreSoundDrafts net table → IsPlantFromSoundDrafts (plant_from_drafts net table)
+pub plant_from_drafts-IsSound : (net : NetDraft) (table : TableDraft) → AreSoundDrafts net table → IsAcyclicFromSoundDrafts (plant_from_drafts net table)
 plant_from_drafts-IsSound net table sound = record {
   plant = sound-IsPlant net table sound;
   walks = never-is_on_up_cycle net table (network_rules-kept net sound.network);
   drafts = record { net = net; table = table; sound = sound; same = refl };
 }
 
-pub sound-of_drafts : (p : PlantLists) → IsFromSoundDrafts p → IsPlantFromSoundDrafts p
-sound-of_drafts p drafts = subst IsPlantFromSoundDrafts (sym drafts.same) (plant_from_drafts-IsSound drafts.net drafts.table drafts.sound)
+pub sound-of_drafts : (p : PlantLists) → IsFromSoundDrafts p → IsAcyclicFromSoundDrafts p
+sound-of_drafts p drafts = subst IsAcyclicFromSoundDrafts (sym drafts.same) (plant_from_drafts-IsSound drafts.net drafts.table drafts.sound)
 
 pub table-kept : (p : PlantLists) → IsFromSoundDrafts p → plant_table_rules_broken p ≡ []
 table-kept p drafts =

@@ -1,5 +1,4 @@
--- The rules: their names and the kinds of their locations; and lists of violated rules, ordered by
--- location.
+-- The rules, their names and kinds of location, and lists of violated rules.
 use Rattle.std.specs.Prelude.{ℕ, Bool, Some, None, List, codes, map, filter, flat_map}
 use Rattle.std.specs.List.{range_with_len}
 use Rattle.ilk_plant.specs.Name.{Name}
@@ -42,26 +41,27 @@ rule_word rule = (name_and_place_kind rule).0
 abbrev pub place_kind_of : Rule → PlaceKind
 place_kind_of rule = (name_and_place_kind rule).1
 
--- The word for locations; both of a pair of routes are routes.
+-- The word for a kind of location. Each of a pair of routes is called a route.
 abbrev pub place_kind_word : PlaceKind → Name
 place_kind_word Sections = codes "sections"
 place_kind_word Boards = codes "boards"
 place_kind_word Routes = codes "routes"
 place_kind_word RoutePairs = codes "routes"
 
--- The rule, at each number below `n` at which it is violated.
+-- The violations of `rule` at single locations: an entry for each number `i` below `n` for which
+-- `is_broken i` holds, in order.
 abbrev pub broken_below : Rule → ℕ → (ℕ → Bool) → List Broken
 broken_below rule n is_broken =
     map (λ i. record { rule = rule; first = i; second = None }) (filter is_broken (range_with_len 0 n))
 
--- Each of these rules, at each of its locations at which it is violated; `count` has the number of
--- locations of each kind.
+-- The violations of `rules` at single locations, rule by rule. `count` is the number of locations
+-- of a kind, and `breaks rule i` tells whether `rule` is violated at location `i`.
 abbrev pub broken_for_rules : List Rule → (PlaceKind → ℕ) → (Rule → ℕ → Bool) → List Broken
 broken_for_rules rules count breaks =
     flat_map (λ rule. broken_below rule (count (place_kind_of rule)) (breaks rule)) rules
 
--- The rule, at each pair of numbers below `n` at which it is violated, ordered by the first number
--- and then the second.
+-- The violations of `rule` at pairs of numbers below `n`: an entry for each pair for which
+-- `is_broken` holds, ordered by the first number and then the second.
 abbrev pub broken_at_pairs : Rule → ℕ → (ℕ → ℕ → Bool) → List Broken
 broken_at_pairs rule n is_broken =
     flat_map (λ i. map (λ j. record { rule = rule; first = i; second = Some j }) (filter (is_broken i) (range_with_len 0 n))) (range_with_len 0 n)

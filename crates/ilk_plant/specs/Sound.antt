@@ -11,13 +11,15 @@ use Rattle.ilk_plant.specs.declared.draft.NetDraft.{NetDraft}
 use Rattle.ilk_plant.specs.declared.draft.TableDraft.{TableDraft}
 use Rattle.ilk_plant.specs.declared.network.Dir.{Dir}
 
--- Holds if the drafts are within the limits and violate no rule of the network or of the table.
+-- Holds if a network and its table are within the limits and violate no rule of the network or of
+-- the table.
 pub record AreSoundDrafts (net : NetDraft) (table : TableDraft) : Type 0 where
   pub limits : WithinLimits net table
   pub network : network_rules_broken net ≡ []
   pub routes : table_rules_broken net table ≡ []
 
--- Holds if the plant is the numbered form of sound drafts.
+-- Holds if the plant results from numbering some drafts that are within the limits and violate no
+-- rule of the network or table.
 pub record IsFromSoundDrafts (p : PlantLists) : Type 0 where
   pub net : NetDraft
   pub table : TableDraft

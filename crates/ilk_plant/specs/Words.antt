@@ -1,7 +1,7 @@
--- The words in texts for directions, positions, lies, aspects, locks and modes. Each has one table,
--- used for writing and reading.
+-- The words in texts for directions, positions, aspects, locks and modes. Writing and reading use
+-- the same words.
 use Rattle.std.specs.Prelude.{Option, [], ◌∷◌, codes}
-use Rattle.ilk_base.specs.Words.{value_of_word}
+use Rattle.ilk_base.specs.Words.{first_value_with_word}
 use Rattle.ilk_plant.specs.Name.{Name}
 use Rattle.ilk_plant.specs.declared.network.Dir.{Dir}
 use Rattle.ilk_plant.specs.declared.network.Dir.TheVariants.{Up, Down}
@@ -45,26 +45,26 @@ mode_word Allocating = codes "allocating"
 mode_word Locked = codes "locked"
 mode_word Occupied = codes "occupied"
 
--- The direction with a word, or `None` if there is none.
+-- The direction whose word is the given text, or `None` if there is none.
 abbrev pub direction_from_word : Name → Option Dir
-direction_from_word = value_of_word direction_word (Up ∷ Down ∷ [])
+direction_from_word = first_value_with_word direction_word (Up ∷ Down ∷ [])
 
--- The position with a word, or `None` if there is none.
+-- The position, plus or minus, whose word is the given text, or `None` if there is none.
 abbrev pub position_from_word : Name → Option Position
-position_from_word = value_of_word position_word (Plus ∷ Minus ∷ [])
+position_from_word = first_value_with_word position_word (Plus ∷ Minus ∷ [])
 
--- The detected position with a word, or `None` if there is none.
+-- The detected position whose word is the given text, or `None` if there is none.
 abbrev pub lie_from_word : Name → Option Lie
-lie_from_word = value_of_word lie_word (LiesPlus ∷ LiesMinus ∷ Moving ∷ [])
+lie_from_word = first_value_with_word lie_word (LiesPlus ∷ LiesMinus ∷ Moving ∷ [])
 
--- The aspect with a word, or `None` if there is none.
+-- The aspect whose word is the given text, or `None` if there is none.
 abbrev pub aspect_from_word : Name → Option Aspect
-aspect_from_word = value_of_word aspect_word (Open ∷ Closed ∷ [])
+aspect_from_word = first_value_with_word aspect_word (Open ∷ Closed ∷ [])
 
--- The lock with a word, or `None` if there is none.
+-- The section lock whose word is the given text, or `None` if there is none.
 abbrev pub hold_from_word : Name → Option Hold
-hold_from_word = value_of_word hold_word (FreeLock ∷ LockedLock ∷ Used ∷ [])
+hold_from_word = first_value_with_word hold_word (FreeLock ∷ LockedLock ∷ Used ∷ [])
 
--- The mode with a word, or `None` if there is none.
+-- The route mode whose word is the given text, or `None` if there is none.
 abbrev pub mode_from_word : Name → Option Mode
-mode_from_word = value_of_word mode_word (Free ∷ Marked ∷ Allocating ∷ Locked ∷ Occupied ∷ [])
+mode_from_word = first_value_with_word mode_word (Free ∷ Marked ∷ Allocating ∷ Locked ∷ Occupied ∷ [])

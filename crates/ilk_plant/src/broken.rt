@@ -5,7 +5,8 @@ use crate::Row;
 use ilk_base::HasWord;
 use std::alloc::AllocError;
 
-/// A rule of the network (N), of the interlocking table (R) or of its columns (C).
+/// A rule that a configuration must keep: a rule of its network (N), of its interlocking table (R)
+/// or of the table's columns (C).
 #[derive(Clone, Copy, PartialEq, Eq, Debug)]
 pub enum Rule {
     N1,
@@ -34,7 +35,7 @@ pub enum Rule {
     C8,
 }
 
-/// The kind of location at which a rule is checked.
+/// The kind of location at which a rule is checked: each section, board, route or pair of routes.
 #[derive(Clone, Copy, PartialEq, Eq, Debug)]
 pub enum PlaceKind {
     Sections,
@@ -108,7 +109,8 @@ impl HasWord for PlaceKind {
     }
 }
 
-/// A violated rule, with the number of its location or the numbers of its two locations.
+/// A violated rule and its location: `first` is the number of a section, board or route. If the
+/// rule is about a pair of routes, `second` is the other route.
 #[derive(Clone, Copy, PartialEq, Eq, Debug)]
 pub struct Broken {
     pub rule: Rule,
@@ -116,7 +118,7 @@ pub struct Broken {
     pub second: Option<u32>,
 }
 
-/// Adds `entry` to `found` if `is_broken`. Fails only if memory runs out; the list is then
+/// Adds `entry` to `found` if `is_broken`. Fails only if memory runs out; `found` is then
 /// unchanged.
 pub fn push_broken_if(
     found: &mut Row<Broken>,

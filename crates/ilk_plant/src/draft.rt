@@ -1,12 +1,12 @@
 use crate::{Dir, Position, Row, Text};
 
-/// A network as in the configuration, with names.
+/// A network as read from a configuration: its items refer to each other by name.
 #[derive(Drop)]
 pub struct NetDraft {
     pub sections: Row<SectionDraft>,
 }
 
-/// A section as in the configuration.
+/// A section as read from a configuration.
 #[derive(Drop)]
 pub struct SectionDraft {
     pub name: Text,
@@ -30,20 +30,20 @@ pub enum KindDraft {
     },
 }
 
-/// An interlocking table as in the configuration, with names.
+/// An interlocking table as read from a configuration: its routes refer to other items by name.
 #[derive(Drop)]
 pub struct TableDraft {
     pub routes: Row<RouteDraft>,
 }
 
-/// A point with the position required by a route.
+/// A point, by the name of its section, and the position that a route requires.
 #[derive(Drop)]
 pub struct ListedDraft {
     pub point: Text,
     pub at: Position,
 }
 
-/// A row of the interlocking table as in the configuration.
+/// A route (row of the interlocking table) as read from a configuration, with names.
 #[derive(Drop)]
 pub struct RouteDraft {
     pub name: Text,

@@ -1,4 +1,4 @@
-//! The limits of a configuration. Every definition, contract and body uses these names.
+//! The limits of a configuration.
 
 /// The maximum number of sections of a network; the minimum is 1.
 pub const MAX_SECTIONS: u64 = 256;
@@ -15,7 +15,7 @@ pub const MAX_PATH: u64 = 32;
 /// The maximum number of sections in a route's overlap.
 pub const MAX_OVERLAP: u64 = 8;
 
-/// The maximum number of points that a route lists.
+/// The maximum number of points that a route lists in its column `points`.
 pub const MAX_ROUTE_POINTS: u64 = 40;
 
 /// The maximum number of conflicts that a route lists.

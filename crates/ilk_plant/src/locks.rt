@@ -3,7 +3,7 @@ ghost use Rattle.ilk_plant.specs.State.{has_lock_state, is_unlocked_and_vacant};
 
 use crate::{Hold, State, occupied};
 
-/// Returns whether section `x` has lock `hold`. Returns `false` if `x` is not a section.
+/// Returns whether the lock of section `x` is `hold`, or `false` if `x` is not a section.
 pub fn has_lock_state(s: &State, x: u32, hold: Hold) -> bool
     ensures { result ≡ has_lock_state s.now x hold }
 {
@@ -13,7 +13,7 @@ pub fn has_lock_state(s: &State, x: u32, hold: Hold) -> bool
     }
 }
 
-/// Returns whether section `x` has lock Free and is vacant.
+/// Returns whether the lock of section `x` is Free and no train occupies it.
 pub fn is_unlocked_and_vacant(s: &State, x: u32) -> bool
     ensures { result ≡ is_unlocked_and_vacant s.now x }
 {

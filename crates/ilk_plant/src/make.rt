@@ -8,8 +8,8 @@ use crate::{NetDraft, NumberedNetAndTable, Plant, TableDraft};
 use std::alloc::{AllocError, Global};
 
 impl Plant {
-    /// Creates the plant of a network and an interlocking table, with numbers in place of names.
-    /// Both must be within the limits and violate no rule of the network or table.
+    /// Creates the plant of a network and an interlocking table. Both must be within the limits and
+    /// violate no rule of the network or table. Fails only if memory runs out.
     pub fn make(alloc: Global, net: &NetDraft, table: &TableDraft) -> Result<Plant, AllocError>
         requires limits { WithinLimits net.now table.now }
         requires network { network_rules_broken net.now ≡ [] }

@@ -1,7 +1,7 @@
 ghost use Rattle.std.specs.Prelude.{◌≡◌, ◌<◌, ◌≤◌, IfOk, IfSome, Some, length, option_map, slice_get};
 ghost use Rattle.ilk_plant.specs.Draft.{repeats_earlier_name, number_or_len};
 ghost use Rattle.ilk_plant.specs.Plant.{first_number_named};
-ghost use Rattle.ilk_plant.specs.Names.{IsIndexOf};
+ghost use Rattle.ilk_plant.specs.Names.{MapsNamesToFirstNumbers};
 ghost use Rattle.ilk_plant.specs.declared.limits.TheConstants.{MAX_BOARDS};
 
 use crate::{Row, Text};
@@ -9,8 +9,8 @@ use indexmap::IndexMap;
 use std::alloc::{AllocError, Global};
 use std::marker::Model;
 
-/// A list of names, at most `MAX_BOARDS`. Contracts see the list. An index has the first number of
-/// each name.
+/// A list of at most `MAX_BOARDS` names, numbered from 0, and an index that finds the first number
+/// of a name. Contracts see only the list.
 #[derive(Drop)]
 pub struct Names {
     names: Row<Text>,
@@ -19,19 +19,20 @@ pub struct Names {
 
 impl Model for Names {
     ghost use Rattle.std.specs.Prelude.{ℕ, List, ◌≤◌, length};
-    ghost use Rattle.ilk_plant.specs.Names.{IsIndexOf};
+    ghost use Rattle.ilk_plant.specs.Names.{MapsNamesToFirstNumbers};
     ghost use Rattle.ilk_plant.specs.declared.limits.TheConstants.{MAX_BOARDS};
 
     ghost Value = { List (List ℕ) };
 
     ghost view = { λ n. n.names };
 
-    ghost invariant = { λ n. (length n.names ≤ MAX_BOARDS) × IsIndexOf n.names n.numbers };
+    ghost invariant = { λ n. (length n.names ≤ MAX_BOARDS) ×
+        MapsNamesToFirstNumbers n.names n.numbers };
 }
 
 fn first_numbers(alloc: Global, names: &Row<Text>) -> Result<IndexMap<String, u32>, AllocError>
     requires { length names.now ≤ MAX_BOARDS }
-    ensures { IfOk result (λ numbers. IsIndexOf names.now numbers) }
+    ensures { IfOk result (λ numbers. MapsNamesToFirstNumbers names.now numbers) }
 {
     let mut numbers = IndexMap::new(alloc);
     for (i, name) in names.as_slice().iter().enumerate() {
@@ -44,7 +45,7 @@ fn first_numbers(alloc: Global, names: &Row<Text>) -> Result<IndexMap<String, u3
 }
 
 impl Names {
-    /// Creates the indexed list of `names`. Fails only if memory runs out.
+    /// Creates the list and index of `names`. Fails only if memory runs out.
     pub fn from_names(alloc: Global, names: Row<Text>) -> Result<Names, AllocError>
         requires { length names ≤ MAX_BOARDS }
         ensures { IfOk result (λ made. made ≡ names) }
@@ -61,7 +62,7 @@ impl Names {
         self.names.len() as u32
     }
 
-    /// Returns name `i`.
+    /// Returns the name with number `i`.
     pub fn name(&self, i: u32) -> &Text
         requires { i < length self.now }
         ensures { slice_get self.now i ≡ Some result.now }
@@ -75,7 +76,7 @@ impl Names {
         self.numbers.get(name).copied()
     }
 
-    /// Returns the first number with this name. Returns `None` if there is none.
+    /// Returns the first number with the name `name`, or `None` if no number has it.
     pub fn number(&self, name: &str) -> Option<u32>
         ensures number { result ≡ first_number_named self.now name.now }
         ensures known { IfSome result (λ n. n < length self.now) }
@@ -86,7 +87,7 @@ impl Names {
         }
     }
 
-    /// Returns the first number with this name, or the count of names if there is none.
+    /// Returns the first number with the name `name`, or the number of names if no number has it.
     pub fn number_or_len(&self, name: &Text) -> u32
         ensures { result ≡ number_or_len self.now name.now }
     {
@@ -96,7 +97,7 @@ impl Names {
         }
     }
 
-    /// Returns the number of the name if there is a name.
+    /// Returns `number_or_len` of the name, or `None` if `name` is `None`.
     pub fn number_if_named(&self, name: &Option<Text>) -> Option<u32>
         ensures { result ≡ option_map (number_or_len self.now) name.now }
     {
@@ -106,7 +107,8 @@ impl Names {
         }
     }
 
-    /// Returns whether an earlier name equals name `i`; `false` if there is no name `i`.
+    /// Returns whether the name with number `i` equals a name with a smaller number. Returns
+    /// `false` if there is no name `i`.
     pub fn repeats_earlier_name(&self, i: u32) -> bool
         ensures { result ≡ repeats_earlier_name self.now i }
     {

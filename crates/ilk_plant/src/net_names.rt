@@ -1,5 +1,5 @@
 ghost use Rattle.std.specs.Prelude.{◌≤◌, IfOk, length};
-ghost use Rattle.ilk_plant.specs.NetNames.{HasNamesOf};
+ghost use Rattle.ilk_plant.specs.NetNames.{HasBoardsAndNamesOf};
 ghost use Rattle.ilk_plant.specs.declared.limits.TheConstants.{MAX_SECTIONS};
 
 use crate::names::Names;
@@ -7,8 +7,8 @@ use crate::numbering::{named_boards, section_names};
 use crate::{Board, NetDraft, Row};
 use std::alloc::{AllocError, Global};
 
-/// The boards of a network, and the names of its sections and boards, by number. Built once, for
-/// the rules of the network and for numbering its drafts.
+/// The boards of a network, and the names of its sections and boards, in the order of their
+/// numbers.
 #[derive(Drop)]
 pub struct NetNames {
     pub section_names: Names,
@@ -17,10 +17,10 @@ pub struct NetNames {
 }
 
 impl NetNames {
-    /// Creates the names of a network. Fails only if memory runs out.
+    /// Creates the boards and names of `net`. Fails only if memory runs out.
     pub fn from_network(alloc: Global, net: &NetDraft) -> Result<NetNames, AllocError>
         requires { length net.now.sections ≤ MAX_SECTIONS }
-        ensures { IfOk result (λ names. HasNamesOf names net.now) }
+        ensures { IfOk result (λ names. HasBoardsAndNamesOf names net.now) }
     {
         let named = named_boards(alloc, &net.sections)?;
         Ok(NetNames {

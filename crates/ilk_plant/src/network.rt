@@ -1,21 +1,21 @@
 ghost use Rattle.std.specs.Prelude.{◌≡◌, slice_get};
 ghost use Rattle.ilk_plant.specs.Network.{neighbours_on, board_on, inward_if_border, is_point};
 
-/// A running direction, the same for the whole network.
+/// A running direction: down or up, the same for the whole network.
 #[derive(Clone, Copy, PartialEq, Eq, Debug)]
 pub enum Dir {
     Up,
     Down,
 }
 
-/// A leg of a point.
+/// A position of a point, or the leg to which the point leads in that position.
 #[derive(Clone, Copy, PartialEq, Eq, Debug)]
 pub enum Position {
     Plus,
     Minus,
 }
 
-/// A track section. It names its neighbours and marker boards by number.
+/// A track section. It refers to its neighbours and marker boards by number.
 #[derive(Clone, Copy, PartialEq, Eq, Debug)]
 pub enum Section {
     /// A plain stretch of track, with at most one neighbour on each side and at most one board for
@@ -44,8 +44,8 @@ pub struct Board {
 }
 
 impl Section {
-    /// Returns entry `i`, from 0, of the sections on side `d`. If the section is a point that faces
-    /// `d`, these are plus, then minus. Returns `None` if there is no such entry.
+    /// Returns neighbour `i`, from 0, of the section on side `d`, or `None` if it does not exist.
+    /// If the section is a point that faces `d`, neighbour 0 is the plus leg and 1 the minus leg.
     pub fn nth_neighbour_on(&self, d: Dir, i: u32) -> Option<u32>
         ensures { result ≡ slice_get (neighbours_on self.now d) i }
     {
@@ -68,7 +68,7 @@ impl Section {
         }
     }
 
-    /// Returns the board for trains in direction `d`, if there is one.
+    /// Returns the number of the section's board for trains in direction `d`, if there is one.
     pub fn board_on(&self, d: Dir) -> Option<u32>
         ensures { result ≡ board_on self.now d }
     {
@@ -79,15 +79,15 @@ impl Section {
         }
     }
 
-    /// Returns whether the section is a point.
+    /// Returns whether the section is a point rather than a linear section.
     pub fn is_point(&self) -> bool
         ensures { result ≡ is_point self.now }
     {
         matches!(self, Section::Point { .. })
     }
 
-    /// Returns the inward direction of a border, a linear section with exactly one neighbour
-    /// missing: the direction of its neighbour. Returns `None` if the section is not a border.
+    /// Returns the direction in which trains enter the network at this section, or `None` if it is
+    /// not a border. A border is a linear section with exactly one neighbour missing.
     pub fn inward_if_border(&self) -> Option<Dir>
         ensures { result ≡ inward_if_border self.now }
     {

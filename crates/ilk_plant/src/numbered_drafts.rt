@@ -1,9 +1,9 @@
 ghost use Rattle.std.specs.Prelude.{◌≡◌, ◌≤◌, ◌<◌, IfOk, Some, length, map, slice_get};
 ghost use Rattle.ilk_plant.specs.Draft.{repeats_earlier_name, names_of_routes, plant_from_drafts, numbered_route, numbered_section};
-ghost use Rattle.ilk_plant.specs.TableRules.{count_in_plant, is_board, is_other_route, is_section};
+ghost use Rattle.ilk_plant.specs.TableRules.{place_count_in_plant, is_board, is_other_route, is_section};
 ghost use Rattle.ilk_plant.specs.Plant.{is_point_section};
 ghost use Rattle.ilk_plant.specs.Kept.{point_numbers};
-ghost use Rattle.ilk_plant.specs.NetNames.{HasNamesOf};
+ghost use Rattle.ilk_plant.specs.NetNames.{HasBoardsAndNamesOf};
 ghost use Rattle.ilk_plant.specs.declared.limits.TheConstants.{MAX_SECTIONS, MAX_ROUTES};
 
 use crate::names::Names;
@@ -12,8 +12,8 @@ use crate::{Board, NetDraft, NetNames, PlaceKind, Route, Row, Section, TableDraf
 use std::alloc::{AllocError, Global};
 use std::marker::Model;
 
-/// A network and an interlocking table with numbers in place of names, as in a plant. No rule is
-/// known to hold. An unknown name has the count as its number.
+/// A network and an interlocking table with numbers in place of names, not yet checked. An unknown
+/// name gets the number of known names, which no item has.
 #[derive(Drop)]
 pub struct NumberedNetAndTable {
     pub(crate) sections: Row<Section>,
@@ -91,7 +91,8 @@ fn numbered_lists(
 }
 
 impl NumberedNetAndTable {
-    /// Creates the numbered network and table. Fails only if memory runs out.
+    /// Returns the network `net` and the table `table` with numbers in place of names. Fails only
+    /// if memory runs out.
     pub fn from_drafts(
         alloc: Global,
         net: &NetDraft,
@@ -105,8 +106,8 @@ impl NumberedNetAndTable {
         NumberedNetAndTable::from_drafts_with_names(alloc, names, net, table)
     }
 
-    /// Creates the numbered network and table from existing names of the network. Fails only if
-    /// memory runs out.
+    /// Returns the network `net` and the table `table` with numbers in place of names; `names` are
+    /// the names of `net`. Fails only if memory runs out.
     pub fn from_drafts_with_names(
         alloc: Global,
         names: NetNames,
@@ -115,7 +116,7 @@ impl NumberedNetAndTable {
     ) -> Result<NumberedNetAndTable, AllocError>
         requires few_sections { length net.now.sections ≤ MAX_SECTIONS }
         requires few_routes { length table.now.routes ≤ MAX_ROUTES }
-        requires named { HasNamesOf names net.now }
+        requires named { HasBoardsAndNamesOf names net.now }
         ensures { IfOk result (λ made. made ≡ plant_from_drafts net.now table.now) }
     {
         let Lists {
@@ -163,9 +164,9 @@ impl NumberedNetAndTable {
         self.routes.len() as u32
     }
 
-    /// Returns the number of locations of a kind. Both numbers of a pair are below it too.
+    /// Returns the number of locations of a kind. For pairs of routes it is the number of routes.
     pub fn count(&self, places: PlaceKind) -> u32
-        ensures { result ≡ count_in_plant self.now places }
+        ensures { result ≡ place_count_in_plant self.now places }
     {
         match places {
             PlaceKind::Sections => self.sections.len() as u32,
@@ -182,8 +183,8 @@ impl NumberedNetAndTable {
         self.routes.at(i as u64)
     }
 
-    /// Returns whether an earlier route has the name of route `i`; `false` if there is no route
-    /// `i`.
+    /// Returns whether an earlier route has the same name as route `i`. Returns `false` if there is
+    /// no route `i`.
     pub fn repeats_earlier_name(&self, i: u32) -> bool
         ensures { result ≡ repeats_earlier_name self.now.route_names i }
     {

@@ -1,5 +1,5 @@
 ghost use Rattle.std.specs.Prelude.{◌≡◌, ◌≤◌, ◌<◌, ◌++◌, IfOk, OnOk, length, map};
-ghost use Rattle.ilk_plant.specs.Draft.{boards_from, boards_on, names_of_boards, names_of_routes, names_of_sections, number_or_len, numbered_point, numbered_route, numbered_section, board_if_named};
+ghost use Rattle.ilk_plant.specs.Draft.{boards_of_sections_from, boards_on, names_of_boards, names_of_routes, names_of_sections, number_or_len, numbered_point, numbered_route, numbered_section, board_if_named};
 ghost use Rattle.ilk_plant.specs.declared.limits.TheConstants.{MAX_BOARDS, MAX_SECTIONS, MAX_ROUTES};
 
 use crate::names::Names;
@@ -8,8 +8,11 @@ use crate::{
 };
 use std::alloc::{AllocError, Global};
 
-/// Returns the names of the sections, in order.
-pub fn section_names(alloc: Global, sections: &Row<SectionDraft>) -> Result<Names, AllocError>
+/// Returns the names of `sections`, in order.
+pub(crate) fn section_names(
+    alloc: Global,
+    sections: &Row<SectionDraft>,
+) -> Result<Names, AllocError>
     requires { length sections.now ≤ MAX_SECTIONS }
     ensures { IfOk result (λ names. names ≡ names_of_sections sections.now) }
 {
@@ -20,8 +23,8 @@ pub fn section_names(alloc: Global, sections: &Row<SectionDraft>) -> Result<Name
     Names::from_names(alloc, names)
 }
 
-/// Returns the names of the routes, in order.
-pub fn route_names(alloc: Global, routes: &Row<RouteDraft>) -> Result<Names, AllocError>
+/// Returns the names of `routes`, in order.
+pub(crate) fn route_names(alloc: Global, routes: &Row<RouteDraft>) -> Result<Names, AllocError>
     requires { length routes.now ≤ MAX_ROUTES }
     ensures { IfOk result (λ names. names ≡ names_of_routes routes.now) }
 {
@@ -32,9 +35,9 @@ pub fn route_names(alloc: Global, routes: &Row<RouteDraft>) -> Result<Names, All
     Names::from_names(alloc, names)
 }
 
-/// Boards and their names, in numerical order.
+/// Boards and, in the same order, their names.
 #[derive(Drop)]
-pub struct NamedBoards {
+pub(crate) struct NamedBoards {
     pub names: Row<Text>,
     pub boards: Row<Board>,
 }
@@ -85,12 +88,16 @@ fn push_boards(
     Ok(())
 }
 
-/// Returns the boards of the sections with their names.
-pub fn named_boards(alloc: Global, sections: &Row<SectionDraft>) -> Result<NamedBoards, AllocError>
+/// Returns the boards on `sections`, in numerical order, with their names.
+pub(crate) fn named_boards(
+    alloc: Global,
+    sections: &Row<SectionDraft>,
+) -> Result<NamedBoards, AllocError>
     requires { length sections.now ≤ MAX_SECTIONS }
     ensures names { IfOk result (λ made. made.names ≡ names_of_boards sections.now) }
     ensures boards { IfOk result
-        (λ made. made.boards ≡ map (λ named. named.board) (boards_from 0 sections.now)) }
+        (λ made. made.boards ≡ map (λ named.
+        named.board) (boards_of_sections_from 0 sections.now)) }
     ensures few { IfOk result (λ made. length made.names ≤ MAX_BOARDS) }
 {
     let mut made = NamedBoards {
@@ -142,8 +149,8 @@ fn numbered_section(sections: &Names, boards: &Names, kind: &KindDraft) -> Secti
     }
 }
 
-/// Returns the sections with numbers in place of names.
-pub fn numbered_sections(
+/// Returns `sections` with numbers in place of the names of neighbours and boards.
+pub(crate) fn numbered_sections(
     alloc: Global,
     section_names: &Names,
     board_names: &Names,
@@ -201,8 +208,8 @@ fn numbered_route(
     })
 }
 
-/// Returns the routes with numbers in place of names.
-pub fn numbered_routes(
+/// Returns `routes` with numbers in place of the names of sections, boards and routes.
+pub(crate) fn numbered_routes(
     alloc: Global,
     section_names: &Names,
     board_names: &Names,

@@ -1,13 +1,13 @@
 ghost use Rattle.std.specs.Prelude.{◌≡◌};
-ghost use Rattle.ilk_plant.specs.Network.{has_section};
+ghost use Rattle.ilk_plant.specs.Network.{contains_section};
 ghost use Rattle.ilk_plant.specs.State.{is_occupied};
 
 use crate::{Row, State};
 use ilk_base::has_number;
 
 /// Returns whether `sections` contains section `x`.
-pub fn has_section(sections: &Row<u32>, x: u32) -> bool
-    ensures { result ≡ has_section x sections.now }
+pub fn contains_section(sections: &Row<u32>, x: u32) -> bool
+    ensures { result ≡ contains_section x sections.now }
 {
     has_number(sections.as_slice(), x)
 }
@@ -19,5 +19,5 @@ pub fn occupied(s: &State, x: u32) -> bool
     s.trains
         .as_slice()
         .iter()
-        .any(|train| has_section(&train.body, x))
+        .any(|train| contains_section(&train.body, x))
 }

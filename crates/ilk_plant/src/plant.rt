@@ -22,18 +22,18 @@ pub struct Plant {
 
 impl Model for Plant {
     ghost use Rattle.ilk_plant.specs.Plant.{PlantLists};
-    ghost use Rattle.ilk_plant.specs.Kept.{HasPointIndex};
+    ghost use Rattle.ilk_plant.specs.Kept.{IsSoundWithPointNumbers};
 
     ghost Value = { PlantLists };
 
     ghost view = { λ p. p.numbered };
 
-    ghost invariant = { λ p. HasPointIndex p.numbered p.point_numbers };
+    ghost invariant = { λ p. IsSoundWithPointNumbers p.numbered p.point_numbers };
 }
 
 impl Plant {
-    /// Creates the plant of a numbered network and table, from drafts within the limits that
-    /// violate no rule of the network or table. Fails only if memory runs out.
+    /// Creates the plant of a numbered network and table. They must come from drafts within the
+    /// limits that violate no rule of the network or table. Fails only if memory runs out.
     pub fn from_numbered(alloc: Global, numbered: NumberedNetAndTable) -> Result<Plant, AllocError>
         requires { IsFromSoundDrafts numbered }
         ensures { IfOk result (λ plant. plant ≡ numbered) }
@@ -45,7 +45,8 @@ impl Plant {
         })
     }
 
-    /// The numbers of every plant satisfy `IsPlant`. Proof only; no run-time effect.
+    /// Every plant satisfies `IsPlant`: its names and numbers are valid and within the limits.
+    /// Proof only; no run-time effect.
     pub fn prove_is_plant(&self)
         ensures { IsPlant self.now }
     {
@@ -54,7 +55,7 @@ impl Plant {
 
     /// Every plant comes from drafts within the limits that violate no rule, and no walk in one
     /// direction visits a section twice. Proof only; no run-time effect.
-    pub fn prove_from_drafts(&self)
+    pub fn prove_sound_acyclic_drafts(&self)
         ensures drafts { IsFromSoundDrafts self.now }
         ensures walks { IsAcyclic self.now }
     {
@@ -126,7 +127,7 @@ impl Plant {
         self.numbered.route(r)
     }
 
-    /// Returns the board on section `x` for trains in direction `d`, if there is one.
+    /// Returns the number of the board on section `x` for trains in direction `d`, if there is one.
     pub fn board_of(&self, x: u32, d: Dir) -> Option<u32>
         requires { x < length self.now.sections }
         ensures board { result ≡ board_of self.now x d }
@@ -136,7 +137,7 @@ impl Plant {
         self.section(x).board_on(d)
     }
 
-    /// Returns entry `i`, from 0, of the sections next to section `x` on side `d`, if there is one.
+    /// Returns neighbour `i`, from 0, of section `x` on side `d`, if there is one.
     pub fn neighbour(&self, x: u32, d: Dir, i: u32) -> Option<u32>
         requires { x < length self.now.sections }
         ensures entry { result ≡ slice_get (next_to self.now x d) i }
@@ -146,7 +147,7 @@ impl Plant {
         self.section(x).nth_neighbour_on(d, i)
     }
 
-    /// Returns the number of the point on section `x`. Returns `None` if it is not a point.
+    /// Returns the number of the point on section `x`, or `None` if `x` has no point.
     pub fn point_number(&self, x: u32) -> Option<u32>
         requires { x < length self.now.sections }
         ensures number { result ≡ point_number self.now x }
@@ -155,7 +156,7 @@ impl Plant {
         *self.point_numbers.at(x as u64)
     }
 
-    /// Returns the inward direction of section `x`, in which trains enter. Returns `None` if it is
+    /// Returns the direction in which trains enter the network at section `x`, or `None` if `x` is
     /// not a border.
     pub fn section_inward_if_border(&self, x: u32) -> Option<Dir>
         requires { x < length self.now.sections }
@@ -164,7 +165,7 @@ impl Plant {
         self.section(x).inward_if_border()
     }
 
-    /// Returns the number of the section with this name, if there is one.
+    /// Returns the first section with the name `name`, if there is one.
     pub fn section_named(&self, name: &str) -> Option<u32>
         ensures number { result ≡ first_number_named self.now.section_names name.now }
         ensures known { IfSome result (λ x. x < length self.now.sections) }
@@ -173,7 +174,7 @@ impl Plant {
         self.numbered.section_names.number(name)
     }
 
-    /// Returns the number of the board with this name, if there is one.
+    /// Returns the first board with the name `name`, if there is one.
     pub fn board_named(&self, name: &str) -> Option<u32>
         ensures number { result ≡ first_number_named self.now.board_names name.now }
         ensures known { IfSome result (λ m. m < length self.now.boards) }
@@ -182,7 +183,7 @@ impl Plant {
         self.numbered.board_names.number(name)
     }
 
-    /// Returns the number of the route with this name, if there is one.
+    /// Returns the first route with the name `name`, if there is one.
     pub fn route_named(&self, name: &str) -> Option<u32>
         ensures number { result ≡ first_number_named self.now.route_names name.now }
         ensures known { IfSome result (λ r. r < length self.now.routes) }

@@ -1,13 +1,12 @@
 ghost use Rattle.std.specs.Prelude.{◌≡◌, ◌<◌, IfSome, slice_get};
 ghost use Rattle.ilk_base.specs.Option.{is_some_and};
-ghost use Rattle.ilk_plant.specs.ColumnRules.{is_leg};
+ghost use Rattle.ilk_plant.specs.ColumnRules.{is_leg_at_position};
 ghost use Rattle.ilk_plant.specs.Plant.{point_count, point_number};
 ghost use Rattle.ilk_plant.specs.State.{detected_position};
 
 use crate::{Lie, Plant, Position, Section, State};
 
-/// Returns the number of the point on section `x`. Returns `None` if `x` is not a section or not a
-/// point.
+/// Returns the number of the point on section `x`, or `None` if `x` is not a point section.
 pub fn point_number_at(plant: &Plant, x: u32) -> Option<u32>
     ensures number { result ≡ point_number plant.now x }
     ensures known { IfSome result (λ n. n < point_count plant.now) }
@@ -19,8 +18,8 @@ pub fn point_number_at(plant: &Plant, x: u32) -> Option<u32>
     }
 }
 
-/// Returns the detected position of the point on section `x`. Returns `None` if `x` is not a
-/// section or not a point.
+/// Returns the position in which the point on section `x` is detected in state `s`, or `None` if
+/// `x` is not a point section.
 pub fn detected_position(plant: &Plant, s: &State, x: u32) -> Option<Lie>
     ensures { result ≡ detected_position plant.now s.now x }
 {
@@ -29,10 +28,10 @@ pub fn detected_position(plant: &Plant, s: &State, x: u32) -> Option<Lie>
     Some(point.at)
 }
 
-/// Returns whether section `y` is the leg of section `x` at position `at`. Returns `false` if `x`
-/// is not a point.
-pub fn is_leg(plant: &Plant, x: u32, at: Position, y: u32) -> bool
-    ensures { result ≡ is_some_and (slice_get plant.now.sections x) (is_leg at y) }
+/// Returns whether `y` is the section to which the point on section `x` leads in position `at`.
+/// Returns `false` if `x` is not a point section.
+pub fn is_leg_at_position(plant: &Plant, x: u32, at: Position, y: u32) -> bool
+    ensures { result ≡ is_some_and (slice_get plant.now.sections x) (is_leg_at_position at y) }
 {
     if x >= plant.sections() {
         return false;

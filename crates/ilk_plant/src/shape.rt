@@ -1,13 +1,12 @@
 ghost use Rattle.std.specs.Prelude.{◌≡◌, ◌↔◌, IsTrue, zip};
 ghost use Rattle.std.specs.List.{list_all};
-ghost use Rattle.ilk_plant.specs.Network.{has_section};
+ghost use Rattle.ilk_plant.specs.Network.{contains_section};
 ghost use Rattle.ilk_plant.specs.Plant.{next_to};
-ghost use Rattle.ilk_plant.specs.Shape.{train_body_is_valid, is_connected_chain, seen_and_released_fit_path, HasShape};
-ghost use Rattle.ilk_plant.specs.Lengths.{HasLengths};
+ghost use Rattle.ilk_plant.specs.Shape.{has_nonempty_connected_body, is_connected_chain, seen_and_released_fit_path, HasShape};
+ghost use Rattle.ilk_plant.specs.Lengths.{HasLengthsOfPlant};
 
 use crate::{Dir, Plant, Route, RouteState, State, Train};
 
-// Returns whether the counts of seen and of released path sections are at most the path's length.
 fn fits_path(route: &Route, now: &RouteState) -> bool
     ensures { result ≡ seen_and_released_fit_path route.now now.now }
 {
@@ -18,7 +17,7 @@ fn fits_path(route: &Route, now: &RouteState) -> bool
 impl Plant {
     // Returns whether section `y` is next to `x` in direction `d`.
     fn is_next(&self, x: u32, d: Dir, y: u32) -> bool
-        ensures { result ≡ has_section y (next_to self.now x d) }
+        ensures { result ≡ contains_section y (next_to self.now x d) }
     {
         if x >= self.sections() {
             return false;
@@ -26,8 +25,8 @@ impl Plant {
         self.neighbour(x, d, 0) == Some(y) || self.neighbour(x, d, 1) == Some(y)
     }
 
-    /// Returns whether `rest` continues from `first`: each section is next to the one before in
-    /// direction `d`. A number that is not a section has no neighbour.
+    /// Returns whether each section of `rest` is a neighbour, on side `d`, of the one before it;
+    /// the first one is a neighbour of `first`. A number that is not a section has no neighbour.
     pub fn is_connected_chain(&self, d: Dir, first: u32, rest: &[u32]) -> bool
         ensures { result ≡ is_connected_chain self.now d first rest.now }
     {
@@ -41,10 +40,10 @@ impl Plant {
         true
     }
 
-    /// Returns whether a train has a body: it is not empty, begins at a section of the plant, and
-    /// continues in the train's direction.
-    pub fn train_body_is_valid(&self, train: &Train) -> bool
-        ensures { result ≡ train_body_is_valid self.now train.now }
+    /// Returns whether the body of `train` is not empty, begins at a section, and goes on from
+    /// neighbour to neighbour in the train's direction.
+    pub fn has_nonempty_connected_body(&self, train: &Train) -> bool
+        ensures { result ≡ has_nonempty_connected_body self.now train.now }
     {
         match train.body.as_slice() {
             [] => false,
@@ -65,16 +64,16 @@ impl Plant {
     }
 
     fn has_bodies(&self, s: &State) -> bool
-        ensures { result ≡ list_all (train_body_is_valid self.now) s.now.trains }
+        ensures { result ≡ list_all (has_nonempty_connected_body self.now) s.now.trains }
     {
         s.trains
             .as_slice()
             .iter()
-            .all(|train| self.train_body_is_valid(train))
+            .all(|train| self.has_nonempty_connected_body(train))
     }
 
     fn has_lengths(&self, s: &State) -> bool
-        ensures { IsTrue result ↔ HasLengths self.now s.now }
+        ensures { IsTrue result ↔ HasLengthsOfPlant self.now s.now }
     {
         s.routes.len() == self.routes() as u64
             && s.points.len() == self.points() as u64

@@ -15,8 +15,8 @@ fn copies<T: Copy>(alloc: Global, item: T, n: u32) -> Result<Row<T>, AllocError>
     Ok(row)
 }
 
-/// Returns the initial state: no train, all routes free, all points at plus and commanded there,
-/// all boards closed, all locks free.
+/// Returns the initial state of `plant`: no train, all routes free, all points at plus and
+/// commanded there, all boards closed, all locks free. Fails only if memory runs out.
 pub fn start_state(alloc: Global, plant: &Plant) -> Result<State, AllocError>
     ensures start { IfOk result (λ s. s ≡ start plant.now) }
     ensures shape { IfOk result (HasShape plant.now) }

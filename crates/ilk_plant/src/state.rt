@@ -3,7 +3,7 @@ ghost use Rattle.std.specs.Prelude.{◌≡◌, IfOk};
 use crate::{Dir, Position, Row};
 use std::alloc::AllocError;
 
-/// The progress of a route's setting and use.
+/// The mode of a route, from Free over its request, reservation and locking to its use by a train.
 #[derive(Clone, Copy, PartialEq, Eq, Debug)]
 pub enum Mode {
     Free,
@@ -13,8 +13,8 @@ pub enum Mode {
     Occupied,
 }
 
-/// The state of a route: its mode, the number of its path sections detected as taken by trains, and
-/// the number released behind them.
+/// The state of a route: its mode, the number of its path sections that a train has entered
+/// (`seen`), and the number released behind the train (`rel`).
 #[derive(Clone, Copy, PartialEq, Eq, Debug)]
 pub struct RouteState {
     pub mode: Mode,
@@ -44,7 +44,8 @@ pub enum Aspect {
     Closed,
 }
 
-/// The lock of a section.
+/// The lock of a section: Free; Locked for a route; or Used, if a train has entered it on that
+/// route.
 #[derive(Clone, Copy, PartialEq, Eq, Debug)]
 pub enum Hold {
     Free,
@@ -52,14 +53,15 @@ pub enum Hold {
     Used,
 }
 
-/// A train. Its body lists its sections from tail to head.
+/// A train. Its body lists the sections that it occupies, from tail to head.
 #[derive(Drop)]
 pub struct Train {
     pub dir: Dir,
     pub body: Row<u32>,
 }
 
-/// A state of the plant. Routes, points, boards and locks are in numerical order.
+/// A state of the plant. The states of routes, points and boards, and the locks of sections, are in
+/// numerical order.
 #[derive(Drop)]
 pub struct State {
     pub routes: Row<RouteState>,
@@ -91,7 +93,7 @@ fn copy_trains(trains: &Row<Train>) -> Result<Row<Train>, AllocError>
 }
 
 impl State {
-    /// Returns a copy of the state.
+    /// Returns a copy of the state. Fails only if memory runs out.
     pub fn copy(&self) -> Result<State, AllocError>
         ensures { IfOk result (λ state. state ≡ self.now) }
     {

@@ -1,13 +1,14 @@
 use crate::{Position, Row};
 
-/// A point, by its section, with the position required by a route.
+/// A point, by the number of its section, and the position that a route requires.
 #[derive(Clone, Copy, PartialEq, Eq, Debug)]
 pub struct Listed {
     pub point: u32,
     pub at: Position,
 }
 
-/// A row of the interlocking table. A route has the direction of its source board.
+/// A route: a row of the interlocking table, with numbers in place of names. It has the direction
+/// of its source board.
 #[derive(Drop)]
 pub struct Route {
     /// The board at which the route begins.

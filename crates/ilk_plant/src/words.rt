@@ -1,11 +1,11 @@
-//! The words in texts for directions, positions, lies, aspects, locks and modes. Each type has one
-//! table, `word`; `from_word` reads by it.
+//! The words in texts for directions, positions, aspects, locks and modes. Writing and reading use
+//! the same words.
 
 ghost use Rattle.std.specs.Prelude.{◌≡◌};
 ghost use Rattle.ilk_plant.specs.Words as words;
 
 use crate::{Aspect, Dir, Hold, Lie, Mode, Position};
-use ilk_base::{HasWord, value_of_word};
+use ilk_base::{HasWord, first_value_with_word};
 
 impl HasWord for Dir {
     ghost use Rattle.ilk_plant.specs.Words.{direction_word};
@@ -21,11 +21,11 @@ impl HasWord for Dir {
 }
 
 impl Dir {
-    /// Returns the direction with this word, if there is one.
+    /// Returns the direction whose word is `word`, or `None` if there is none.
     pub fn from_word(word: &[u8]) -> Option<Dir>
         ensures { result ≡ words.direction_from_word word.now }
     {
-        value_of_word(&[Dir::Up, Dir::Down], word)
+        first_value_with_word(&[Dir::Up, Dir::Down], word)
     }
 }
 
@@ -43,11 +43,11 @@ impl HasWord for Position {
 }
 
 impl Position {
-    /// Returns the position with this word, if there is one.
+    /// Returns the position, plus or minus, whose word is `word`, or `None` if there is none.
     pub fn from_word(word: &[u8]) -> Option<Position>
         ensures { result ≡ words.position_from_word word.now }
     {
-        value_of_word(&[Position::Plus, Position::Minus], word)
+        first_value_with_word(&[Position::Plus, Position::Minus], word)
     }
 }
 
@@ -66,11 +66,11 @@ impl HasWord for Lie {
 }
 
 impl Lie {
-    /// Returns the lie of a point with this word, if there is one.
+    /// Returns the detected position whose word is `word`, or `None` if there is none.
     pub fn from_word(word: &[u8]) -> Option<Lie>
         ensures { result ≡ words.lie_from_word word.now }
     {
-        value_of_word(&[Lie::Plus, Lie::Minus, Lie::Moving], word)
+        first_value_with_word(&[Lie::Plus, Lie::Minus, Lie::Moving], word)
     }
 }
 
@@ -88,11 +88,11 @@ impl HasWord for Aspect {
 }
 
 impl Aspect {
-    /// Returns the aspect with this word, if there is one.
+    /// Returns the aspect whose word is `word`, or `None` if there is none.
     pub fn from_word(word: &[u8]) -> Option<Aspect>
         ensures { result ≡ words.aspect_from_word word.now }
     {
-        value_of_word(&[Aspect::Open, Aspect::Closed], word)
+        first_value_with_word(&[Aspect::Open, Aspect::Closed], word)
     }
 }
 
@@ -111,11 +111,11 @@ impl HasWord for Hold {
 }
 
 impl Hold {
-    /// Returns the lock with this word, if there is one.
+    /// Returns the section lock whose word is `word`, or `None` if there is none.
     pub fn from_word(word: &[u8]) -> Option<Hold>
         ensures { result ≡ words.hold_from_word word.now }
     {
-        value_of_word(&[Hold::Free, Hold::Locked, Hold::Used], word)
+        first_value_with_word(&[Hold::Free, Hold::Locked, Hold::Used], word)
     }
 }
 
@@ -136,11 +136,11 @@ impl HasWord for Mode {
 }
 
 impl Mode {
-    /// Returns the mode with this word, if there is one.
+    /// Returns the route mode whose word is `word`, or `None` if there is none.
     pub fn from_word(word: &[u8]) -> Option<Mode>
         ensures { result ≡ words.mode_from_word word.now }
     {
-        value_of_word(
+        first_value_with_word(
             &[
                 Mode::Free,
                 Mode::Marked,

@@ -1,5 +1,3 @@
--- The bytes that an audit of a plant's certificate has read, and its answers, for the plant's
--- finite system and goal.
 use Rattle.ilk_lines.specs.Lines.{Bytes}
 use Rattle.ilk_plant.specs.Plant.{PlantLists}
 use Rattle.ilk_behave.specs.Behaviour.{system_of_plant}
@@ -10,15 +8,16 @@ use Rattle.ilk_cert_audit.specs.declared.answers.Ended.{Ended}
 use Rattle.ilk_cert_audit.specs.declared.answers.Fed.{Fed}
 use Rattle.ilk_plant_audit.specs.declared.audit.CertAudit.{CertAudit}
 
--- Holds if the audit has read these bytes, in one or more pieces, for the plant it borrows.
+-- Holds if the check, for the plant that it borrows, has taken these bytes, in one or more pieces.
 abbrev pub HasAuditedBytes : CertAudit → Bytes → Type 0
 HasAuditedBytes audit bytes = SystemHasFed (system_of_plant audit.plant.now) (goal_of_plant audit.plant.now) audit.audit bytes
 
--- Holds if this is the answer to a piece, after which the text so far is `bytes`.
+-- Holds if the answer names the first bad line of the text `bytes` so far, or `More` if none is
+-- bad.
 abbrev pub AnswersFeed : PlantLists → Bytes → Fed → Type 0
 AnswersFeed p bytes fed = IsAnswerAfterBytes (system_of_plant p) (goal_of_plant p) bytes fed
 
--- Holds if `ended` is the answer at the end of the text: the number that it certifies, or its first
--- bad line.
+-- Holds if `ended` is the answer at the end of a text: the number that it is a certificate of plant
+-- `p` for, or its first bad line.
 abbrev pub AnswersEnd : PlantLists → Bytes → Ended → Type 0
 AnswersEnd p bytes ended = IsFinalAnswer (system_of_plant p) (goal_of_plant p) bytes ended

@@ -4,7 +4,7 @@ use ilk_plant::Plant;
 use ilk_queries::goal;
 use std::alloc::{AllocError, Global};
 
-/// An audit of a certificate of a plant that takes the bytes in pieces.
+/// A check whether bytes are a certificate of a plant; the bytes come in pieces.
 #[derive(Drop)]
 pub struct CertAudit<'a> {
     plant: &'a Plant,
@@ -15,7 +15,7 @@ impl<'a> CertAudit<'a> {
     ghost use Rattle.std.specs.Prelude.{◌≡◌, ℕ, List, [], ◌++◌, IfOk, OnOk};
     ghost use Rattle.ilk_plant_audit.specs.Audited.{AnswersEnd, AnswersFeed, HasAuditedBytes};
 
-    /// Creates an audit for `plant` that has read no byte. Fails only if memory runs out.
+    /// Creates a check for `plant` that has taken no byte. Fails only if memory runs out.
     pub fn new(alloc: Global, plant: &'a Plant) -> Result<CertAudit<'a>, AllocError>
         ensures plant { IfOk result (λ audit. audit.plant.now ≡ plant.now) }
         ensures fed { IfOk result (λ audit. HasAuditedBytes audit []) }
@@ -28,9 +28,8 @@ impl<'a> CertAudit<'a> {
         })
     }
 
-    /// Reads the next bytes, of any length, and returns whether a line so far is bad. The answer
-    /// does not depend on how the bytes are split. If memory runs out, the audit is unusable and
-    /// has to be dropped.
+    /// Takes the next bytes, of any length, and returns the first bad line so far, if any. The
+    /// answer doesn't depend on how the bytes are divided. After an error, the check is unusable.
     pub fn feed(&mut self, piece: &[u8]) -> Result<Fed, AllocError>
         ensures plant { self.new.plant.now ≡ self.old.plant.now }
         ensures fed { OnOk result
@@ -42,7 +41,8 @@ impl<'a> CertAudit<'a> {
         self.audit.feed(piece)
     }
 
-    /// Returns whether the bytes are a certificate of the plant.
+    /// Returns whether all bytes taken are a certificate of the plant, and for which number, or the
+    /// first bad line.
     pub fn end(self) -> Ended
         ensures { (bytes : List ℕ) → HasAuditedBytes self.entry bytes
             → AnswersEnd self.entry.plant.now bytes result }

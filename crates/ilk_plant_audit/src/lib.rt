@@ -1,5 +1,5 @@
-//! Checks whether bytes are a certificate of a plant, regardless of their origin. An assessor can
-//! rely on this audit instead of any search; none of its dependencies is a search crate.
+//! Checks whether bytes are a certificate of a plant, regardless of their origin. None of its
+//! dependencies is a search crate.
 //!
 //! A certificate of a plant is a certificate of its finite system (`ilk_behave`) and its goal
 //! (`ilk_queries`). `CertAudit` builds both once and takes the bytes in pieces of any length

@@ -1,6 +1,6 @@
 ghost use Rattle.std.specs.Prelude.{◌<◌};
 
-use crate::plants::plant_of;
+use crate::plants::plant_from_configuration;
 use crate::texts::line;
 use ilk_engine::{
     CertAudit, CertificateText, Ended, Fed, Found, certificate, decide, lazy_certificate_text,
@@ -65,7 +65,7 @@ fn rejected(ended: Ended) -> u64 {
 #[test]
 fn a_certificate_whole_and_in_pieces(rt: HostRuntime) -> Result<(), Fail> {
     let alloc = rt.alloc();
-    let plant = plant_of(alloc, line())?;
+    let plant = plant_from_configuration(alloc, line())?;
     let whole = written(alloc, &plant)?;
     let head = b"irv certificate 3\nsafe 1\nquery hazard 0\n";
     assert!(rt; whole.as_slice().starts_with(head.as_slice()));
@@ -78,7 +78,7 @@ fn a_certificate_whole_and_in_pieces(rt: HostRuntime) -> Result<(), Fail> {
 #[test]
 fn a_certificate_in_pieces_of_any_length(rt: HostRuntime) -> Result<(), Fail> {
     let alloc = rt.alloc();
-    let plant = plant_of(alloc, line())?;
+    let plant = plant_from_configuration(alloc, line())?;
     let whole = written(alloc, &plant)?;
     for length in [1, 7, 65536] {
         let ended = ended(alloc, &plant, whole.as_slice(), length)?;
@@ -91,7 +91,7 @@ fn a_certificate_in_pieces_of_any_length(rt: HostRuntime) -> Result<(), Fail> {
 #[test]
 fn a_bad_line_in_pieces_of_any_length(rt: HostRuntime) -> Result<(), Fail> {
     let alloc = rt.alloc();
-    let plant = plant_of(alloc, line())?;
+    let plant = plant_from_configuration(alloc, line())?;
     let twice = b"irv certificate 3\nsafe 1\nquery hazard 0\nquery hazard 0\n";
     for length in [1, 7, 65536] {
         let ended = ended(alloc, &plant, twice.as_slice(), length)?;
@@ -104,7 +104,7 @@ fn a_bad_line_in_pieces_of_any_length(rt: HostRuntime) -> Result<(), Fail> {
 #[test]
 fn a_bad_line_stays(rt: HostRuntime) -> Result<(), Fail> {
     let alloc = rt.alloc();
-    let plant = plant_of(alloc, line())?;
+    let plant = plant_from_configuration(alloc, line())?;
     let mut audit = CertAudit::new(alloc, &plant)?;
     for piece in ["irv certificate", " 2\n", "", "safe 1\n"] {
         let answer = match audit.feed(piece.as_bytes())? {

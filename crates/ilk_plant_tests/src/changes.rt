@@ -4,12 +4,12 @@ use ilk_plant::{
 };
 use std::alloc::{AllocError, Global};
 
-/// A difference from the initial state.
+/// A change to the initial state.
 #[derive(Clone, Copy)]
-pub enum Change {
+pub(crate) enum Change {
     /// A route's mode, and how many of its path sections are seen and released.
     Route(u64, Mode, u32, u32),
-    /// A point, its position and its commanded position.
+    /// A point, its detected position and its commanded position.
     Point(u64, Lie, Position),
     /// A board that is open.
     Open(u64),
@@ -54,8 +54,8 @@ fn make_change(alloc: Global, s: &mut State, change: Change) -> Result<(), Alloc
     Ok(())
 }
 
-/// Returns the initial state with these changes.
-pub fn start_with_changes(
+/// Returns the initial state of `plant` with these `changes`.
+pub(crate) fn start_with_changes(
     alloc: Global,
     plant: &Plant,
     changes: &[Change],

@@ -1,5 +1,5 @@
-use crate::plants::plant_of;
-use crate::texts::{line, line_without_boards, route_without_end_board};
+use crate::plants::plant_from_configuration;
+use crate::texts::{line, route_ending_without_board, two_sections_without_boards};
 use ilk_engine::{Verdict, decide};
 use ilk_plant::Plant;
 use std::alloc::Global;
@@ -56,7 +56,7 @@ fn is_answered(
     first: &str,
     second: &str,
 ) -> Result<(), Fail> {
-    let plant = plant_of(alloc, text)?;
+    let plant = plant_from_configuration(alloc, text)?;
     compare_answer(alloc, &plant, depth, first, second)
 }
 
@@ -66,21 +66,21 @@ fn verdicts(rt: HostRuntime) -> Result<(), Fail> {
     is_answered(rt.alloc(), line(), 4, safe, "")?;
     is_answered(
         rt.alloc(),
-        line_without_boards(),
+        two_sections_without_boards(),
         2,
         "V7 broken by 1 events",
         "",
     )?;
     is_answered(
         rt.alloc(),
-        line_without_boards(),
+        two_sections_without_boards(),
         4,
         "Two(0) by 3 events",
         "Two(1) by 3 events",
     )?;
     is_answered(
         rt.alloc(),
-        route_without_end_board(),
+        route_ending_without_board(),
         4,
         "left by 4 events",
         "",

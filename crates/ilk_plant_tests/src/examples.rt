@@ -1,7 +1,8 @@
-//! Plants of `examples/` that break no rule, unchanged. Each is in its own function, as in `texts`.
+//! Configurations of `examples/` that break no rule, unchanged. Each is in its own function, as in
+//! `texts`.
 
-/// Points and two platforms.
-pub fn platforms() -> &'static str {
+/// Returns the configuration of points with two platform tracks.
+pub(crate) fn platforms() -> &'static str {
     r#"{"version": 1,
  "sections": [
   {"name": "line", "kind": "linear", "down": null, "up": "w1", "board_down": null, "board_up": "home"},
@@ -19,8 +20,9 @@ pub fn platforms() -> &'static str {
    "points": [{"point": "w1", "position": "minus"}], "conflicts": ["in1", "in2", "out1"]}]}"#
 }
 
-/// A passing loop in which the point p2 and the boards m2 and m4 protect the route r1.
-pub fn protected_station() -> &'static str {
+/// Returns the configuration of a passing loop in which the point p2 and the boards m2 and m4
+/// protect the route r1.
+pub(crate) fn flank_protected_loop_configuration() -> &'static str {
     r#"{"version": 2,
  "sections": [
   {"name": "b1", "kind": "linear", "down": null, "up": "p1", "board_down": null, "board_up": "m1"},
@@ -57,8 +59,8 @@ pub fn protected_station() -> &'static str {
    "protecting_points": [], "protecting_boards": []}]}"#
 }
 
-/// The throat of a terminus.
-pub fn terminus() -> &'static str {
+/// Returns the configuration of the points in front of a terminus.
+pub(crate) fn terminus() -> &'static str {
     r#"{"version": 2,
  "sections": [
   {"name": "UM3", "kind": "linear", "down": null, "up": "UM2", "board_down": null, "board_up": "S1"},

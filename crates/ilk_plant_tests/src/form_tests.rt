@@ -1,10 +1,11 @@
 use crate::changes::Change::{self, Locks, Open, Point, Route, Train};
 use crate::changes::start_with_changes;
 use crate::forms::{
-    PlantForms, compare_forms, compare_violated_families, decode_state, forms_of, is_hazardous,
+    PlantForms, compare_forms_with_state, decode_state_if_wellformed, expect_violated_families,
+    forms_of, is_hazardous,
 };
-use crate::plants::{image_of, plant_of};
-use crate::texts::{line_without_boards, station};
+use crate::plants::{image_of, plant_from_configuration};
+use crate::texts::{station, two_sections_without_boards};
 use ilk_ir::{Values, holds};
 use ilk_plant::Dir::{self, Down, Up};
 use ilk_plant::Hold::{Locked, Used};
@@ -21,7 +22,7 @@ use std::test::Fail;
 
 // Compares the forms with the initial state under these changes, which breaks these families.
 fn breaks(alloc: Global, changes: &[Change], families: &[u8]) -> Result<(), Fail> {
-    let plant = plant_of(alloc, station())?;
+    let plant = plant_from_configuration(alloc, station())?;
     breaks_on(alloc, &plant, changes, families)
 }
 
@@ -43,9 +44,9 @@ fn compare_broken(
     s: &State,
     families: &[u8],
 ) -> Result<(), Fail> {
-    compare_forms(alloc, plant, forms, s)?;
+    compare_forms_with_state(alloc, plant, forms, s)?;
     let values = image_of(alloc, plant, s)?;
-    compare_violated_families(alloc, forms, &values, families)
+    expect_violated_families(alloc, forms, &values, families)
 }
 
 const LOCKED: Change = Locks(Locked, &[1, 2]);
@@ -160,7 +161,7 @@ fn protecting_boards(rt: HostRuntime) -> Result<(), Fail> {
 
 // Compares the forms with the initial state under these changes, which has a hazard.
 fn has_hazard(alloc: Global, changes: &[Change]) -> Result<(), Fail> {
-    let plant = plant_of(alloc, station())?;
+    let plant = plant_from_configuration(alloc, station())?;
     has_hazard_on(alloc, &plant, changes)
 }
 
@@ -168,7 +169,7 @@ fn has_hazard_on(alloc: Global, plant: &Plant, changes: &[Change]) -> Result<(),
     let forms = forms_of(alloc, plant)?;
     let s = start_with_changes(alloc, plant, changes)?;
     if is_hazardous(plant, &s) {
-        compare_forms(alloc, plant, &forms, &s)
+        compare_forms_with_state(alloc, plant, &forms, &s)
     } else {
         Err(Fail::new("a state without hazard"))
     }
@@ -207,7 +208,7 @@ fn forms_hold(forms: &PlantForms, values: &Values) -> [bool; 3] {
 // Checks which forms hold over values of the bare line: `hold` gives the hazard, well-formed and
 // initial-state forms, and `families` the families whose forms fail.
 fn row(alloc: Global, numbers: &[u8], hold: [bool; 3], families: &[u8]) -> Result<(), Fail> {
-    let plant = plant_of(alloc, line_without_boards())?;
+    let plant = plant_from_configuration(alloc, two_sections_without_boards())?;
     row_on(alloc, &plant, numbers, hold, families)
 }
 
@@ -221,7 +222,7 @@ fn row_on(
     let forms = forms_of(alloc, plant)?;
     let values = values_of(alloc, numbers)?;
     if forms_hold(&forms, &values) == hold {
-        compare_violated_families(alloc, &forms, &values, families)
+        expect_violated_families(alloc, &forms, &values, families)
     } else {
         Err(Fail::new("other forms hold"))
     }
@@ -245,7 +246,7 @@ fn compare_train(trains: &[TrainState], dir: Dir, body: &[u32]) -> Result<(), Fa
 
 // Reads values of the bare line, and compares the only train of the state.
 fn train_read(alloc: Global, numbers: &[u8], dir: Dir, body: &[u32]) -> Result<(), Fail> {
-    let plant = plant_of(alloc, line_without_boards())?;
+    let plant = plant_from_configuration(alloc, two_sections_without_boards())?;
     train_read_on(alloc, &plant, numbers, dir, body)
 }
 
@@ -257,7 +258,7 @@ fn train_read_on(
     body: &[u32],
 ) -> Result<(), Fail> {
     let values = values_of(alloc, numbers)?;
-    match decode_state(alloc, plant, &values)? {
+    match decode_state_if_wellformed(alloc, plant, &values)? {
         None => Err(Fail::new("values of no state")),
         Some(s) => compare_train(s.trains.as_slice(), dir, body),
     }

@@ -12,17 +12,18 @@ use ilk_props::{hazard_form, start_form, wellformed_form};
 use std::alloc::{AllocError, Global};
 use std::test::Fail;
 
-/// All forms of a plant.
+/// The forms over a plant's variables that describe its states: hazard, well-formed, initial state
+/// and the nine families.
 #[derive(Drop)]
-pub struct PlantForms {
+pub(crate) struct PlantForms {
     pub hazard: Form,
     pub wellformed: Form,
     pub start: Form,
     pub families: Forms,
 }
 
-/// Creates the forms of a plant.
-pub fn forms_of(alloc: Global, plant: &Plant) -> Result<PlantForms, AllocError> {
+/// Creates all forms of `plant`.
+pub(crate) fn forms_of(alloc: Global, plant: &Plant) -> Result<PlantForms, AllocError> {
     Ok(PlantForms {
         hazard: hazard_form(alloc, plant)?,
         wellformed: wellformed_form(alloc, plant)?,
@@ -57,9 +58,9 @@ fn are_in_ranges(values: &[u8], ranges: &[u8]) -> bool
     }
 }
 
-/// Returns the state with this image, or `None` if a value is out of range or the well-formed form
-/// doesn't hold.
-pub fn decode_state(
+/// Returns the state whose image is `values`, or `None` if a value is out of range or the form of
+/// well-formed values doesn't hold.
+pub(crate) fn decode_state_if_wellformed(
     alloc: Global,
     plant: &Plant,
     values: &Values,
@@ -92,14 +93,19 @@ fn compare_families(
 }
 
 fn compare_decoded(alloc: Global, plant: &Plant, values: &Values) -> Result<(), Fail> {
-    match decode_state(alloc, plant, values)? {
+    match decode_state_if_wellformed(alloc, plant, values)? {
         None => Err(Fail::new("an image that isn't well-formed")),
-        Some(read) => compare_image(alloc, plant, &read, values),
+        Some(read) => compare_values_with_image(alloc, plant, &read, values),
     }
 }
 
-/// Compares values with the image of a state.
-pub fn compare_image(alloc: Global, plant: &Plant, s: &State, values: &Values) -> Result<(), Fail> {
+/// Fails unless `values` are the image of state `s`.
+pub(crate) fn compare_values_with_image(
+    alloc: Global,
+    plant: &Plant,
+    s: &State,
+    values: &Values,
+) -> Result<(), Fail> {
     let image = image_of(alloc, plant, s)?;
     if image.as_slice() == values.as_slice() {
         Ok(())
@@ -129,8 +135,9 @@ fn compare_values(
     compare_decoded(alloc, plant, values)
 }
 
-/// Compares all forms over a state's image with the state. Reads it back if it has no hazard.
-pub fn compare_forms(
+/// Fails unless all forms, over the image of state `s`, agree with the state. If it has no hazard,
+/// also decodes the image and compares the result.
+pub(crate) fn compare_forms_with_state(
     alloc: Global,
     plant: &Plant,
     forms: &PlantForms,
@@ -140,8 +147,8 @@ pub fn compare_forms(
     compare_values(alloc, plant, forms, s, &values)
 }
 
-/// Fails unless `families` are exactly the families whose form doesn't hold of `values`.
-pub fn compare_violated_families(
+/// Fails unless `families` are exactly the families whose forms are false of `values`.
+pub(crate) fn expect_violated_families(
     alloc: Global,
     forms: &PlantForms,
     values: &Values,
@@ -155,7 +162,7 @@ pub fn compare_violated_families(
     }
 }
 
-/// Returns whether a state has a hazard.
-pub fn is_hazardous(plant: &Plant, s: &State) -> bool {
+/// Returns whether state `s` has a hazard.
+pub(crate) fn is_hazardous(plant: &Plant, s: &State) -> bool {
     plant.has_shape(s) && hazard(plant, s).is_some()
 }

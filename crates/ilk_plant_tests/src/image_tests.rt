@@ -1,6 +1,6 @@
-use crate::plants::{image_of, plant_of, state_after};
-use crate::rules::compare_rules;
-use crate::texts::line_without_boards;
+use crate::plants::{image_of, plant_from_configuration, state_after_event};
+use crate::rules::events_of_firing_rules;
+use crate::texts::two_sections_without_boards;
 use ilk_behave::behaviour;
 use ilk_ir::Values;
 use ilk_layout::ranges;
@@ -13,7 +13,7 @@ use std::test::Fail;
 fn state_after_all(alloc: Global, plant: &Plant, events: &[Event]) -> Result<State, Fail> {
     let mut s = start(alloc, plant)?;
     for event in events {
-        s = state_after(alloc, plant, &s, *event)?.ok_or("an event that isn't enabled")?;
+        s = state_after_event(alloc, plant, &s, *event)?.ok_or("an event that isn't enabled")?;
     }
     Ok(s)
 }
@@ -27,7 +27,7 @@ fn image_after(alloc: Global, plant: &Plant, events: &[Event]) -> Result<Values,
 #[test]
 fn images_of_the_bare_line(rt: HostRuntime) -> Result<(), Fail> {
     let alloc = rt.alloc();
-    let plant = plant_of(alloc, line_without_boards())?;
+    let plant = plant_from_configuration(alloc, two_sections_without_boards())?;
     assert_eq!(rt;
         ranges(alloc, &plant)?.as_slice(),
         [3, 3, 10, 10].as_slice()
@@ -45,9 +45,9 @@ fn images_of_the_bare_line(rt: HostRuntime) -> Result<(), Fail> {
 #[test]
 fn rules_of_the_bare_line(rt: HostRuntime) -> Result<(), Fail> {
     let alloc = rt.alloc();
-    let plant = plant_of(alloc, line_without_boards())?;
+    let plant = plant_from_configuration(alloc, two_sections_without_boards())?;
     let s = state_after_all(alloc, &plant, &[Event::Enter(0), Event::Enter(1)])?;
-    let fired = compare_rules(alloc, &plant, &behaviour(alloc, &plant)?, &s)?;
+    let fired = events_of_firing_rules(alloc, &plant, &behaviour(alloc, &plant)?, &s)?;
     let heads = [Event::Head(0), Event::Head(1)];
     assert!(rt; fired.iter().all(|event| heads.contains(event)));
     assert!(rt; heads.iter().all(|head| fired.contains(head)));
@@ -58,7 +58,7 @@ fn rules_of_the_bare_line(rt: HostRuntime) -> Result<(), Fail> {
 #[test]
 fn the_least_broken_family(rt: HostRuntime) -> Result<(), Fail> {
     let alloc = rt.alloc();
-    let plant = plant_of(alloc, line_without_boards())?;
+    let plant = plant_from_configuration(alloc, two_sections_without_boards())?;
     let s = state_after_all(alloc, &plant, &[Event::Enter(0)])?;
     assert!(rt; plant.has_shape(&s) && broken_family(&plant, &s) == Some(7));
     Ok(())

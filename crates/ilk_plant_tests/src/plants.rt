@@ -34,19 +34,20 @@ fn plant_of_drafts(alloc: Global, net: &NetDraft, table: &TableDraft) -> Result<
     }
 }
 
-/// Returns the plant of a configuration.
-pub fn plant_of(alloc: Global, text: &str) -> Result<Plant, Fail> {
+/// Returns the plant of the configuration `text`; fails if it breaks a rule other than a column
+/// rule.
+pub(crate) fn plant_from_configuration(alloc: Global, text: &str) -> Result<Plant, Fail> {
     match read_net_and_table_drafts(alloc, text.as_bytes()) {
         Ok((net, table)) => plant_of_drafts(alloc, &net, &table),
         Err(_) => Err(Fail::new("the form is broken")),
     }
 }
 
-/// Returns the plant of a configuration that breaks no column rule either.
-pub fn strict_plant_of(alloc: Global, text: &str) -> Result<Plant, Fail>
+/// Returns the plant of the configuration `text`; fails if it breaks a rule, column rules included.
+pub(crate) fn strict_plant_from_configuration(alloc: Global, text: &str) -> Result<Plant, Fail>
     ensures { IfOk result IsStrict }
 {
-    let plant = plant_of(alloc, text)?;
+    let plant = plant_from_configuration(alloc, text)?;
     let columns = check_columns(alloc, &plant)?;
     if is_clean(&columns) {
         clean_is_strict(&plant);
@@ -56,16 +57,16 @@ pub fn strict_plant_of(alloc: Global, text: &str) -> Result<Plant, Fail>
     }
 }
 
-/// Returns the image of a state.
-pub fn image_of(alloc: Global, plant: &Plant, s: &State) -> Result<Values, Fail> {
+/// Returns the image of state `s`: the values of the plant's variables.
+pub(crate) fn image_of(alloc: Global, plant: &Plant, s: &State) -> Result<Values, Fail> {
     if !plant.has_shape(s) {
         return Err(Fail::new("a state without shape"));
     }
     Ok(image(alloc, plant, s)?)
 }
 
-/// Returns the state after an event, or `None` if it isn't enabled.
-pub fn state_after(
+/// Returns the state after an event in state `s`, or `None` if the event is not enabled.
+pub(crate) fn state_after_event(
     alloc: Global,
     plant: &Plant,
     s: &State,
@@ -82,8 +83,8 @@ pub fn state_after(
     }
 }
 
-/// Returns the event of a kind, from 0, with the number of its route or section.
-pub fn event(kind: u32, number: u32) -> Event {
+/// Returns the event of a kind, numbered from 0, for the route or section `number`.
+pub(crate) fn event(kind: u32, number: u32) -> Event {
     match kind {
         0 => Event::Mark(number),
         1 => Event::Allocate(number),
@@ -101,9 +102,9 @@ pub fn event(kind: u32, number: u32) -> Event {
     }
 }
 
-/// Returns all events with numbers of routes and sections, and for each kind one whose number names
-/// nothing.
-pub fn events(alloc: Global, plant: &Plant) -> Result<Vec<Event>, Fail> {
+/// Returns all events of all kinds, for each number of a route or section, and for one number that
+/// names nothing.
+pub(crate) fn events(alloc: Global, plant: &Plant) -> Result<Vec<Event>, Fail> {
     let mut all = Vec::new(alloc);
     for kind in 0..13 {
         for number in 0..=plant.routes().max(plant.sections()) {

@@ -1,5 +1,5 @@
-use crate::forms::compare_image;
-use crate::plants::{image_of, state_after};
+use crate::forms::compare_values_with_image;
+use crate::plants::{image_of, state_after_event};
 use ilk_behave::event_of;
 use ilk_ir::{System, Values, fire};
 use ilk_model::Event;
@@ -32,9 +32,9 @@ fn compare_next(
     event: Event,
     values: &Values,
 ) -> Result<(), Fail> {
-    match state_after(alloc, plant, s, event)? {
+    match state_after_event(alloc, plant, s, event)? {
         None => Err(Fail::new("a rule of an event that isn't enabled")),
-        Some(next) => compare_image(alloc, plant, &next, values),
+        Some(next) => compare_values_with_image(alloc, plant, &next, values),
     }
 }
 
@@ -58,8 +58,9 @@ fn compare_rule(
     }
 }
 
-/// Returns the events of the rules that fire, each compared with its rule.
-pub fn compare_rules(
+/// Returns the event of each rule of `system` that fires in state `s`. Fails unless the event is
+/// enabled and the rule's values are the image of the next state.
+pub(crate) fn events_of_firing_rules(
     alloc: Global,
     plant: &Plant,
     system: &System,
@@ -77,19 +78,20 @@ pub fn compare_rules(
 }
 
 fn is_enabled(alloc: Global, plant: &Plant, s: &State, event: Event) -> Result<bool, Fail> {
-    Ok(state_after(alloc, plant, s, event)?.is_some())
+    Ok(state_after_event(alloc, plant, s, event)?.is_some())
 }
 
-/// Compares the plant's system with its events in a state without hazard. An event is enabled if
-/// and only if a rule of it fires, and each such rule leads to the image of the next state.
-pub fn compare_events(
+/// Fails unless `system` agrees with the plant's `events` in state `s`, which has no hazard. An
+/// event is enabled if and only if a rule of it fires, and each such rule leads to the image of the
+/// next state.
+pub(crate) fn compare_system_with_events(
     alloc: Global,
     plant: &Plant,
     system: &System,
     events: &[Event],
     s: &State,
 ) -> Result<(), Fail> {
-    let enabled = compare_rules(alloc, plant, system, s)?;
+    let enabled = events_of_firing_rules(alloc, plant, system, s)?;
     for event in events {
         if is_enabled(alloc, plant, s, *event)? != enabled.contains(event) {
             return Err(Fail::new("the rules of an event"));

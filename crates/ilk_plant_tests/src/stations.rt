@@ -39,7 +39,6 @@ const OUT_UP: &str = r##"
  {"name":"s#r4","source":"u#U","destination":"l#U","path":["q#","l#"],"overlap":[],
   "points":[{"point":"q#","position":"minus"}],"conflicts":["s#r3","s#r5","s#r6","s>r7","s>r8"]},"##;
 
-// The same for the last station.
 const LAST_OUT_UP: &str = r##"
  {"name":"s#r3","source":"t#U","destination":null,"path":["q#","l#"],"overlap":[],
   "points":[{"point":"q#","position":"plus"}],"conflicts":["s#r4","s#r5","s#r6"]},
@@ -60,7 +59,6 @@ const OUT_DOWN: &str = r##"
  {"name":"s#r8","source":"u#D","destination":"l<D","path":["p#","l<"],"overlap":[],
   "points":[{"point":"p#","position":"minus"}],"conflicts":["s<r3","s<r4","s#r1","s#r2","s#r7"]}"##;
 
-// The same for the first station.
 const FIRST_OUT_DOWN: &str = r##"
  {"name":"s#r7","source":"t#D","destination":null,"path":["p#","l<"],"overlap":[],
   "points":[{"point":"p#","position":"plus"}],"conflicts":["s#r1","s#r2","s#r8"]},
@@ -99,8 +97,8 @@ fn push_routes(text: &mut String, number: u32, count: u32) -> Result<(), AllocEr
     )
 }
 
-/// Returns `count` stations in a row, at least one.
-pub fn stations(alloc: Global, count: u32) -> Result<String, AllocError> {
+/// Returns the configuration of `count` stations in a row, at least one.
+pub(crate) fn stations(alloc: Global, count: u32) -> Result<String, AllocError> {
     let mut text = String::from_str(alloc, HEAD)?;
     for number in 1..=count {
         push_sections(&mut text, number, count)?;

@@ -1,9 +1,9 @@
 ghost use Rattle.ilk_strict.specs.IsStrict.{IsStrict};
 
-use crate::examples::{platforms, protected_station, terminus};
-use crate::plants::strict_plant_of;
+use crate::examples::{flank_protected_loop_configuration, platforms, terminus};
+use crate::plants::strict_plant_from_configuration;
 use crate::stations::stations;
-use crate::strict_walks::{EventCounts, walk_repeatedly};
+use crate::strict_walks::{WalkEventCounts, walk_repeatedly_from_start};
 use crate::texts::line;
 use ilk_model::Event;
 use ilk_plant::Plant;
@@ -11,18 +11,17 @@ use ilk_strict::{advance, begin};
 use std::alloc::Global;
 use std::test::Fail;
 
-fn walk_over(alloc: Global, text: &str, times: u32, tries: u32) -> Result<EventCounts, Fail> {
-    let plant = strict_plant_of(alloc, text)?;
-    walk_repeatedly(alloc, &plant, times, tries)
+fn walk_over(alloc: Global, text: &str, times: u32, tries: u32) -> Result<WalkEventCounts, Fail> {
+    let plant = strict_plant_from_configuration(alloc, text)?;
+    walk_repeatedly_from_start(alloc, &plant, times, tries)
 }
 
-// The same, with a lower bound on the events counted.
 fn keeps_invariant(
     alloc: Global,
     text: &str,
     times: u32,
     tries: u32,
-    least: EventCounts,
+    least: WalkEventCounts,
 ) -> Result<(), Fail> {
     let counts = walk_over(alloc, text, times, tries)?;
     if counts.has(least) {
@@ -32,8 +31,8 @@ fn keeps_invariant(
     }
 }
 
-fn least(events: u32, heads: u32, releases: u32) -> EventCounts {
-    EventCounts {
+fn least(events: u32, heads: u32, releases: u32) -> WalkEventCounts {
+    WalkEventCounts {
         events,
         heads,
         releases,
@@ -65,7 +64,7 @@ const ONE_TRAIN: [(Event, bool); 6] = [
 
 #[test]
 fn one_train_on_a_line(rt: HostRuntime) -> Result<(), Fail> {
-    let plant = strict_plant_of(rt.alloc(), line())?;
+    let plant = strict_plant_from_configuration(rt.alloc(), line())?;
     answers(rt.alloc(), &plant, &ONE_TRAIN)
 }
 
@@ -84,7 +83,7 @@ fn platforms_keep_the_invariant(rt: HostRuntime) -> Result<(), Fail> {
 fn a_protected_station_keeps_the_invariant(rt: HostRuntime) -> Result<(), Fail> {
     keeps_invariant(
         rt.alloc(),
-        protected_station(),
+        flank_protected_loop_configuration(),
         100,
         1000,
         least(4000, 150, 30),
@@ -101,7 +100,7 @@ fn stations_keep_invariant(
     count: u32,
     times: u32,
     tries: u32,
-    least: EventCounts,
+    least: WalkEventCounts,
 ) -> Result<(), Fail> {
     let text = stations(alloc, count)?;
     keeps_invariant(alloc, text.as_str(), times, tries, least)

@@ -12,19 +12,19 @@ use ilk_strict::{advance, begin};
 use std::alloc::Global;
 use std::test::Fail;
 
-/// The number of events that were enabled, and of two kinds that come late in a train's journey.
+/// Counts of the events of a walk: of all, and of two kinds that come late in a train's journey.
 #[derive(Clone, Copy, Drop)]
-pub struct EventCounts {
+pub(crate) struct WalkEventCounts {
     pub events: u32,
-    /// Those by which a train's head came to a section.
+    /// The events by which a train's head came to a section.
     pub heads: u32,
-    /// Those by which a section of a path was released.
+    /// The events by which a route released a section.
     pub releases: u32,
 }
 
-impl EventCounts {
-    /// Returns whether no count is less than in `least`.
-    pub fn has(&self, least: EventCounts) -> bool {
+impl WalkEventCounts {
+    /// Returns whether each count is at least that in `least`.
+    pub fn has(&self, least: WalkEventCounts) -> bool {
         self.events >= least.events && self.heads >= least.heads && self.releases >= least.releases
     }
 
@@ -56,7 +56,7 @@ fn try_event(
     plant: &Plant,
     s: &mut State,
     event: Event,
-    counts: &mut EventCounts,
+    counts: &mut WalkEventCounts,
 ) -> Result<(), Fail>
     requires strict { IsStrict plant.now }
     requires meets { Meets plant.now s.old }
@@ -96,7 +96,7 @@ fn walk_from_start(
     plant: &Plant,
     first: u64,
     tries: u32,
-    counts: &mut EventCounts,
+    counts: &mut WalkEventCounts,
 ) -> Result<u64, Fail>
     requires { IsStrict plant.now }
 {
@@ -109,17 +109,18 @@ fn walk_from_start(
     Ok(number)
 }
 
-/// Makes `times` walks of `tries` events each, every one from the initial state: after a while
-/// trains block each other, and nothing moves.
-pub fn walk_repeatedly(
+/// Makes `times` pseudo-random walks of `tries` events each from the initial state, and counts the
+/// enabled events. Fails if a state has a hazard or breaks a family. Short walks are better than a
+/// long one, since trains block each other after a while.
+pub(crate) fn walk_repeatedly_from_start(
     alloc: Global,
     plant: &Plant,
     times: u32,
     tries: u32,
-) -> Result<EventCounts, Fail>
+) -> Result<WalkEventCounts, Fail>
     requires { IsStrict plant.now }
 {
-    let mut counts = EventCounts {
+    let mut counts = WalkEventCounts {
         events: 0,
         heads: 0,
         releases: 0,

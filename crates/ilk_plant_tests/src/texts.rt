@@ -1,8 +1,8 @@
-//! The plants of the tests, as configurations. Each is in its own function and proved once: a long
-//! text makes a function's proof long.
+//! Configurations of the tests' plants. Each is in its own function and proved once: a long text
+//! makes a function's proof long.
 
-/// Two sections without boards and routes.
-pub fn line_without_boards() -> &'static str {
+/// Returns the configuration of two sections without boards and routes.
+pub(crate) fn two_sections_without_boards() -> &'static str {
     r#"{"version":1,
  "sections":[
   {"name":"a","kind":"linear","down":null,"up":"b","board_down":null,"board_up":null},
@@ -10,8 +10,8 @@ pub fn line_without_boards() -> &'static str {
  "routes":[]}"#
 }
 
-/// Two sections with a route each way.
-pub fn line() -> &'static str {
+/// Returns the configuration of two sections with a route each way.
+pub(crate) fn line() -> &'static str {
     r#"{"version":1,
  "sections":[
   {"name":"a","kind":"linear","down":null,"up":"b","board_down":null,"board_up":"m1"},
@@ -21,8 +21,9 @@ pub fn line() -> &'static str {
   {"name":"r2","source":"m2","destination":null,"path":["a"],"overlap":[],"points":[],"conflicts":[]}]}"#
 }
 
-/// Three sections whose only route ends in the middle, without a board.
-pub fn route_without_end_board() -> &'static str {
+/// Returns the configuration of three sections whose only route ends in the middle, without a
+/// board.
+pub(crate) fn route_ending_without_board() -> &'static str {
     r#"{"version":1,
  "sections":[
   {"name":"a","kind":"linear","down":null,"up":"b","board_down":null,"board_up":"m1"},
@@ -32,9 +33,9 @@ pub fn route_without_end_board() -> &'static str {
   {"name":"r1","source":"m1","destination":null,"path":["b"],"overlap":[],"points":[],"conflicts":[]}]}"#
 }
 
-/// A passing loop with eight routes. The board m1 protects the route r3, and the point p2 the route
-/// r8.
-pub fn station() -> &'static str {
+/// Returns the configuration of a passing loop with eight routes. The board m1 protects the route
+/// r3, and the point p2 the route r8.
+pub(crate) fn station() -> &'static str {
     r#"{"version":2,
  "sections":[
   {"name":"b1","kind":"linear","down":null,"up":"p1","board_down":null,"board_up":"m1"},

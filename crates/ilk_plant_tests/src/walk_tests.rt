@@ -1,7 +1,7 @@
 use crate::changes::Change::{self, Open, Point, Train};
 use crate::changes::start_with_changes;
-use crate::plants::plant_of;
-use crate::texts::{line, line_without_boards, route_without_end_board, station};
+use crate::plants::plant_from_configuration;
+use crate::texts::{line, route_ending_without_board, station, two_sections_without_boards};
 use crate::walks::Comparison;
 use ilk_plant::Dir::{Down, Up};
 use ilk_plant::Lie::Plus as AtPlus;
@@ -15,13 +15,13 @@ const MANY: u32 = 400;
 
 // Compares all states of a line; some have a hazard if its table lets trains meet.
 fn all_states(alloc: Global, text: &str, is_unsafe: bool) -> Result<(), Fail> {
-    let plant = plant_of(alloc, text)?;
+    let plant = plant_from_configuration(alloc, text)?;
     all_states_on(alloc, &plant, is_unsafe)
 }
 
 fn all_states_on(alloc: Global, plant: &Plant, is_unsafe: bool) -> Result<(), Fail> {
     let compared = Comparison::of(alloc, plant)?;
-    let tally = compared.go_breadth_first(alloc, MANY)?;
+    let tally = compared.compare_breadth_first(alloc, MANY)?;
     if tally.states >= u64::from(MANY) || (tally.hazards > 0) != is_unsafe {
         return Err(Fail::new("how many states there are"));
     }
@@ -30,14 +30,14 @@ fn all_states_on(alloc: Global, plant: &Plant, is_unsafe: bool) -> Result<(), Fa
 
 #[test]
 fn all_states_of_lines(rt: HostRuntime) -> Result<(), Fail> {
-    all_states(rt.alloc(), line_without_boards(), true)?;
+    all_states(rt.alloc(), two_sections_without_boards(), true)?;
     all_states(rt.alloc(), line(), false)?;
-    all_states(rt.alloc(), route_without_end_board(), true)
+    all_states(rt.alloc(), route_ending_without_board(), true)
 }
 
 // Compares some states, from the initial state with these changes.
 fn some_states(alloc: Global, changes: &[Change], is_unsafe: bool) -> Result<(), Fail> {
-    let plant = plant_of(alloc, station())?;
+    let plant = plant_from_configuration(alloc, station())?;
     some_states_on(alloc, &plant, changes, is_unsafe)
 }
 
@@ -49,7 +49,7 @@ fn some_states_on(
 ) -> Result<(), Fail> {
     let compared = Comparison::of(alloc, plant)?;
     let first = start_with_changes(alloc, plant, changes)?;
-    let tally = compared.walk_randomly(alloc, &first, 100)?;
+    let tally = compared.compare_along_random_walk(alloc, &first, 100)?;
     if (tally.hazards > 0) != is_unsafe {
         return Err(Fail::new("whether there are hazards"));
     }

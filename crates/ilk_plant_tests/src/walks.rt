@@ -1,6 +1,6 @@
-use crate::forms::{PlantForms, compare_forms, forms_of, is_hazardous};
-use crate::plants::{events, image_of, state_after};
-use crate::rules::compare_events;
+use crate::forms::{PlantForms, compare_forms_with_state, forms_of, is_hazardous};
+use crate::plants::{events, image_of, state_after_event};
+use crate::rules::compare_system_with_events;
 use ilk_behave::behaviour;
 use ilk_ir::{System, Values};
 use ilk_model::{Event, start};
@@ -8,24 +8,24 @@ use ilk_plant::{Plant, State};
 use std::alloc::Global;
 use std::test::Fail;
 
-/// A plant, with the parts that are compared at each state.
+/// A plant with its system, its forms and its events, to be compared at each state.
 #[derive(Drop)]
-pub struct Comparison<'a> {
+pub(crate) struct Comparison<'a> {
     plant: &'a Plant,
     forms: PlantForms,
     system: System,
     events: Vec<Event>,
 }
 
-/// The number of states compared, and of those with a hazard.
+/// The number of states compared, and how many of them have a hazard.
 #[derive(Clone, Copy, Drop)]
-pub struct Tally {
+pub(crate) struct Tally {
     pub states: u64,
     pub hazards: u64,
 }
 
 impl<'a> Comparison<'a> {
-    /// Creates the parts to compare for a plant.
+    /// Creates the system, forms and events of `plant`.
     pub fn of(alloc: Global, plant: &'a Plant) -> Result<Comparison<'a>, Fail> {
         Ok(Comparison {
             plant,
@@ -37,11 +37,11 @@ impl<'a> Comparison<'a> {
 
     // Compares the forms with a state and, if it has no hazard, the rules with the events.
     fn compare(&self, alloc: Global, s: &State) -> Result<(), Fail> {
-        compare_forms(alloc, self.plant, &self.forms, s)?;
+        compare_forms_with_state(alloc, self.plant, &self.forms, s)?;
         if is_hazardous(self.plant, s) {
             return Ok(());
         }
-        compare_events(alloc, self.plant, &self.system, self.events.as_slice(), s)
+        compare_system_with_events(alloc, self.plant, &self.system, self.events.as_slice(), s)
     }
 
     // Returns the states after each enabled event; none after a hazard.
@@ -51,7 +51,7 @@ impl<'a> Comparison<'a> {
             return Ok(nexts);
         }
         for event in self.events.as_slice() {
-            match state_after(alloc, self.plant, s, *event)? {
+            match state_after_event(alloc, self.plant, s, *event)? {
                 None => {}
                 Some(next) => nexts.push(next)?,
             }
@@ -68,8 +68,9 @@ impl<'a> Comparison<'a> {
         Ok(())
     }
 
-    /// Compares the first `bound` states, ordered by the number of events to them.
-    pub fn go_breadth_first(&self, alloc: Global, bound: u32) -> Result<Tally, Fail> {
+    /// Compares the first `bound` states in breadth-first order from the initial state. Fails if
+    /// one doesn't agree.
+    pub fn compare_breadth_first(&self, alloc: Global, bound: u32) -> Result<Tally, Fail> {
         let mut tally = Tally {
             states: 0,
             hazards: 0,
@@ -89,9 +90,14 @@ impl<'a> Comparison<'a> {
         Ok(tally)
     }
 
-    /// Compares the states of a pseudo-random walk of `steps` steps from `first`. A state without
-    /// successor sends it back to `first`.
-    pub fn walk_randomly(&self, alloc: Global, first: &State, steps: u32) -> Result<Tally, Fail> {
+    /// Compares the states of a pseudo-random walk of `steps` steps from state `first`. A state
+    /// without successor sends the walk back to `first`. Fails if a state doesn't agree.
+    pub fn compare_along_random_walk(
+        &self,
+        alloc: Global,
+        first: &State,
+        steps: u32,
+    ) -> Result<Tally, Fail> {
         let mut tally = Tally {
             states: 0,
             hazards: 0,
@@ -110,8 +116,8 @@ impl<'a> Comparison<'a> {
     }
 }
 
-/// Returns the next pseudo-random number.
-pub fn next_random(number: u64) -> u64 {
+/// Returns the pseudo-random number that follows `number`.
+pub(crate) fn next_random(number: u64) -> u64 {
     number
         .wrapping_mul(6364136223846793005)
         .wrapping_add(1442695040888963407)

@@ -1,6 +1,8 @@
 //! The program over sources and sinks that fail: an answer comes if memory suffices, and each fault
 //! has its status.
-use crate::runs::{Asked, Object, RunOutcome, SinkPieceSizes, run_with_fault};
+use crate::runs::{
+    Asked, ExtraBytesPerSinkCall, Object, StatusReportAndCertificate, run_with_fault,
+};
 use ilk_top::Status;
 use std::alloc::{AllocError, Global};
 use std::test::Fail;
@@ -27,7 +29,11 @@ fn is_begun(bytes: &[u8], whole: &[u8]) -> bool {
 }
 
 // Returns whether this is what a failed call of the object leaves.
-fn is_cut_off(left: &RunOutcome, whole: &RunOutcome, failing: Object) -> bool {
+fn is_cut_off(
+    left: &StatusReportAndCertificate,
+    whole: &StatusReportAndCertificate,
+    failing: Object,
+) -> bool {
     let (out, cert) = (left.out.bytes(), left.cert.bytes());
     match failing {
         Object::Conf | Object::Extra => {
@@ -46,7 +52,7 @@ fn is_cut_off(left: &RunOutcome, whole: &RunOutcome, failing: Object) -> bool {
     }
 }
 
-fn is_whole(left: &RunOutcome, whole: &RunOutcome) -> bool {
+fn is_whole(left: &StatusReportAndCertificate, whole: &StatusReportAndCertificate) -> bool {
     left.status == whole.status
         && left.out.bytes() == whole.out.bytes()
         && left.cert.bytes() == whole.cert.bytes()
@@ -57,8 +63,8 @@ fn is_whole(left: &RunOutcome, whole: &RunOutcome) -> bool {
 fn failing_calls(
     alloc: Global,
     asked: Asked,
-    whole: &RunOutcome,
-    more: SinkPieceSizes,
+    whole: &StatusReportAndCertificate,
+    more: ExtraBytesPerSinkCall,
     failing: Object,
 ) -> Result<Option<u64>, AllocError> {
     for number in 1..ENOUGH {
@@ -84,13 +90,13 @@ struct Wanted<'a> {
 
 // Returns whether the answer is the expected one, and each failing call leaves what it has to.
 fn each_call_fails(alloc: Global, asked: Asked, wanted: Wanted) -> Result<bool, AllocError> {
-    let at_once = SinkPieceSizes {
+    let at_once = ExtraBytesPerSinkCall {
         out: usize::MAX,
         cert: usize::MAX,
     };
     let whole = run_with_fault(alloc, asked, at_once, Object::Conf, 0)?;
     let (out, cert) = (whole.out.bytes().len(), whole.cert.bytes().len());
-    let more = SinkPieceSizes {
+    let more = ExtraBytesPerSinkCall {
         out: out / CALLS,
         cert: cert / CALLS,
     };
@@ -126,14 +132,13 @@ fn fails_over(
     each_call_fails(alloc, asked, wanted)
 }
 
-// The same for `audit`, over the certificate of `verify`.
 fn audit_fails(alloc: Global, line: &str) -> Result<bool, AllocError> {
     let verify = Asked {
         line: "irv verify --cert c",
         conf: LINE_WITH_BOARDS,
         extra: &[],
     };
-    let at_once = SinkPieceSizes {
+    let at_once = ExtraBytesPerSinkCall {
         out: usize::MAX,
         cert: usize::MAX,
     };
@@ -149,7 +154,6 @@ fn audit_fails(alloc: Global, line: &str) -> Result<bool, AllocError> {
     )
 }
 
-// The same over the line with boards.
 fn line_fails(
     alloc: Global,
     line: &str,

@@ -28,26 +28,26 @@ impl Sink for FewSink {
     }
 }
 
-/// A source or sink of `run`.
+/// A source of the program (configuration, extra input) or a sink (report, certificate).
 #[derive(Clone, Copy, Debug, PartialEq, Eq)]
-pub enum Object {
+pub(crate) enum Object {
     Conf,
     Extra,
     Out,
     Cert,
 }
 
-/// The command line and the bytes of the sources.
+/// The input of a run: the command line, the configuration and the extra bytes.
 #[derive(Clone, Copy)]
-pub struct Asked<'a> {
+pub(crate) struct Asked<'a> {
     pub line: &'a str,
     pub conf: &'a str,
     pub extra: &'a [u8],
 }
 
-/// The result of a run: its status, report and certificate.
+/// The result of a run: its exit status, its report and its certificate.
 #[derive(Drop)]
-pub struct RunOutcome {
+pub(crate) struct StatusReportAndCertificate {
     pub status: Status,
     pub out: MemSink,
     pub cert: MemSink,
@@ -71,21 +71,22 @@ fn call_of(object: Object, failing: Object, number: u64) -> u64 {
     if object == failing { number } else { 0 }
 }
 
-/// The number of bytes, beyond the first, that each sink takes in a call.
+/// The greatest number of bytes, beyond the first, that each sink takes in one call.
 #[derive(Clone, Copy)]
-pub struct SinkPieceSizes {
+pub(crate) struct ExtraBytesPerSinkCall {
     pub out: usize,
     pub cert: usize,
 }
 
-/// Runs the program; call `number` of the object `failing` fails.
-pub fn run_with_fault(
+/// Runs the program on `asked`, and returns its result. Call `number` of the source or sink
+/// `failing` fails. Each sink takes at most `more` bytes beyond the first in a call.
+pub(crate) fn run_with_fault(
     alloc: Global,
     asked: Asked,
-    more: SinkPieceSizes,
+    more: ExtraBytesPerSinkCall,
     failing: Object,
     number: u64,
-) -> Result<RunOutcome, AllocError> {
+) -> Result<StatusReportAndCertificate, AllocError> {
     let words = words(alloc, asked.line)?;
     let conf = call_of(Object::Conf, failing, number);
     let extra = call_of(Object::Extra, failing, number);
@@ -102,7 +103,7 @@ pub fn run_with_fault(
         more: more.cert,
     };
     let status = run(alloc, &words, &mut conf, &mut extra, &mut out, &mut cert);
-    Ok(RunOutcome {
+    Ok(StatusReportAndCertificate {
         status,
         out: out.sink,
         cert: cert.sink,

@@ -4,35 +4,35 @@ use Rattle.ilk_ir.specs.Tree.{tree_holds}
 use Rattle.ilk_plant.specs.Plant.{PlantLists}
 use Rattle.ilk_plant.specs.declared.network.Dir.TheVariants.{Down}
 use Rattle.ilk_plant.specs.declared.network.Section.TheVariants.{Linear, Point}
-use Rattle.ilk_motion.specs.TwoSections.{two_sections}
+use Rattle.ilk_motion.specs.TwoSections.{two_section_plant}
 use Rattle.ilk_props.specs.HazardForm.{hazard_tree}
 use Rattle.ilk_props.specs.StartForm.{start_tree}
 use Rattle.ilk_props.specs.WellformedForm.{wellformed_tree}
 
 -- Two sections: the values are two locks and two occupancies.
 
-over_both : tree_holds (0 ∷ 0 ∷ 3 ∷ 2 ∷ []) (wellformed_tree two_sections) ≡ true
+over_both : tree_holds (0 ∷ 0 ∷ 3 ∷ 2 ∷ []) (wellformed_tree two_section_plant) ≡ true
 over_both = refl
 
-tail_without_head : tree_holds (0 ∷ 0 ∷ 3 ∷ 0 ∷ []) (wellformed_tree two_sections) ≡ false
+tail_without_head : tree_holds (0 ∷ 0 ∷ 3 ∷ 0 ∷ []) (wellformed_tree two_section_plant) ≡ false
 tail_without_head = refl
 
-heads_meet : tree_holds (0 ∷ 0 ∷ 3 ∷ 6 ∷ []) (wellformed_tree two_sections) ≡ false
+heads_meet : tree_holds (0 ∷ 0 ∷ 3 ∷ 6 ∷ []) (wellformed_tree two_section_plant) ≡ false
 heads_meet = refl
 
-crash_is_hazard : tree_holds (0 ∷ 0 ∷ 3 ∷ 9 ∷ []) (hazard_tree two_sections) ≡ true
+crash_is_hazard : tree_holds (0 ∷ 0 ∷ 3 ∷ 9 ∷ []) (hazard_tree two_section_plant) ≡ true
 crash_is_hazard = refl
 
-crash_is_no_image : tree_holds (0 ∷ 0 ∷ 3 ∷ 9 ∷ []) (wellformed_tree two_sections) ≡ false
+crash_is_no_image : tree_holds (0 ∷ 0 ∷ 3 ∷ 9 ∷ []) (wellformed_tree two_section_plant) ≡ false
 crash_is_no_image = refl
 
-at_start : tree_holds (0 ∷ 0 ∷ 0 ∷ 0 ∷ []) (start_tree two_sections) ≡ true
+at_start : tree_holds (0 ∷ 0 ∷ 0 ∷ 0 ∷ []) (start_tree two_section_plant) ≡ true
 at_start = refl
 
-start_is_image : tree_holds (0 ∷ 0 ∷ 0 ∷ 0 ∷ []) (wellformed_tree two_sections) ≡ true
+start_is_image : tree_holds (0 ∷ 0 ∷ 0 ∷ 0 ∷ []) (wellformed_tree two_section_plant) ≡ true
 start_is_image = refl
 
-after_start : tree_holds (0 ∷ 0 ∷ 4 ∷ 0 ∷ []) (start_tree two_sections) ≡ false
+after_start : tree_holds (0 ∷ 0 ∷ 4 ∷ 0 ∷ []) (start_tree two_section_plant) ≡ false
 after_start = refl
 
 -- Sections a and b lead up to the point c, whose stem leads to d. The values are the point's

@@ -27,7 +27,7 @@ use Rattle.ilk_layout.specs.Conditions.{section_point_is_detected}
 use Rattle.ilk_layout.proofs.Valid.{section_point_is_detected-valid, occupancy_is-valid, train_at-valid, value-valid}
 use Rattle.ilk_props.specs.HazardForm.{hazard_in_section, hazard_tree}
 use Rattle.ilk_props.specs.StartForm.{start_tree}
-use Rattle.ilk_props.specs.WellformedForm.{continues_beyond, joined_by_train, leads_to_neighbour, section_demands, section_leads, train_is_whole, wellformed_tree}
+use Rattle.ilk_props.specs.WellformedForm.{continues_beyond, joined_by_train, leads_to_neighbour, section_demands, section_leads, train_continues_in_neighbour, wellformed_tree}
 use Rattle.ilk_props.proofs.StartHolds.{start-in_ranges}
 
 range-at_value : (values ranges : List ℕ) (i c : ℕ) → in_ranges values ranges ≡ true → slice_get values i ≡ Some c → (range : ℕ) × (slice_get ranges i ≡ Some range) × (c < range)
@@ -94,7 +94,7 @@ module _ (p : PlantLists) (plant : IsPlant p) where
       ∙ list_all-map (tree_valid (ranges_of_plant p)) (joined_by_train p x d side) (next_to p x side)
       ∙ all-pass (λ y. tree_valid (ranges_of_plant p) (joined_by_train p x d side y)) (next_to p x side) (λ i y at. joined-valid x d side y (plant.neighbours x y side (section-from (next_to p x side) i y at)))
 
-  whole-valid : (x : ℕ) (d side : Dir) → x < length p.sections → tree_valid (ranges_of_plant p) (train_is_whole p x d side) ≡ true
+  whole-valid : (x : ℕ) (d side : Dir) → x < length p.sections → tree_valid (ranges_of_plant p) (train_continues_in_neighbour p x d side) ≡ true
   whole-valid x d side within = and_from _ _ (continues_beyond-valid x d side within) (and_from _ _ (next-valid x d side) refl)
 
   demands-valid : (x : ℕ) → x < length p.sections → list_all (tree_valid (ranges_of_plant p)) (section_demands p x) ≡ true

@@ -1,4 +1,3 @@
--- The form of hazards holds for a state's image if and only if the state has a hazard.
 use Rattle.std.proofs.Common.{◌≡◌, ℕ, Bool, true, false, ◌==◌, Option, Some, None, List, [], ◌∷◌, find, is_some, length, map, option_map, slice_get, inl, inr, refl, ◌∙◌}
 use Rattle.std.specs.List.{list_any, range_with_len}
 use Rattle.std.proofs.lemmas.Bool.{cases_Bool}
@@ -16,7 +15,7 @@ use Rattle.ilk_plant.specs.declared.state.Train.{Train}
 use Rattle.ilk_model.specs.Hazard.{hazard, is_section_hazardous}
 use Rattle.ilk_motion.specs.Body.{is_last_section}
 use Rattle.ilk_layout.specs.Image.{image_of}
-use Rattle.ilk_layout.specs.Occupancy.{is_first, occupancy_of, occupancy_by_train_if_any}
+use Rattle.ilk_layout.specs.Occupancy.{is_first, occupancy_or_crash, occupancy_by_train_if_any}
 use Rattle.ilk_layout.specs.Values.{occupancy_value}
 use Rattle.ilk_layout.specs.declared.values.Occupancy.TheVariants.{Taken, Crash}
 use Rattle.ilk_layout.proofs.ConditionValues.{occupancy-holds}
@@ -36,7 +35,7 @@ no_crash x (Some t) = by_value t.dir (is_first x t.body) (is_last_section x t.bo
     by_value Down true false = refl
     by_value Down true true = refl
 
-crash-test : (p : PlantLists) (s : State) (x : ℕ) → (occupancy_value (occupancy_of p s x) == 9) ≡ is_section_hazardous p s x
+crash-test : (p : PlantLists) (s : State) (x : ℕ) → (occupancy_value (occupancy_or_crash p s x) == 9) ≡ is_section_hazardous p s x
 crash-test p s x =
     elim (cases_Bool (is_section_hazardous p s x)) [
       | inl hazardous ↦ rw hazardous refl

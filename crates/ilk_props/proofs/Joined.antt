@@ -7,7 +7,7 @@ use Rattle.ilk_base.proofs.ListTests.{list_any-alike}
 use Rattle.ilk_base.proofs.Tested.{list_any-at, list_any-from, list_any-map}
 use Rattle.ilk_ir.specs.Tree.{any_of, no, tree_holds, trees_from_list}
 use Rattle.ilk_ir.proofs.Trees.{any_of-holds}
-use Rattle.ilk_plant.specs.Network.{neighbours_on, has_section}
+use Rattle.ilk_plant.specs.Network.{neighbours_on, contains_section}
 use Rattle.ilk_plant.specs.NetworkRules.{opposite_direction}
 use Rattle.ilk_plant.specs.Once.{numbers_differ}
 use Rattle.ilk_plant.specs.Plant.{IsPlant, PlantLists, next_to}
@@ -52,7 +52,7 @@ only : (b : Bool) → (b || false) ≡ true → b ≡ true
 only true h = refl
 only false h = h
 
-by_leg : (plus minus y : ℕ) (lie : Option Lie) → (minus == plus) ≡ false → has_section y (plus ∷ minus ∷ []) ≡ true → is_some_and lie (same_lie (if plus == y then Plus else Minus)) ≡ is_some_and (lie >>= detected_leg plus minus) (is_at y)
+by_leg : (plus minus y : ℕ) (lie : Option Lie) → (minus == plus) ≡ false → contains_section y (plus ∷ minus ∷ []) ≡ true → is_some_and lie (same_lie (if plus == y then Plus else Minus)) ≡ is_some_and (lie >>= detected_leg plus minus) (is_at y)
 by_leg plus minus y lie differ has =
     elim (cases_Bool (plus == y)) [
       | inl here ↦
@@ -65,7 +65,7 @@ by_leg plus minus y lie differ has =
 
 section_leads-holds : (p : PlantLists) (values : List ℕ) (x : ℕ) (side : Dir) (y : ℕ) (section : Section) →
     ((stem plus minus : ℕ) (faces : Dir) → section ≡ Point stem plus minus faces → (minus == plus) ≡ false) →
-    has_section y (neighbours_on section side) ≡ true →
+    contains_section y (neighbours_on section side) ≡ true →
     tree_holds values (section_leads p x side y section)
     ≡ is_some_and (section_led_to section side (detected_in_values p values x)) (is_at y)
 section_leads-holds p values x Down y (Linear None up b c) differ has = absurd (false≢true has)
@@ -80,20 +80,19 @@ section_leads-holds p values x Down y (Point stem plus minus Up) differ has = sy
 section_leads-holds p values x Up y (Point stem plus minus Down) differ has = sym (only (stem == y) has)
 
 pub leads_to_neighbour-holds : (p : PlantLists) → IsPlant p → (values : List ℕ) (x : ℕ) (side : Dir) (y : ℕ) →
-    has_section y (next_to p x side) ≡ true →
+    contains_section y (next_to p x side) ≡ true →
     tree_holds values (leads_to_neighbour p x side y) ≡ is_some_and (section_ahead p (detected_in_values p values) x side) (is_at y)
 leads_to_neighbour-holds p plant values x side y has = by_section (slice_get p.sections x) refl
   where
     by_section : (o : Option Section) → slice_get p.sections x ≡ o → tree_holds values (leads_to_neighbour p x side y) ≡ is_some_and (section_ahead p (detected_in_values p values) x side) (is_at y)
     by_section None e = let none : false ≡ true = rw e at has in absurd (false≢true none)
     by_section (Some section) e =
-        let there : has_section y (neighbours_on section side) ≡ true = rw e at has in
+        let there : contains_section y (neighbours_on section side) ≡ true = rw e at has in
         ap (λ o. tree_holds values (unwrap_or (option_map (section_leads p x side y) o) no)) e
         ∙ section_leads-holds p values x side y section (λ stem plus minus faces is. legs-apart p plant x stem plus minus faces (e ∙ ap Some is)) there
         ∙ sym (ap (λ o. is_some_and (o >>= (λ k. section_led_to k side (detected_in_values p values x))) (is_at y)) e)
 
--- The test passes for some item if and only if it passes for `z`.
-only_at : (test : ℕ → Bool) (z : ℕ) (ys : List ℕ) → has_section z ys ≡ true → list_any (λ y. (z == y) && test y) ys ≡ test z
+only_at : (test : ℕ → Bool) (z : ℕ) (ys : List ℕ) → contains_section z ys ≡ true → list_any (λ y. (z == y) && test y) ys ≡ test z
 only_at test z ys has = elim (cases_Bool (test z)) [
   | inl passes ↦
       (let found = list_any-at (λ y. y == z) ys has in
@@ -132,13 +131,13 @@ module _ (p : PlantLists) (plant : IsPlant p) (values : List ℕ) (x : ℕ) (d s
   abbrev leads_back : ℕ → Bool
   leads_back y = is_some_and (section_ahead p (detected_in_values p values) y back) (is_at x) && (there y && true)
 
-  other_side : (side : Dir) (x y : ℕ) → has_section y (next_to p x side) ≡ true → has_section x (next_to p y (opposite_direction side)) ≡ true
+  other_side : (side : Dir) (x y : ℕ) → contains_section y (next_to p x side) ≡ true → contains_section x (next_to p y (opposite_direction side)) ≡ true
   other_side Up x y has = (plant.neighbours_back x y).0 has
   other_side Down x y has = (plant.neighbours_back y x).1 has
 
   each : (i y : ℕ) → slice_get (next_to p x side) i ≡ Some y → tree_holds values (joined_by_train p x d side y) ≡ (is_some_and (section_ahead p (detected_in_values p values) x side) (is_at y) && leads_back y)
   each i y at =
-      let has : has_section y (next_to p x side) ≡ true = list_any-from (λ z. z == y) (next_to p x side) i y at (eq-eqb y y refl) in
+      let has : contains_section y (next_to p x side) ≡ true = list_any-from (λ z. z == y) (next_to p x side) i y at (eq-eqb y y refl) in
       let one = leads_to_neighbour-holds p plant values x side y has in
       let two = leads_to_neighbour-holds p plant values y back x (other_side side x y has) in
       let three = goes_on-holds p values y d back in

@@ -1,4 +1,3 @@
--- Lists of forms after forms were added.
 use Rattle.std.proofs.Common.{◌≡◌, ℕ, zero, suc, ◌+◌, ◌≤◌, Some, List, [], ◌∷◌, ◌++◌, drop, length, map, slice_get, refl, sym, ◌∙◌, ap, arith, append_assoc}
 use Rattle.std.specs.List.{enumerate_from, range_with_len}
 use Rattle.std.specs.Option.{option_to_list}

@@ -1,4 +1,3 @@
--- The form of the start holds if and only if the values are the image of the start.
 use Rattle.std.proofs.Common.{◌≡◌, ◌↔◌, ℕ, zero, suc, ◌+◌, ◌^◌, ◌<◌, true, ◌==◌, Some, List, [], ◌∷◌, IsTrue, length, map, slice_get, inl, inr, refl, sym, ◌∙◌, ap, arith}
 use Rattle.std.specs.List.{enumerate_from, list_all}
 use Rattle.std.proofs.lemmas.Bool.{and_parts, eq-eqb, eqb-true}
@@ -70,7 +69,6 @@ start-holds p values h = (to, from)
         let value : slice_get values (0 + i) ≡ Some made.0 = ap (slice_get values) here ∙ ap (λ l. slice_get l i) same ∙ made.1 in
         ap (tree_holds values) (sym made.2) ∙ ap (λ o. is_some_and o (λ v. v == made.0)) value ∙ eq-eqb made.0 made.0 refl))
 
--- Variable numbers fit in 32 bits.
 pub few_variables : (p : PlantLists) (s : State) (values : List ℕ) → IsPlant p → s ≡ start p → values ≡ image_of p s → length values < 2 ^ 32
 few_variables p s values plant begun same =
     let one : length values ≡ length (image_of p (start p)) = ap length (same ∙ ap (image_of p) begun) in

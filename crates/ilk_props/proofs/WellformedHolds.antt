@@ -1,4 +1,3 @@
--- The form of well-formed values holds if and only if they are well-formed.
 use Rattle.std.proofs.Common.{◌≡◌, ◌↔◌, ℕ, zero, suc, ◌<◌, Bool, true, false, not, ◌&&◌, ◌||◌, ◌==◌, Option, Some, None, List, [], ◌∷◌, IsTrue, length, map, nat_lt, replicate, slice_get, refl, sym, ◌∙◌, ap, arith}
 use Rattle.std.specs.List.{flat_map, list_all, range_with_len}
 use Rattle.std.proofs.lemmas.Bool.{and_parts}
@@ -32,7 +31,7 @@ use Rattle.ilk_layout.specs.Conditions.{section_point_is_detected}
 use Rattle.ilk_layout.proofs.Valid.{length-points_ranges, length-route_ranges}
 use Rattle.ilk_layout.proofs.ConditionValues.{moving-test}
 use Rattle.ilk_props.specs.HazardForm.{hazard_in_section}
-use Rattle.ilk_props.specs.WellformedForm.{no_moving_under_train, joined_by_train, section_demands, train_is_whole, wellformed_tree}
+use Rattle.ilk_props.specs.WellformedForm.{no_moving_under_train, joined_by_train, section_demands, train_continues_in_neighbour, wellformed_tree}
 use Rattle.ilk_props.proofs.Leaves.{goes_on, goes_on-holds, section_point_is_detected-holds, occupancy_is-holds, same_lie, same_occupancy}
 use Rattle.ilk_props.proofs.Joined.{next-holds}
 
@@ -140,7 +139,7 @@ module _ (p : PlantLists) (plant : IsPlant p) (values : List ℕ) where
       ap (λ (b : Bool). not (not b) || (not (tree_holds values (section_point_is_detected p x Moving)) || false)) (occupancy_is-holds p values x Vacant ∙ ap (λ o. is_some_and o (same_occupancy Vacant)) at)
       ∙ ap (λ (b : Bool). not (not (occupancy_value o == 0)) || (not b || false)) (moves-holds x)
 
-  whole-holds : (x : ℕ) (d side : Dir) (o : Occupancy) → occupancy_in_values p values x ≡ Some o → tree_holds values (train_is_whole p x d side) ≡ (not (goes_on d side o) || (next x d side || false))
+  whole-holds : (x : ℕ) (d side : Dir) (o : Occupancy) → occupancy_in_values p values x ≡ Some o → tree_holds values (train_continues_in_neighbour p x d side) ≡ (not (goes_on d side o) || (next x d side || false))
   whole-holds x d side o at =
       ap (λ (b : Bool). not b || (tree_holds values (any_of (trees_from_list (map (joined_by_train p x d side) (next_to p x side)))) || false)) (goes_on-holds p values x d side ∙ ap (λ o. is_some_and o (goes_on d side)) at)
       ∙ ap (λ (b : Bool). not (goes_on d side o) || (b || false)) (next-holds p plant values x d side)
@@ -159,7 +158,7 @@ module _ (p : PlantLists) (plant : IsPlant p) (values : List ℕ) where
       ∙ sym (ap (occupancy_is_consistent p (detected_in_values p values) (occupancy_in_values p values) x) at)
     where
       whole : Dir → Dir → Bool
-      whole d side = tree_holds values (train_is_whole p x d side)
+      whole d side = tree_holds values (train_continues_in_neighbour p x d side)
 
       goes : Dir → Dir → Bool
       goes d side = not (goes_on d side o) || (next x d side || false)

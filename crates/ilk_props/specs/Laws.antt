@@ -1,4 +1,4 @@
--- The meaning of the forms.
+-- The meaning of the three forms over the values of a plant's variables.
 use Rattle.std.specs.Prelude.{◌≡◌, ◌↔◌, ℕ, List, IsTrue, is_some}
 use Rattle.ilk_ir.specs.System.{in_ranges}
 use Rattle.ilk_ir.specs.Tree.{Tree, tree_holds, tree_valid}
@@ -15,27 +15,28 @@ use Rattle.ilk_props.specs.HazardForm.{hazard_tree}
 use Rattle.ilk_props.specs.StartForm.{start_tree}
 use Rattle.ilk_props.specs.WellformedForm.{wellformed_tree}
 
--- Holds if the form uses only the plant's variables, and values within their ranges.
+-- Holds if the form uses only the plant's variables, each with values in its range.
 abbrev pub IsValidOverPlant : PlantLists → Tree → Type 0
 IsValidOverPlant p tree = IsTrue (tree_valid (ranges_of_plant p) tree)
 
--- For the image of a well-formed state, the form of hazards holds if and only if the state has a
+-- Holds if `hazard_tree` is true of the image of a well-formed state exactly if the state has a
 -- hazard.
 abbrev pub HazardTreeIsCorrect : PlantLists → Type 0
 HazardTreeIsCorrect p = (s : State) → HasShape p s → tree_holds (image_of p s) (hazard_tree p) ≡ is_some (hazard p s)
 
--- For values in range, the form of well-formed values holds if and only if they are well-formed.
+-- Holds if `wellformed_tree` is true of values in range exactly if they are well-formed values.
 abbrev pub WellformedTreeIsCorrect : PlantLists → Type 0
 WellformedTreeIsCorrect p =
     (values : List ℕ) → IsTrue (in_ranges values (ranges_of_plant p)) → tree_holds values (wellformed_tree p) ≡ is_wellformed p values
 
--- For values in range, the form of well-formed values holds if and only if they are the image of a
+-- Holds if `wellformed_tree` is true of values in range exactly if they are the image of a
 -- well-formed state without hazard.
-abbrev pub WellformedTreeMeansImage : PlantLists → Type 0
-WellformedTreeMeansImage p =
+abbrev pub WellformedMeansHazardFreeImage : PlantLists → Type 0
+WellformedMeansHazardFreeImage p =
     (values : List ℕ) → IsTrue (in_ranges values (ranges_of_plant p)) → IsTrue (tree_holds values (wellformed_tree p)) ↔ AreImageOfSafeState p values
 
--- For values in range, the form of the start holds if and only if they are the image of the start.
+-- Holds if `start_tree` is true of values in range exactly if they are the image of the initial
+-- state.
 abbrev pub StartTreeIsCorrect : PlantLists → Type 0
 StartTreeIsCorrect p =
     (values : List ℕ) → IsTrue (in_ranges values (ranges_of_plant p)) → IsTrue (tree_holds values (start_tree p)) ↔ (values ≡ image_of p (start p))

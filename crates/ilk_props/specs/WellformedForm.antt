@@ -1,5 +1,5 @@
--- The form of well-formed values, which are the images of well-formed states without hazard: a
--- condition on each section and its neighbours.
+-- The form "the values are the image of a well-formed state without hazard": a condition on each
+-- section and its neighbours.
 use Rattle.std.specs.Prelude.{ℕ, true, false, List, [], ◌∷◌, ◌++◌, ◌==◌, length, map, option_map, slice_get, unwrap_or, if◌then◌else◌}
 use Rattle.std.specs.List.{flat_map, range_with_len}
 use Rattle.ilk_ir.specs.Tree.{Tree, yes, no, all_of, any_of, negation, trees_from_list}
@@ -15,12 +15,12 @@ use Rattle.ilk_layout.specs.declared.values.Occupancy.TheVariants.{Taken}
 use Rattle.ilk_layout.specs.Conditions.{section_point_is_detected, occupancy_is, train_at}
 use Rattle.ilk_props.specs.HazardForm.{hazard_in_section}
 
--- If the first holds, so does the second.
+-- The form "if `condition` holds, so does `consequence`".
 abbrev pub implies : Tree → Tree → Tree
 implies condition consequence = any_of (trees_from_list (negation condition ∷ consequence ∷ []))
 
--- A train in direction `d` is in section `x` and continues beyond it on this side. If `side` is
--- `d`, its head is not at `x`; otherwise its tail is not.
+-- The form "a train in direction `d` is in section `x` and continues beyond it on side `side`". If
+-- `side` is `d`, its head is not at `x`; otherwise its tail is not.
 abbrev pub continues_beyond : PlantLists → ℕ → Dir → Dir → Tree
 continues_beyond p x d side =
     any_of (trees_from_list (
@@ -28,19 +28,20 @@ continues_beyond p x d side =
     ∷ occupancy_is p x (if same_direction side d then Taken d true false else Taken d false true)
     ∷ []))
 
--- Section `x` leads to `y`, its neighbour on this side. If `x` has points whose legs are on this
--- side, they are set for leg `y`.
+-- The form "section `x` leads to `y`, its neighbour on side `side`". A point with its legs on this
+-- side has to be in position for leg `y`.
 abbrev pub section_leads : PlantLists → ℕ → Dir → ℕ → Section → Tree
 section_leads p x side y (Linear down up board_down board_up) = yes
 section_leads p x side y (Point stem plus minus faces) =
     if same_direction faces side then section_point_is_detected p x (if plus == y then Plus else Minus) else yes
 
--- Section number `x` leads to `y`; never holds if `x` does not exist.
+-- The form "section `x` leads to `y`, its neighbour on side `side`"; false if there is no section
+-- `x`.
 abbrev pub leads_to_neighbour : PlantLists → ℕ → Dir → ℕ → Tree
 leads_to_neighbour p x side y = unwrap_or (option_map (section_leads p x side y) (slice_get p.sections x)) no
 
--- `x` and `y`, its neighbour on this side, lead to each other, and `y` has a train in direction `d`
--- that continues to `x`.
+-- The form "`x` and `y`, its neighbour on side `side`, lead to each other, and `y` has a train in
+-- direction `d` that continues to `x`".
 abbrev pub joined_by_train : PlantLists → ℕ → Dir → Dir → ℕ → Tree
 joined_by_train p x d side y =
     all_of (trees_from_list (
@@ -49,27 +50,28 @@ joined_by_train p x d side y =
     ∷ continues_beyond p y d (opposite_direction side)
     ∷ []))
 
--- If a train in direction `d` continues beyond `x` on this side, a neighbour of `x` there has it
--- too.
-abbrev pub train_is_whole : PlantLists → ℕ → Dir → Dir → Tree
-train_is_whole p x d side = implies (continues_beyond p x d side) (any_of (trees_from_list (map (joined_by_train p x d side) (next_to p x side))))
+-- The form "if a train in direction `d` continues beyond `x` on side `side`, a neighbour of `x`
+-- there has it too".
+abbrev pub train_continues_in_neighbour : PlantLists → ℕ → Dir → Dir → Tree
+train_continues_in_neighbour p x d side = implies (continues_beyond p x d side) (any_of (trees_from_list (map (joined_by_train p x d side) (next_to p x side))))
 
--- The point on section `x` is not moving under a train.
+-- The form "the point on section `x` is not moving under a train".
 abbrev pub no_moving_under_train : PlantLists → ℕ → Tree
 no_moving_under_train p x = implies (train_at p x) (negation (section_point_is_detected p x Moving))
 
--- Section `x` has no hazard, and no point moves there under a train.
-abbrev pub own_demands : PlantLists → ℕ → List Tree
-own_demands p x = negation (hazard_in_section p x) ∷ no_moving_under_train p x ∷ []
+-- The forms "section `x` has no hazard" and "no point on `x` is moving under a train".
+abbrev pub no_hazard_or_moving_point : PlantLists → ℕ → List Tree
+no_hazard_or_moving_point p x = negation (hazard_in_section p x) ∷ no_moving_under_train p x ∷ []
 
--- A train in direction `d` at section `x` continues, up and down, to sections that have it too.
-abbrev pub train_demands : PlantLists → ℕ → Dir → List Tree
-train_demands p x d = train_is_whole p x d Up ∷ train_is_whole p x d Down ∷ []
+-- The forms "a train in direction `d` that continues beyond `x` is in a neighbour too", for each
+-- side of `x`.
+abbrev pub train_continues_both_ways : PlantLists → ℕ → Dir → List Tree
+train_continues_both_ways p x d = train_continues_in_neighbour p x d Up ∷ train_continues_in_neighbour p x d Down ∷ []
 
--- All conditions on section `x`.
+-- All conditions on section `x` for values to be well-formed.
 abbrev pub section_demands : PlantLists → ℕ → List Tree
-section_demands p x = own_demands p x ++ (train_demands p x Up ++ train_demands p x Down)
+section_demands p x = no_hazard_or_moving_point p x ++ (train_continues_both_ways p x Up ++ train_continues_both_ways p x Down)
 
--- The conditions on all sections.
+-- The form "the values are well-formed": the conditions on all sections.
 abbrev pub wellformed_tree : PlantLists → Tree
 wellformed_tree p = all_of (trees_from_list (flat_map (section_demands p) (range_with_len 0 (length p.sections))))

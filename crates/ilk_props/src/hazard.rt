@@ -26,14 +26,13 @@ fn some_crash(alloc: Global, plant: &Plant) -> Result<Form, AllocError>
     Ok(Form::Or(sections))
 }
 
-/// Returns the form of hazards: some section's occupancy is `Crash`. Fails only if memory runs out.
+/// Returns the form "some section has a hazard" over the plant's variables: some occupancy is
+/// `Crash`. Fails only if memory runs out.
 pub fn hazard_form(alloc: Global, plant: &Plant) -> Result<Form, AllocError>
     ensures form { IfOk result (λ form. tree_of form ≡ forms.hazard_tree plant.now) }
 
-    // The form is valid over the plant's variables and their ranges.
     ensures valid { IsValidOverPlant plant.now (forms.hazard_tree plant.now) }
 
-    // For the image of a well-formed state, it holds if and only if the state has a hazard.
     ensures holds { HazardTreeIsCorrect plant.now }
 {
     some_crash(alloc, plant)

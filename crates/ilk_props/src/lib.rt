@@ -1,12 +1,11 @@
-//! Three forms over the values of a plant's variables. They state that some section has a hazard,
-//! that the values are the image of a well-formed state without hazard, or that they are the image
-//! of the start.
+//! Three forms over the values of a plant's variables. The first says that some section has a
+//! hazard. The second says that the values are the image of a well-formed state without hazard, the
+//! third that they are that of the initial state.
 //!
-//! `specs/HazardForm`, `specs/WellformedForm` and `specs/StartForm` define the forms as trees, from
-//! the conditions of `ilk_layout`. The contract of each call states the meaning of its form
-//! (`specs/Laws`). For the image of a well-formed state, the first form holds if and only if the
-//! state has a hazard. For values in range, the others hold if and only if the values are such an
-//! image.
+//! `specs/HazardForm`, `specs/WellformedForm` and `specs/StartForm` define the forms as trees. The
+//! contract of each call states the meaning of its form (`specs/Laws`). For the image of a
+//! well-formed state, the first form holds exactly if the state has a hazard. For values in range,
+//! each of the others holds exactly if the values are such an image.
 #![tactic(auto)]
 
 mod hazard;

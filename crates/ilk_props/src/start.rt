@@ -51,15 +51,13 @@ fn all_are_as_at_start(alloc: Global, plant: &Plant) -> Result<Form, AllocError>
     all_are(alloc, &values)
 }
 
-/// Returns the form of the start: each variable has its value in the image of the start. Fails only
-/// if memory runs out.
+/// Returns the form "the values are the image of the initial state" over the plant's variables.
+/// Fails only if memory runs out.
 pub fn start_form(alloc: Global, plant: &Plant) -> Result<Form, AllocError>
     ensures form { IfOk result (λ form. tree_of form ≡ forms.start_tree plant.now) }
 
-    // The form is valid over the plant's variables and their ranges.
     ensures valid { IsValidOverPlant plant.now (forms.start_tree plant.now) }
 
-    // For values in range, it holds if and only if they are the image of the start.
     ensures holds { StartTreeIsCorrect plant.now }
 {
     all_are_as_at_start(alloc, plant)

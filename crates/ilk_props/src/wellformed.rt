@@ -3,7 +3,7 @@ ghost use Rattle.ilk_ir.specs.Form.{tree_of};
 ghost use Rattle.ilk_ir.specs.Tree.{any_of, trees_from_list};
 ghost use Rattle.ilk_plant.specs.NetworkRules.{opposite_direction};
 ghost use Rattle.ilk_plant.specs.Plant.{next_to};
-ghost use Rattle.ilk_props.specs.Laws.{WellformedTreeMeansImage, WellformedTreeIsCorrect, IsValidOverPlant};
+ghost use Rattle.ilk_props.specs.Laws.{WellformedMeansHazardFreeImage, WellformedTreeIsCorrect, IsValidOverPlant};
 ghost use Rattle.ilk_props.specs.WellformedForm as forms;
 
 use crate::hazard::hazard_in_section;
@@ -21,7 +21,6 @@ fn opposite(d: Dir) -> Dir
     }
 }
 
-// Returns the implication from `condition` to `consequence`.
 fn implies(alloc: Global, condition: Form, consequence: Form) -> Result<Form, AllocError>
     ensures { IfOk result
         (λ made. tree_of made ≡ forms.implies (tree_of condition) (tree_of consequence)) }
@@ -32,8 +31,6 @@ fn implies(alloc: Global, condition: Form, consequence: Form) -> Result<Form, Al
     Ok(Form::Or(either))
 }
 
-// Returns the condition that a train in direction `d` is in section `x` and continues beyond it on
-// this side.
 fn goes_on_at(alloc: Global, plant: &Plant, x: u32, d: Dir, side: Dir) -> Result<Form, AllocError>
     requires { x < length plant.now.sections }
     ensures { IfOk result (λ made. tree_of made ≡ forms.continues_beyond plant.now x d side) }
@@ -54,7 +51,6 @@ fn goes_on_at(alloc: Global, plant: &Plant, x: u32, d: Dir, side: Dir) -> Result
     Ok(Form::Or(either))
 }
 
-// Returns the condition that `x` leads to `y`, its neighbour on this side.
 fn leads_by_lie(plant: &Plant, x: u32, side: Dir, y: u32) -> Form
     requires { x < length plant.now.sections }
     ensures { tree_of result ≡ forms.leads_to_neighbour plant.now x side y }
@@ -71,8 +67,6 @@ fn leads_by_lie(plant: &Plant, x: u32, side: Dir, y: u32) -> Form
     }
 }
 
-// Returns the condition that `x` and `y`, its neighbour on this side, lead to each other, and `y`
-// has a train in direction `d` that continues to `x`.
 fn joined_by_train(
     alloc: Global,
     plant: &Plant,
@@ -93,8 +87,6 @@ fn joined_by_train(
     Ok(Form::And(each))
 }
 
-// Adds the condition that neighbour `i` of `x` on this side has the train in direction `d` that is
-// at `x`.
 fn push_neighbour_has_train(
     alloc: Global,
     some: &mut Vec<Form>,
@@ -140,9 +132,7 @@ fn next_has_train(
     Ok(Form::Or(some))
 }
 
-// Returns the condition that a train in direction `d` that continues beyond `x` on this side is
-// also in a neighbour there.
-fn train_is_whole(
+fn train_continues_in_neighbour(
     alloc: Global,
     plant: &Plant,
     x: u32,
@@ -150,14 +140,14 @@ fn train_is_whole(
     side: Dir,
 ) -> Result<Form, AllocError>
     requires { x < length plant.now.sections }
-    ensures { IfOk result (λ made. tree_of made ≡ forms.train_is_whole plant.now x d side) }
+    ensures { IfOk result (λ made. tree_of made ≡
+        forms.train_continues_in_neighbour plant.now x d side) }
 {
     let goes_on = goes_on_at(alloc, plant, x, d, side)?;
     let next = next_has_train(alloc, plant, x, d, side)?;
     implies(alloc, goes_on, next)
 }
 
-// Returns the condition that the point on section `x` is not moving under a train.
 fn no_moving_under_train(alloc: Global, plant: &Plant, x: u32) -> Result<Form, AllocError>
     requires { x < length plant.now.sections }
     ensures { IfOk result (λ made. tree_of made ≡ forms.no_moving_under_train plant.now x) }
@@ -176,7 +166,7 @@ fn push_own_demands(
     requires { x < length plant.now.sections }
     ensures { OnOk result
         (map tree_of demands.new.items
-        ≡ map tree_of demands.old.items ++ forms.own_demands plant.now x) }
+        ≡ map tree_of demands.old.items ++ forms.no_hazard_or_moving_point plant.now x) }
 {
     demands.push(negated(alloc, hazard_in_section(plant, x))?)?;
     demands.push(no_moving_under_train(alloc, plant, x)?)?;
@@ -193,10 +183,10 @@ fn push_train_demands(
     requires { x < length plant.now.sections }
     ensures { OnOk result
         (map tree_of demands.new.items
-        ≡ map tree_of demands.old.items ++ forms.train_demands plant.now x d) }
+        ≡ map tree_of demands.old.items ++ forms.train_continues_both_ways plant.now x d) }
 {
-    demands.push(train_is_whole(alloc, plant, x, d, Dir::Up)?)?;
-    demands.push(train_is_whole(alloc, plant, x, d, Dir::Down)?)?;
+    demands.push(train_continues_in_neighbour(alloc, plant, x, d, Dir::Up)?)?;
+    demands.push(train_continues_in_neighbour(alloc, plant, x, d, Dir::Down)?)?;
     Ok(())
 }
 
@@ -227,22 +217,19 @@ fn all_demands(alloc: Global, plant: &Plant) -> Result<Form, AllocError>
     Ok(Form::And(demands))
 }
 
-/// Returns the form of well-formed values: a condition on each section and its neighbours. Fails
-/// only if memory runs out.
+/// Returns the form "the values are the image of a well-formed state without hazard" over the
+/// plant's variables: a condition on each section and its neighbours. Fails only if memory runs
+/// out.
 pub fn wellformed_form(alloc: Global, plant: &Plant) -> Result<Form, AllocError>
     ensures form { IfOk result (λ form. tree_of form ≡ forms.wellformed_tree plant.now) }
 
-    // The form is valid over the plant's variables and their ranges.
     ensures valid { IsValidOverPlant plant.now (forms.wellformed_tree plant.now) }
 
-    // For values in range, it holds if and only if they are well-formed.
     ensures wellformed { WellformedTreeIsCorrect plant.now }
 
-    // For values in range, it holds if and only if they are the image of a well-formed state
-    // without hazard.
-    ensures images { WellformedTreeMeansImage plant.now }
+    ensures images { WellformedMeansHazardFreeImage plant.now }
 {
     plant.prove_is_plant();
-    plant.prove_from_drafts();
+    plant.prove_sound_acyclic_drafts();
     all_demands(alloc, plant)
 }

@@ -12,19 +12,19 @@ use Rattle.ilk_layout.specs.Variables.{ranges_of_plant}
 use Rattle.ilk_invs.specs.FamilyTrees.{family_tree, family_trees}
 use Rattle.ilk_invs.specs.Laws.{TreeMeansFamily}
 use Rattle.ilk_props.specs.HazardForm.{hazard_tree}
-use Rattle.ilk_props.specs.Laws.{HazardTreeIsCorrect, WellformedTreeMeansImage, StartTreeIsCorrect, IsValidOverPlant}
+use Rattle.ilk_props.specs.Laws.{HazardTreeIsCorrect, WellformedMeansHazardFreeImage, StartTreeIsCorrect, IsValidOverPlant}
 use Rattle.ilk_props.specs.StartForm.{start_tree}
 use Rattle.ilk_props.specs.WellformedForm.{wellformed_tree}
 use Rattle.ilk_unroll.specs.Goal.{goal_valid}
 use Rattle.ilk_queries.specs.Goal.{goal_of_plant}
-use Rattle.ilk_queries.specs.Lifting.{IsGoalOfPlant}
-use Rattle.ilk_model.specs.Meets.{keeps_all}
+use Rattle.ilk_queries.specs.Lifting.{GoalFormsMatchPlant}
+use Rattle.ilk_model.specs.Meets.{keeps_all_families}
 
-all-kept : (p : PlantLists) → ((j : ℕ) → TreeMeansFamily p j (family_tree p j)) → (s : State) → IsWellFormedAndSafe p s → list_all (tree_holds (image_of p s)) (family_trees p) ≡ keeps_all p s
+all-kept : (p : PlantLists) → ((j : ℕ) → TreeMeansFamily p j (family_tree p j)) → (s : State) → IsWellFormedAndSafe p s → list_all (tree_holds (image_of p s)) (family_trees p) ≡ keeps_all_families p s
 all-kept p kept s calm =
     rw (kept 1 s calm, kept 2 s calm, kept 3 s calm, kept 4 s calm, kept 5 s calm, kept 6 s calm, kept 7 s calm, kept 8 s calm, kept 9 s calm) refl
 
-pub goal_is : (p : PlantLists) → ImagesAreInRange p → StartTreeIsCorrect p → WellformedTreeMeansImage p → HazardTreeIsCorrect p → ((j : ℕ) → TreeMeansFamily p j (family_tree p j)) → IsGoalOfPlant p (goal_of_plant p)
+pub goal_is : (p : PlantLists) → ImagesAreInRange p → StartTreeIsCorrect p → WellformedMeansHazardFreeImage p → HazardTreeIsCorrect p → ((j : ℕ) → TreeMeansFamily p j (family_tree p j)) → GoalFormsMatchPlant p (goal_of_plant p)
 goal_is p in_range begins wellformed hazards kept =
     record {
       begins = begins;

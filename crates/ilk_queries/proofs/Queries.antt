@@ -14,26 +14,26 @@ use Rattle.ilk_model.specs.Hazard.{hazard}
 use Rattle.ilk_model.specs.declared.hazards.HazardAt.{HazardAt}
 use Rattle.ilk_layout.specs.Image.{image_of}
 use Rattle.ilk_unroll.specs.Goal.{CopyDemand, PlainGoal, demands_of, must_fail_in, must_hold_below, must_hold_in}
-use Rattle.ilk_unroll.specs.Run.{is_met_by}
+use Rattle.ilk_unroll.specs.Run.{demand_is_met_by_run}
 use Rattle.ilk_unroll.specs.declared.queries.Wanted.TheVariants.{Hazard, Breach, Step}
-use Rattle.ilk_queries.specs.Asked.{leaves_invariant_at, meets_invariant}
-use Rattle.ilk_queries.specs.Lifting.{AllHaveShape, IsGoalOfPlant, RulesStepLikeEvents, form_holds, is_hazard_free}
+use Rattle.ilk_queries.specs.Asked.{first_breaks_invariant_at, meets_invariant}
+use Rattle.ilk_queries.specs.Lifting.{AllHaveShape, GoalFormsMatchPlant, RulesStepLikeEvents, form_holds_for_values, state_has_no_hazard}
 use Rattle.ilk_queries.proofs.Demands.{all-below-met, all-hold, below-met, fails-met, holds-met, swapped}
 use Rattle.ilk_queries.proofs.Walks.{wellformed-before}
-use Rattle.ilk_model.specs.Meets.{keeps_all}
+use Rattle.ilk_model.specs.Meets.{keeps_all_families}
 
 pub shaped-at : (p : PlantLists) (states : List State) (n : ℕ) (t : State) → AllHaveShape p states → slice_get states n ≡ Some t → HasShape p t
 shaped-at p [] n t shaped at = cc
 shaped-at p (s ∷ states) zero t shaped at = subst (HasShape p) (same_Some s t at) shaped.0
 shaped-at p (s ∷ states) (suc n) t shaped at = shaped-at p states n t shaped.1 at
 
-module _ (p : PlantLists) (steps : RulesStepLikeEvents p) (g : PlainGoal) (goal : IsGoalOfPlant p g) where
+module _ (p : PlantLists) (steps : RulesStepLikeEvents p) (g : PlainGoal) (goal : GoalFormsMatchPlant p g) where
   pub hazard-met : (n : ℕ) (states : List State) (s t : State) → AllHaveShape p states →
       slice_get states 0 ≡ Some s → slice_get states n ≡ Some t → n ≤ length states →
-      list_all (is_met_by (map (image_of p) states)) (demands_of g (Hazard n))
+      list_all (demand_is_met_by_run (map (image_of p) states)) (demands_of g (Hazard n))
       ≡
-      (form_holds g.start (image_of p s)
-      && (list_all (is_hazard_free p) (take n states) && is_some (hazard p t)))
+      (form_holds_for_values g.start (image_of p s)
+      && (list_all (state_has_no_hazard p) (take n states) && is_some (hazard p t)))
   hazard-met n states s t shaped first last within =
       let lists : List (List ℕ) = map (image_of p) states in
       let at0 : slice_get lists 0 ≡ Some (image_of p s) = slice_get-map (image_of p) states 0 ∙ rw first refl in
@@ -42,22 +42,22 @@ module _ (p : PlantLists) (steps : RulesStepLikeEvents p) (g : PlainGoal) (goal 
       let start = holds-met lists 0 (image_of p s) g.start at0 in
       let below = below-met lists g.wellformed n long ∙ wellformed-before p steps g goal n states shaped in
       let end = holds-met lists n (image_of p t) g.hazard atn ∙ goal.hazards t (shaped-at p states n t shaped last) in
-      ap (λ b. b && list_all (is_met_by lists) (must_hold_below g.wellformed n ++ must_hold_in n g.hazard ∷ [])) start
-      ∙ ap (λ b. form_holds g.start (image_of p s) && b) (list_all-append (is_met_by lists) (must_hold_below g.wellformed n) (must_hold_in n g.hazard ∷ [])
-      ∙ ap (λ b. b && (is_met_by lists (must_hold_in n g.hazard) && true)) below
-      ∙ ap (λ b. list_all (is_hazard_free p) (take n states) && b) (and-true _ ∙ end))
+      ap (λ b. b && list_all (demand_is_met_by_run lists) (must_hold_below g.wellformed n ++ must_hold_in n g.hazard ∷ [])) start
+      ∙ ap (λ b. form_holds_for_values g.start (image_of p s) && b) (list_all-append (demand_is_met_by_run lists) (must_hold_below g.wellformed n) (must_hold_in n g.hazard ∷ [])
+      ∙ ap (λ b. b && (demand_is_met_by_run lists (must_hold_in n g.hazard) && true)) below
+      ∙ ap (λ b. list_all (state_has_no_hazard p) (take n states) && b) (and-true _ ∙ end))
 
   families-before : (n : ℕ) (states : List State) → AllHaveShape p states →
-      (list_all (is_hazard_free p) (take n states)
+      (list_all (state_has_no_hazard p) (take n states)
       && list_all (λ values. list_all (tree_holds values) g.families) (map (image_of p) (take n states)))
       ≡ list_all (meets_invariant p) (take n states)
   families-before zero states shaped = refl
   families-before (suc n) [] shaped = refl
-  families-before (suc n) (s ∷ states) shaped = four (is_hazard_free p s) _ _ _
+  families-before (suc n) (s ∷ states) shaped = four (state_has_no_hazard p s) _ _ _
       ∙ ap
       (λ b. b
       &&
-      (list_all (is_hazard_free p) (take n states)
+      (list_all (state_has_no_hazard p) (take n states)
       && list_all (λ values. list_all (tree_holds values) g.families)
       (map (image_of p) (take n states))))
       (here s shaped.0)
@@ -69,30 +69,29 @@ module _ (p : PlantLists) (steps : RulesStepLikeEvents p) (g : PlainGoal) (goal 
       four true false false d = refl
       four false b c d = refl
 
-      here : (s : State) → HasShape p s → (is_hazard_free p s && list_all (tree_holds (image_of p s)) g.families) ≡ meets_invariant p s
+      here : (s : State) → HasShape p s → (state_has_no_hazard p s && list_all (tree_holds (image_of p s)) g.families) ≡ meets_invariant p s
       here s shape = by_hazard (hazard p s) refl
         where
-          by_hazard : (o : Option HazardAt) → hazard p s ≡ o → (is_none o && list_all (tree_holds (image_of p s)) g.families) ≡ (is_none o && keeps_all p s)
+          by_hazard : (o : Option HazardAt) → hazard p s ≡ o → (is_none o && list_all (tree_holds (image_of p s)) g.families) ≡ (is_none o && keeps_all_families p s)
           by_hazard None none = goal.kept s shape none
           by_hazard (Some h) some = refl
 
-  -- The last demand of a step query fails if and only if the invariant is violated.
-  invariant-form : (t : State) → HasShape p t → form_holds (all_of (trees_from_list (negation g.hazard ∷ g.families))) (image_of p t) ≡ meets_invariant p t
+  invariant-form : (t : State) → HasShape p t → form_holds_for_values (all_of (trees_from_list (negation g.hazard ∷ g.families))) (image_of p t) ≡ meets_invariant p t
   invariant-form t shape =
       all-hold (image_of p t) (negation g.hazard ∷ g.families)
       ∙ ap (λ b. not b && list_all (tree_holds (image_of p t)) g.families) (goal.hazards t shape) ∙ by_hazard (hazard p t) refl
     where
-      by_hazard : (o : Option HazardAt) → hazard p t ≡ o → (not (is_some o) && list_all (tree_holds (image_of p t)) g.families) ≡ (is_none o && keeps_all p t)
+      by_hazard : (o : Option HazardAt) → hazard p t ≡ o → (not (is_some o) && list_all (tree_holds (image_of p t)) g.families) ≡ (is_none o && keeps_all_families p t)
       by_hazard None none = goal.kept t shape none
       by_hazard (Some h) some = refl
 
   pub breach-met : (n : ℕ) (states : List State) (s t : State) → AllHaveShape p states →
       slice_get states 0 ≡ Some s → slice_get states n ≡ Some t → n + 1 ≤ length states →
-      list_all (is_met_by (map (image_of p) states)) (demands_of g (Breach n))
+      list_all (demand_is_met_by_run (map (image_of p) states)) (demands_of g (Breach n))
       ≡
-      (form_holds g.start (image_of p s)
+      (form_holds_for_values g.start (image_of p s)
       &&
-      (list_all (is_hazard_free p) (take (n + 1) states)
+      (list_all (state_has_no_hazard p) (take (n + 1) states)
       && not (list_all (tree_holds (image_of p t)) g.families)))
   breach-met n states s t shaped first last within =
       let lists : List (List ℕ) = map (image_of p) states in
@@ -103,12 +102,13 @@ module _ (p : PlantLists) (steps : RulesStepLikeEvents p) (g : PlainGoal) (goal 
       let start = holds-met lists 0 (image_of p s) g.start at0 in
       let below = below-met lists g.wellformed (n + 1) long ∙ wellformed-before p steps g goal (n + 1) states shaped in
       let end = fails-met lists n (image_of p t) (all_of (trees_from_list g.families)) atn ∙ ap not (all-hold (image_of p t) g.families) in
-      ap (λ b. b && list_all (is_met_by lists) (must_hold_below g.wellformed (n + 1) ++ broken ∷ [])) start
-      ∙ ap (λ b. form_holds g.start (image_of p s) && b) (list_all-append (is_met_by lists) (must_hold_below g.wellformed (n + 1)) (broken ∷ [])
-      ∙ ap (λ b. b && (is_met_by lists broken && true)) below
-      ∙ ap (λ b. list_all (is_hazard_free p) (take (n + 1) states) && b) (and-true _ ∙ end))
+      ap (λ b. b && list_all (demand_is_met_by_run lists) (must_hold_below g.wellformed (n + 1) ++ broken ∷ [])) start
+      ∙ ap (λ b. form_holds_for_values g.start (image_of p s) && b) (list_all-append (demand_is_met_by_run lists) (must_hold_below g.wellformed (n + 1)) (broken ∷ [])
+      ∙ ap (λ b. b && (demand_is_met_by_run lists broken && true)) below
+      ∙ ap (λ b. list_all (state_has_no_hazard p) (take (n + 1) states) && b) (and-true _ ∙ end))
 
-  pub step-met : (n : ℕ) (states : List State) (t : State) → AllHaveShape p states → slice_get states n ≡ Some t → n ≤ length states → list_all (is_met_by (map (image_of p) states)) (demands_of g (Step n)) ≡ leaves_invariant_at p n states
+  pub step-met : (n : ℕ) (states : List State) (t : State) → AllHaveShape p states → slice_get states n ≡ Some t → n ≤ length states → list_all (demand_is_met_by_run (map (image_of p) states)) (demands_of g
+      (Step n)) ≡ first_breaks_invariant_at p n states
   step-met n states t shaped last within =
       let lists : List (List ℕ) = map (image_of p) states in
       let left : CopyDemand = must_fail_in n (all_of (trees_from_list (negation g.hazard ∷ g.families))) in
@@ -116,13 +116,13 @@ module _ (p : PlantLists) (steps : RulesStepLikeEvents p) (g : PlainGoal) (goal 
       let atn : slice_get lists n ≡ Some (image_of p t) = slice_get-map (image_of p) states n ∙ rw last refl in
       let long : n ≤ length lists = subst (λ k. n ≤ k) (sym (length-map states (image_of p))) within in
       let below = below-met lists g.wellformed n long ∙ wellformed-before p steps g goal n states shaped in
-      let kept : list_all (is_met_by lists) families ≡ list_all (λ values. list_all (tree_holds values) g.families) (map (image_of p) (take n states)) =
+      let kept : list_all (demand_is_met_by_run lists) families ≡ list_all (λ values. list_all (tree_holds values) g.families) (map (image_of p) (take n states)) =
       all-below-met lists g.families n long ∙ swapped (take n lists) g.families ∙ ap (list_all (λ values. list_all (tree_holds values) g.families)) (take-map (image_of p) n states) in
       let end = fails-met lists n (image_of p t) (all_of (trees_from_list (negation g.hazard ∷ g.families))) atn ∙ ap not (invariant-form t (shaped-at p states n t shaped last)) in
-      let right : leaves_invariant_at p n states ≡ (list_all (meets_invariant p) (take n states) && not (meets_invariant p t)) = rw last refl in
-      list_all-append (is_met_by lists) (must_hold_below g.wellformed n ++ families) (left ∷ [])
-      ∙ ap (λ b. b && (is_met_by lists left && true))
-      (list_all-append (is_met_by lists) (must_hold_below g.wellformed n) families
-      ∙ ap (λ b. b && list_all (is_met_by lists) families) below
-      ∙ ap (λ b. list_all (is_hazard_free p) (take n states) && b) kept ∙ families-before n states shaped)
+      let right : first_breaks_invariant_at p n states ≡ (list_all (meets_invariant p) (take n states) && not (meets_invariant p t)) = rw last refl in
+      list_all-append (demand_is_met_by_run lists) (must_hold_below g.wellformed n ++ families) (left ∷ [])
+      ∙ ap (λ b. b && (demand_is_met_by_run lists left && true))
+      (list_all-append (demand_is_met_by_run lists) (must_hold_below g.wellformed n) families
+      ∙ ap (λ b. b && list_all (demand_is_met_by_run lists) families) below
+      ∙ ap (λ b. list_all (state_has_no_hazard p) (take n states) && b) kept ∙ families-before n states shaped)
       ∙ ap (λ b. list_all (meets_invariant p) (take n states) && b) (and-true _ ∙ end) ∙ sym right

@@ -16,13 +16,13 @@ use Rattle.ilk_unroll.specs.Run.{is_wanted_run}
 use Rattle.ilk_unroll.specs.declared.queries.Wanted.{Wanted}
 use Rattle.ilk_queries.specs.Asked.{HasQueriedRun}
 use Rattle.ilk_queries.specs.Goal.{goal_of_plant}
-use Rattle.ilk_queries.specs.Lifting.{IsGoalOfPlant}
+use Rattle.ilk_queries.specs.Lifting.{GoalFormsMatchPlant}
 use Rattle.ilk_unroll.specs.Satisfied.{IsSatisfiable}
 use Rattle.ilk_queries.proofs.Answered.{to-wanted}
 use Rattle.ilk_queries.proofs.Lifted.{has-events}
 use Rattle.ilk_queries.proofs.Steps.{rules-step}
 
-pub satisfiable_is : (p : PlantLists) (q : Wanted) → IsPlant p → SystemMatchesEvents p → IsGoalOfPlant p (goal_of_plant p) → IsTrue (step_count_is_allowed q)
+pub satisfiable_is : (p : PlantLists) (q : Wanted) → IsPlant p → SystemMatchesEvents p → GoalFormsMatchPlant p (goal_of_plant p) → IsTrue (step_count_is_allowed q)
     → ((a : List Bool) → length a ≡ (query_formula (system_of_plant p) (goal_of_plant p) q).vars → IsTrue (satisfies a (query_formula (system_of_plant p) (goal_of_plant p) q).clauses) → EncodesWantedRun (system_of_plant p) (goal_of_plant p) q a)
     →
     ((first rules : List ℕ) → IsTrue (is_wanted_run (system_of_plant p) (goal_of_plant p) q first rules) →
@@ -54,7 +54,6 @@ pub formula_is :
 formula_is (Ok cnf) p q system goal one two h = h ∙ ap (λ s. query_formula s goal q) one ∙ ap (λ g. query_formula (system_of_plant p) g q) two
 formula_is (Err e) p q system goal one two h = h
 
--- The guarantee of `query` about the assignments of its formula.
 abbrev pub IsSound : PlainSystem → PlainGoal → Wanted → Type 0
 IsSound system goal q = (a : List Bool) → length a ≡ (query_formula system goal q).vars → IsTrue (satisfies a (query_formula system goal q).clauses) → EncodesWantedRun system goal q a
 
@@ -66,7 +65,7 @@ IsComplete system goal q = (first rules : List ℕ) → IsTrue (is_wanted_run sy
 pub satisfiable_on :
     {E : Type 0} (r : Result Formula E) (p : PlantLists) (q : Wanted) (system : PlainSystem) (goal : PlainGoal)
     →
-    system ≡ system_of_plant p → goal ≡ goal_of_plant p → IsPlant p → SystemMatchesEvents p → IsGoalOfPlant p (goal_of_plant p) →
+    system ≡ system_of_plant p → goal ≡ goal_of_plant p → IsPlant p → SystemMatchesEvents p → GoalFormsMatchPlant p (goal_of_plant p) →
     IsTrue (step_count_is_allowed q) → OnOk r (IsSound system goal q) → OnOk r (IsComplete system goal q) →
     OnOk r (IsSatisfiable (query_formula (system_of_plant p) (goal_of_plant p) q) ↔ HasQueriedRun p q)
 satisfiable_on (Ok cnf) p q system goal one two plant steps means valid sound complete =

@@ -20,7 +20,7 @@ use Rattle.ilk_layout.specs.Image.{image_of}
 use Rattle.ilk_behave.specs.Behaviour.{system_of_plant}
 use Rattle.ilk_unroll.specs.Goal.{PlainGoal}
 use Rattle.ilk_unroll.specs.Run.{run_firing_rules}
-use Rattle.ilk_queries.specs.Lifting.{AllHaveShape, IsGoalOfPlant, RulesStepLikeEvents, events_by_rules, form_holds, is_hazard_free}
+use Rattle.ilk_queries.specs.Lifting.{AllHaveShape, GoalFormsMatchPlant, RulesStepLikeEvents, events_by_rules, form_holds_for_values, state_has_no_hazard}
 use Rattle.ilk_queries.specs.Walk.{states_from}
 
 pub none-is : {A : Type 0} (o : Option A) → is_none o ≡ true → o ≡ None
@@ -40,10 +40,9 @@ states-many p s (event ∷ events) states e =
     let inner = bind_some (next p s event) (λ t. states_from p t events) outer.0 outer.1 in
     ap length (sym outer.2) ∙ ap suc (states-many p inner.0 events outer.0 inner.2)
 
--- In the states of a run, each but the last is safe, and the run ends in the last.
 pub run-states : (p : PlantLists) (s t : State) (events : List Event) → run p s events ≡ Some t →
     (states : List State) × (states_from p s events ≡ Some states) ×
-    (list_all (is_hazard_free p) (take (length events) states) ≡ true) ×
+    (list_all (state_has_no_hazard p) (take (length events) states) ≡ true) ×
     (slice_get states (length events) ≡ Some t)
 run-states p s t [] e = (s ∷ [], refl, refl, e)
 run-states p s t (event ∷ events) e =
@@ -56,34 +55,35 @@ run-states p s t (event ∷ events) e =
     bound None e = absurd cc
     bound (Some u) e = (u, refl, e)
 
-    stepped : (u : State) → next_from_hazard_free p s event ≡ Some u → (is_hazard_free p s ≡ true) × (next p s event ≡ Some u)
+    stepped : (u : State) → next_from_hazard_free p s event ≡ Some u → (state_has_no_hazard p s ≡ true) × (next p s event ≡ Some u)
     stepped u e = by_safe (is_none (hazard p s)) refl e
       where
-        by_safe : (b : Bool) → is_none (hazard p s) ≡ b → (then_some b s >>= (λ safe. next p safe event)) ≡ Some u → (is_hazard_free p s ≡ true) × (next p s event ≡ Some u)
+        by_safe : (b : Bool) → is_none (hazard p s) ≡ b → (then_some b s >>= (λ safe. next p safe event)) ≡ Some u → (state_has_no_hazard p s ≡ true) × (next p s event ≡ Some u)
         by_safe true h e = (h, e)
         by_safe false h e = absurd cc
 
-pub states-run : (p : PlantLists) (s : State) (events : List Event) (states : List State) → states_from p s events ≡ Some states → list_all (is_hazard_free p) (take (length events) states) ≡ true → run p s events ≡ slice_get states (length events)
+pub states-run : (p : PlantLists) (s : State) (events : List Event) (states : List State) → states_from p s events ≡ Some states → list_all (state_has_no_hazard p) (take (length events) states) ≡ true →
+    run p s events ≡ slice_get states (length events)
 states-run p s [] states e safe = subst (λ (u : List State). Some s ≡ slice_get u 0) (same_Some (s ∷ []) states e) refl
 states-run p s (event ∷ events) states e safe =
     let outer = mapped-Some (λ more. s ∷ more) (option_and_then (λ t. states_from p t events) (next p s event)) states e in
     let inner = bind_some (next p s event) (λ t. states_from p t events) outer.0 outer.1 in
-    let all : list_all (is_hazard_free p) (s ∷ take (length events) outer.0) ≡ true = ap (λ (u : List State). list_all (is_hazard_free p) (take (suc (length events)) u)) outer.2 ∙ safe in
-    let here : is_none (hazard p s) ≡ true = (and_parts (is_hazard_free p s) (list_all (is_hazard_free p) (take (length events) outer.0)) all).0 in
-    let later = (and_parts (is_hazard_free p s) (list_all (is_hazard_free p) (take (length events) outer.0)) all).1 in
+    let all : list_all (state_has_no_hazard p) (s ∷ take (length events) outer.0) ≡ true = ap (λ (u : List State). list_all (state_has_no_hazard p) (take (suc (length events)) u)) outer.2 ∙ safe in
+    let here : is_none (hazard p s) ≡ true = (and_parts (state_has_no_hazard p s) (list_all (state_has_no_hazard p) (take (length events) outer.0)) all).0 in
+    let later = (and_parts (state_has_no_hazard p s) (list_all (state_has_no_hazard p) (take (length events) outer.0)) all).1 in
     let rest = states-run p inner.0 events outer.0 inner.2 later in
     let free : run p s (event ∷ events) ≡ (next p s event >>= (λ t. run p t events)) = ap (λ b. (then_some b s >>= (λ safe. next p safe event)) >>= (λ t. run p t events)) here in
     let whole : run p s (event ∷ events) ≡ slice_get (s ∷ outer.0) (suc (length events)) = free ∙ ap (λ o. o >>= (λ t. run p t events)) inner.1 ∙ rest in
     whole ∙ ap (λ (u : List State). slice_get u (suc (length events))) outer.2
 
-module _ (p : PlantLists) (steps : RulesStepLikeEvents p) (g : PlainGoal) (goal : IsGoalOfPlant p g) where
-  pub wellformed-state : (s : State) → HasShape p s → form_holds g.wellformed (image_of p s) ≡ is_hazard_free p s
+module _ (p : PlantLists) (steps : RulesStepLikeEvents p) (g : PlainGoal) (goal : GoalFormsMatchPlant p g) where
+  pub wellformed-state : (s : State) → HasShape p s → form_holds_for_values g.wellformed (image_of p s) ≡ state_has_no_hazard p s
   wellformed-state s shape = by_hazard (hazard p s) refl
     where
-      by_hazard : (o : Option HazardAt) → hazard p s ≡ o → form_holds g.wellformed (image_of p s) ≡ is_none o
+      by_hazard : (o : Option HazardAt) → hazard p s ≡ o → form_holds_for_values g.wellformed (image_of p s) ≡ is_none o
       by_hazard None none = (goal.wellformed (image_of p s) (goal.in_range s shape)).1 (record { state = s; calm = record { shape = shape; no_hazard = none }; image = refl })
       by_hazard (Some h) some =
-          elim (cases_Bool (form_holds g.wellformed (image_of p s))) [
+          elim (cases_Bool (form_holds_for_values g.wellformed (image_of p s))) [
             | inl aye ↦ (let is = (goal.wellformed (image_of p s) (goal.in_range s shape)).0 aye in
                 let held = goal.hazards is.state is.calm.shape in
                 let none : tree_holds (image_of p is.state) g.hazard ≡ false = held ∙ ap is_some is.calm.no_hazard in
@@ -93,7 +93,7 @@ module _ (p : PlantLists) (steps : RulesStepLikeEvents p) (g : PlainGoal) (goal 
             | inr nay ↦ nay
           ]
 
-  pub wellformed-before : (n : ℕ) (states : List State) → AllHaveShape p states → list_all (form_holds g.wellformed) (take n (map (image_of p) states)) ≡ list_all (is_hazard_free p) (take n states)
+  pub wellformed-before : (n : ℕ) (states : List State) → AllHaveShape p states → list_all (form_holds_for_values g.wellformed) (take n (map (image_of p) states)) ≡ list_all (state_has_no_hazard p) (take n states)
   wellformed-before zero states shaped = refl
   wellformed-before (suc n) [] shaped = refl
   wellformed-before (suc n) (s ∷ states) shaped =
@@ -108,28 +108,26 @@ module _ (p : PlantLists) (steps : RulesStepLikeEvents p) (g : PlainGoal) (goal 
       let inner = bind_some (next p s event) (λ t. states_from p t events) outer.0 outer.1 in
       subst (AllHaveShape p) outer.2 (shape, states-shaped inner.0 events outer.0 (steps.keeps_shape s inner.0 event shape inner.1) inner.2)
 
-  -- Events through safe states correspond to rules through their images.
   pub to-rules : (s : State) (events : List Event) (states : List State) → HasShape p s →
-      states_from p s events ≡ Some states → list_all (is_hazard_free p) (take (length events) states) ≡ true →
+      states_from p s events ≡ Some states → list_all (state_has_no_hazard p) (take (length events) states) ≡ true →
       (rules : List ℕ) × (length rules ≡ length events) ×
       (run_firing_rules (system_of_plant p) (image_of p s) rules ≡ Some (map (image_of p) states))
   to-rules s [] states shape e safe = ([], refl, ap (λ (u : List State). Some (map (image_of p) u)) (same_Some (s ∷ []) states e))
   to-rules s (event ∷ events) states shape e safe =
       let outer = mapped-Some (λ more. s ∷ more) (option_and_then (λ t. states_from p t events) (next p s event)) states e in
       let inner = bind_some (next p s event) (λ t. states_from p t events) outer.0 outer.1 in
-      let all : list_all (is_hazard_free p) (s ∷ take (length events) outer.0) ≡ true = ap (λ (u : List State). list_all (is_hazard_free p) (take (suc (length events)) u)) outer.2 ∙ safe in
-      let here : hazard p s ≡ None = none-is (hazard p s) ((and_parts (is_hazard_free p s) (list_all (is_hazard_free p) (take (length events) outer.0)) all).0) in
-      let later = (and_parts (is_hazard_free p s) (list_all (is_hazard_free p) (take (length events) outer.0)) all).1 in
+      let all : list_all (state_has_no_hazard p) (s ∷ take (length events) outer.0) ≡ true = ap (λ (u : List State). list_all (state_has_no_hazard p) (take (suc (length events)) u)) outer.2 ∙ safe in
+      let here : hazard p s ≡ None = none-is (hazard p s) ((and_parts (state_has_no_hazard p s) (list_all (state_has_no_hazard p) (take (length events) outer.0)) all).0) in
+      let later = (and_parts (state_has_no_hazard p s) (list_all (state_has_no_hazard p) (take (length events) outer.0)) all).1 in
       let fires = steps.enabled s inner.0 event shape here inner.1 in
       let rest = to-rules inner.0 events outer.0 (steps.keeps_shape s inner.0 event shape inner.1) inner.2 later in
       let these : run_firing_rules (system_of_plant p) (image_of p s) (fires.0 ∷ rest.0) ≡ Some (image_of p s ∷ map (image_of p) outer.0) =
       ap (λ o. option_map (λ run. image_of p s ∷ run) (option_and_then (λ next. run_firing_rules (system_of_plant p) next rest.0) o)) fires.2 ∙ ap (option_map (λ run. image_of p s ∷ run)) rest.2 in
       (fires.0 ∷ rest.0, ap suc rest.1, these ∙ ap (λ (u : List State). Some (map (image_of p) u)) outer.2)
 
-  -- Rules through well-formed values correspond to events through states with these images.
   pub to-events : (s : State) (rules : List ℕ) (lists : List (List ℕ)) → HasShape p s →
       run_firing_rules (system_of_plant p) (image_of p s) rules ≡ Some lists →
-      list_all (form_holds g.wellformed) (take (length rules) lists) ≡ true →
+      list_all (form_holds_for_values g.wellformed) (take (length rules) lists) ≡ true →
       (events : List Event) × (states : List State) × (events_by_rules p rules ≡ Some events) ×
       (length events ≡ length rules) × (states_from p s events ≡ Some states) ×
       (map (image_of p) states ≡ lists)
@@ -137,9 +135,9 @@ module _ (p : PlantLists) (steps : RulesStepLikeEvents p) (g : PlainGoal) (goal 
   to-events s (i ∷ rules) lists shape e well =
       let outer = mapped-Some (λ run. image_of p s ∷ run) (option_and_then (λ next. run_firing_rules (system_of_plant p) next rules) (after_rule_number (system_of_plant p) i (image_of p s))) lists e in
       let inner = bind_some (after_rule_number (system_of_plant p) i (image_of p s)) (λ next. run_firing_rules (system_of_plant p) next rules) outer.0 outer.1 in
-      let all : list_all (form_holds g.wellformed) (image_of p s ∷ take (length rules) outer.0) ≡ true = ap (λ (u : List (List ℕ)). list_all (form_holds g.wellformed) (take (suc (length rules)) u)) outer.2 ∙ well in
-      let here : hazard p s ≡ None = none-is (hazard p s) (sym (wellformed-state s shape) ∙ (and_parts (form_holds g.wellformed (image_of p s)) (list_all (form_holds g.wellformed) (take (length rules) outer.0)) all).0) in
-      let later = (and_parts (form_holds g.wellformed (image_of p s)) (list_all (form_holds g.wellformed) (take (length rules) outer.0)) all).1 in
+      let all : list_all (form_holds_for_values g.wellformed) (image_of p s ∷ take (length rules) outer.0) ≡ true = ap (λ (u : List (List ℕ)). list_all (form_holds_for_values g.wellformed) (take (suc (length rules)) u)) outer.2 ∙ well in
+      let here : hazard p s ≡ None = none-is (hazard p s) (sym (wellformed-state s shape) ∙ (and_parts (form_holds_for_values g.wellformed (image_of p s)) (list_all (form_holds_for_values g.wellformed) (take (length rules) outer.0)) all).0) in
+      let later = (and_parts (form_holds_for_values g.wellformed (image_of p s)) (list_all (form_holds_for_values g.wellformed) (take (length rules) outer.0)) all).1 in
       let goes = steps.fired s i inner.0 shape here inner.1 in
       let t = goes.1 in
       let onward : run_firing_rules (system_of_plant p) (image_of p t) rules ≡ Some outer.0 = subst (λ (v : List ℕ). run_firing_rules (system_of_plant p) v rules ≡ Some outer.0) goes.4 inner.2 in

@@ -16,10 +16,10 @@ use Rattle.ilk_layout.specs.Laws.{AreImageOfSafeState}
 use Rattle.ilk_layout.specs.Variables.{ranges_of_plant}
 use Rattle.ilk_behave.specs.Behaviour.{event_of_rule, system_of_plant}
 use Rattle.ilk_unroll.specs.Goal.{PlainGoal}
-use Rattle.ilk_model.specs.Meets.{keeps_all}
+use Rattle.ilk_model.specs.Meets.{keeps_all_families}
 
--- Holds if rules step as events do, from every well-formed state without hazard, and events keep
--- states well-formed.
+-- Holds if in each well-formed state without hazard the rules of the plant's finite system lead to
+-- the same states as the events, and events keep states well-formed.
 pub record RulesStepLikeEvents (p : PlantLists) : Type 0 where
   pub enabled : (s t : State) (event : Event) → HasShape p s → hazard p s ≡ None → next p s event ≡ Some t → (i : ℕ) × (event_of_rule p i ≡ Some event) × (after_rule_number (system_of_plant p) i (image_of p s) ≡ Some (image_of p t))
   pub fired : (s : State) (i : ℕ) (values : List ℕ) → HasShape p s → hazard p s ≡ None →
@@ -28,15 +28,16 @@ pub record RulesStepLikeEvents (p : PlantLists) : Type 0 where
       (values ≡ image_of p t)
   pub keeps_shape : (s t : State) (event : Event) → HasShape p s → next p s event ≡ Some t → HasShape p t
 
--- Holds if the forms of the goal mean what their names say.
-pub record IsGoalOfPlant (p : PlantLists) (g : PlainGoal) : Type 0 where
+-- Holds if each form of the goal says of an encoded state what it should: that it is the initial
+-- state, is well-formed without hazard, has a hazard, or keeps a family.
+pub record GoalFormsMatchPlant (p : PlantLists) (g : PlainGoal) : Type 0 where
   pub begins : (values : List ℕ) → in_ranges values (ranges_of_plant p) ≡ true → (tree_holds values g.start ≡ true) ↔ (values ≡ image_of p (start p))
   pub wellformed : (values : List ℕ) → in_ranges values (ranges_of_plant p) ≡ true → (tree_holds values g.wellformed ≡ true) ↔ AreImageOfSafeState p values
   pub hazards : (s : State) → HasShape p s → tree_holds (image_of p s) g.hazard ≡ is_some (hazard p s)
-  pub kept : (s : State) → HasShape p s → hazard p s ≡ None → list_all (tree_holds (image_of p s)) g.families ≡ keeps_all p s
+  pub kept : (s : State) → HasShape p s → hazard p s ≡ None → list_all (tree_holds (image_of p s)) g.families ≡ keeps_all_families p s
   pub in_range : (s : State) → HasShape p s → in_ranges (image_of p s) (ranges_of_plant p) ≡ true
 
--- The events of these rules, in order.
+-- The events of the rules with these numbers, in order; `None` if a rule has no event.
 abbrev pub events_by_rules : PlantLists → List ℕ → Option (List Event)
 events_by_rules p [] = Some []
 events_by_rules p (i ∷ rules) = do
@@ -44,13 +45,13 @@ events_by_rules p (i ∷ rules) = do
   rest ← events_by_rules p rules
   Some (event ∷ rest)
 
--- Returns whether a state has no hazard.
-abbrev pub is_hazard_free : PlantLists → State → Bool
-is_hazard_free p s = is_none (hazard p s)
+-- Returns whether state `s` has no hazard.
+abbrev pub state_has_no_hazard : PlantLists → State → Bool
+state_has_no_hazard p s = is_none (hazard p s)
 
--- Returns whether the form holds for these values.
-abbrev pub form_holds : Tree → List ℕ → Bool
-form_holds form values = tree_holds values form
+-- Returns whether the form holds for these values of the variables.
+abbrev pub form_holds_for_values : Tree → List ℕ → Bool
+form_holds_for_values form values = tree_holds values form
 
 -- Holds if each of these states is well-formed.
 abbrev pub AllHaveShape : PlantLists → List State → Type 0

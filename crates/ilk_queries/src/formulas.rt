@@ -7,7 +7,7 @@ ghost use Rattle.ilk_unroll.specs.Goal.{plain_goal, goal_valid, step_count_is_al
 ghost use Rattle.ilk_unroll.specs.Query.{query_formula};
 ghost use Rattle.ilk_queries.specs.Asked.{HasQueriedRun};
 ghost use Rattle.ilk_queries.specs.Goal.{goal_of_plant};
-ghost use Rattle.ilk_queries.specs.Lifting.{IsGoalOfPlant};
+ghost use Rattle.ilk_queries.specs.Lifting.{GoalFormsMatchPlant};
 ghost use Rattle.ilk_unroll.specs.Satisfied.{IsSatisfiable};
 
 use crate::goals::goal;
@@ -18,7 +18,6 @@ use ilk_plant::Plant;
 use ilk_unroll::{Goal, Wanted, query};
 use std::alloc::{AllocError, Global};
 
-// Returns the formula of query `q` over a plant's `system` and `goal`.
 #[tactic(auto, using(crate::proofs::Satisfying::valid_system, crate::proofs::Satisfying::valid_goal))]
 fn formula_of(
     alloc: Global,
@@ -33,7 +32,7 @@ fn formula_of(
     requires steps { SystemMatchesEvents plant.now }
     requires goal_valid { IsTrue
         (goal_valid (ranges_of_plant plant.now) (goal_of_plant plant.now)) }
-    requires means { IsGoalOfPlant plant.now (goal_of_plant plant.now) }
+    requires means { GoalFormsMatchPlant plant.now (goal_of_plant plant.now) }
     requires wanted { IsTrue (step_count_is_allowed q) }
     ensures formula { IfOk result
         (λ cnf. cnf ≡ query_formula (system_of_plant plant.now) (goal_of_plant plant.now) q) }
@@ -45,7 +44,7 @@ fn formula_of(
     query(alloc, system, goal, q)
 }
 
-/// Returns the formula of query `q` over a plant. It is satisfiable if and only if the plant has a
+/// Returns the formula of query `q` over `plant`. It is satisfiable if and only if the plant has a
 /// run that the query asks for. A query has at most 16 steps, and a step query at least one. Fails
 /// only if memory runs out.
 pub fn formula(alloc: Global, plant: &Plant, q: Wanted) -> Result<Cnf, AllocError>

@@ -5,9 +5,9 @@ use Rattle.std.proofs.lemmas.List.Elements.{filter-append}
 use Rattle.std.proofs.lemmas.Option.{slice_get_past}
 use Rattle.ilk_base.proofs.Ranges.{filter_one, range-more}
 use Rattle.ilk_base.specs.Option.{◌>>=◌}
-use Rattle.ilk_lines.specs.Answers.{MatchesPrefixResult}
+use Rattle.ilk_lines.specs.Answers.{PrefixMatchesUnlessOutOfMemory}
 use Rattle.ilk_lines.specs.Lines.{Bytes}
-use Rattle.ilk_lines.specs.LinesLeft.{LinesLeft}
+use Rattle.ilk_lines.specs.LinesLeft.{RemainingLinesAndTail}
 use Rattle.ilk_lines.specs.Reading.{item_values_from_lines}
 use Rattle.ilk_lines.specs.declared.fault.LineFault.{LineFault}
 
@@ -23,13 +23,12 @@ listed_more test numbers new n e passes f = f ∙ ap (λ ns. numbers ++ ns) (sym
 pub listed_same : (test : ℕ → Bool) (numbers : List ℕ) (n : ℕ) → numbers ≡ filter test (range_with_len 0 n) → test n ≡ false → numbers ≡ filter test (range_with_len 0 (n + 1))
 listed_same test numbers n e fails = sym (append-nil numbers) ∙ ap (λ ns. numbers ++ ns) (sym (filter_one test n false fails)) ∙ sym (listed test numbers n e)
 
--- A number past the end of the names has no name, so no line describes it.
 pub unnamed : {A : Type 0} (names : List Bytes) (x : ℕ) (told : Bytes → Option A) → length names ≤ x → None ≡ (slice_get names x >>= told)
 unnamed {A = A} names x told past = sym (ap (λ (o : Option Bytes). o >>= told) (slice_get_past names x past))
 
 pub same_items :
     {A : Type 0} (value : ℕ → Bytes → Option A) (items others : List ℕ) (n : ℕ) (lines : List Bytes)
-    (left : LinesLeft) (answer : Result (List A) LineFault) → items ≡ others →
-    MatchesPrefixResult (item_values_from_lines value items n lines) left answer →
-    MatchesPrefixResult (item_values_from_lines value others n lines) left answer
-same_items value items others n lines left answer same told = subst (λ (xs : List ℕ). MatchesPrefixResult (item_values_from_lines value xs n lines) left answer) same told
+    (left : RemainingLinesAndTail) (answer : Result (List A) LineFault) → items ≡ others →
+    PrefixMatchesUnlessOutOfMemory (item_values_from_lines value items n lines) left answer →
+    PrefixMatchesUnlessOutOfMemory (item_values_from_lines value others n lines) left answer
+same_items value items others n lines left answer same told = subst (λ (xs : List ℕ). PrefixMatchesUnlessOutOfMemory (item_values_from_lines value xs n lines) left answer) same told

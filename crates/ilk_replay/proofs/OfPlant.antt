@@ -14,16 +14,16 @@ use Rattle.ilk_plant.specs.Shape.{HasShape}
 use Rattle.ilk_plant.specs.declared.network.Section.{Section}
 use Rattle.ilk_model.specs.declared.event.Event.{Event}
 use Rattle.ilk_lines.specs.Lines.{Bytes, unterminated_tail, lines_of}
-use Rattle.ilk_lines.specs.Reading.{strip_first_line, expect_end, item_values_from_lines, leading_values, indices_of_items}
+use Rattle.ilk_lines.specs.Reading.{expect_first_line, expect_end_of_text, item_values_from_lines, leading_values, indices_of_items}
 use Rattle.ilk_lines.specs.Words.{split_at_first_space}
 use Rattle.ilk_base.proofs.Results.{bind_ok, ok_is}
 use Rattle.ilk_base.proofs.Options.{bind_some, or_cases}
 use Rattle.ilk_lines.proofs.Leading.{leading_all}
 use Rattle.ilk_replay.specs.EventLine.{event_from_line, point_named}
-use Rattle.ilk_replay.specs.EventSubjects.{event_with}
+use Rattle.ilk_replay.specs.EventSubjects.{event_with_keyword_and_subject}
 use Rattle.ilk_replay.specs.RunText.{run_text}
 use Rattle.ilk_replay.specs.StateLine.{board_from_line, lock_from_line, point_from_line, route_from_line, train_from_line}
-use Rattle.ilk_replay.specs.StateTold.{BeginningAndEventLines, sections_with_points, state_from_lines}
+use Rattle.ilk_replay.specs.StateTold.{BeginningAndEventLines, point_sections_in_order, state_from_lines}
 use Rattle.ilk_replay.specs.Told.{beginning_from_lines, events_from_lines, run_from_text, run_from_lines, run_from_start}
 use Rattle.ilk_replay.specs.Writable.{HasNoBadLine, IsSubjectOfPlant, IsEventSubjectOfPlant, IsRunOfPlant, IsRunText, IsTextOfRun}
 use Rattle.ilk_replay.specs.declared.event_line.Subject.{Subject}
@@ -35,37 +35,37 @@ use Rattle.ilk_replay.proofs.PlainNames.{plain_names}
 use Rattle.ilk_replay.proofs.Shape.{shaped}
 use Rattle.ilk_replay.proofs.StartedBack.{started_back}
 use Rattle.ilk_replay.proofs.WholeBack.{resumed, resumed_back}
-use Rattle.ilk_replay.proofs.Written.{event_with-about, of_point, of_route, of_section}
+use Rattle.ilk_replay.proofs.Written.{event_with_keyword_and_subject-about, of_point, of_route, of_section}
 use Rattle.ilk_replay.proofs.WrittenRun.{answered, made, text_written}
 
 named-within : (names : List Bytes) (name : Bytes) (i : ℕ) → first_number_named names name ≡ Some i → i < length names
 named-within names name i e = (position-Some (bytes_eq name) names i [] e).0
 
-event_with-has : (p : PlantLists) (word : Bytes) (about : Subject) (event : Event) → IsSubjectOfPlant p about → event_with word about ≡ Some event → IsEventSubjectOfPlant p event
-event_with-has p word about event has e = subst (IsSubjectOfPlant p) (sym (event_with-about word about event e)) has
+event_with_keyword_and_subject-has : (p : PlantLists) (word : Bytes) (about : Subject) (event : Event) → IsSubjectOfPlant p about → event_with_keyword_and_subject word about ≡ Some event → IsEventSubjectOfPlant p event
+event_with_keyword_and_subject-has p word about event has e = subst (IsSubjectOfPlant p) (sym (event_with_keyword_and_subject-about word about event e)) has
 
 of_route-about : (p : PlantLists) → IsPlant p → (word name : Bytes) (event : Event) → of_route p word name ≡ Some event → IsEventSubjectOfPlant p event
 of_route-about p plant word name event e =
     let named = plant.routes_named in
-    let b = bind_some (first_number_named p.route_names name) (λ r. event_with word (Route r)) event e in
+    let b = bind_some (first_number_named p.route_names name) (λ r. event_with_keyword_and_subject word (Route r)) event e in
     let below = named-within p.route_names name b.0 b.1 in
-    event_with-has p word (Route b.0) event (omega arith) b.2
+    event_with_keyword_and_subject-has p word (Route b.0) event (omega arith) b.2
 
 of_section-about : (p : PlantLists) → IsPlant p → (word name : Bytes) (event : Event) → of_section p word name ≡ Some event → IsEventSubjectOfPlant p event
 of_section-about p plant word name event e =
     let named = plant.sections_named in
-    let b = bind_some (first_number_named p.section_names name) (λ x. event_with word (AtSection x)) event e in
+    let b = bind_some (first_number_named p.section_names name) (λ x. event_with_keyword_and_subject word (AtSection x)) event e in
     let below = named-within p.section_names name b.0 b.1 in
-    event_with-has p word (AtSection b.0) event (omega arith) b.2
+    event_with_keyword_and_subject-has p word (AtSection b.0) event (omega arith) b.2
 
 of_point-about : (p : PlantLists) (word name : Bytes) (event : Event) → of_point p word name ≡ Some event → IsEventSubjectOfPlant p event
 of_point-about p word name event e =
-    let b = bind_some (point_named p name) (λ x. event_with word (Point x)) event e in
+    let b = bind_some (point_named p name) (λ x. event_with_keyword_and_subject word (Point x)) event e in
     let c = bind_some (first_number_named p.section_names name) _ b.0 b.1 in
     let d = bind_some (slice_get p.sections c.0) _ b.0 c.2 in
     let point = cond_some (is_point d.0) c.0 b.0 d.2 in
     let at : is_point_section p c.0 ≡ true = ap (λ (o : Option Section). is_some_and o is_point) d.1 ∙ point.0 in
-    event_with-has p word (Point b.0) event (ap (is_point_section p) (sym point.1) ∙ at) b.2
+    event_with_keyword_and_subject-has p word (Point b.0) event (ap (is_point_section p) (sym point.1) ∙ at) b.2
 
 pub event_from_line-about : (p : PlantLists) → IsPlant p → (line : Bytes) (event : Event) → event_from_line p line ≡ Some event → IsEventSubjectOfPlant p event
 event_from_line-about p plant line event e =
@@ -78,8 +78,8 @@ event_from_line-about p plant line event e =
 events_from_lines-about : (p : PlantLists) → IsPlant p → (n : ℕ) (lines : List Bytes) (bytes : Bytes) (events : List Event) → events_from_lines p n lines bytes ≡ Ok events → All (IsEventSubjectOfPlant p) events
 events_from_lines-about p plant n lines bytes events e =
     let found : List Event = leading_values (event_from_line p) lines in
-    let v = bind_ok (strip_first_line (codes "end") (n + length found) (drop (length found) lines)) _ events e in
-    let end = bind_ok (expect_end (n + length found + 1) v.0 bytes) _ events v.2 in
+    let v = bind_ok (expect_first_line (codes "end") (n + length found) (drop (length found) lines)) _ events e in
+    let end = bind_ok (expect_end_of_text (n + length found + 1) v.0 bytes) _ events v.2 in
     subst (All (IsEventSubjectOfPlant p)) (ok_is end.2) (leading_all (event_from_line p) (IsEventSubjectOfPlant p) (event_from_line-about p plant) lines)
 
 abbrev BeginsWell : PlantLists → BeginningAndEventLines → Type 0
@@ -91,11 +91,11 @@ from_neither e = cc
 state_from_lines-begins : (p : PlantLists) (lines : List Bytes) (b : BeginningAndEventLines) → state_from_lines p lines ≡ Ok b → BeginsWell p b
 state_from_lines-begins p lines b e =
     let r = bind_ok (item_values_from_lines (route_from_line p) (indices_of_items p.routes) 3 lines) _ b e in
-    let q = bind_ok (item_values_from_lines (point_from_line p) (sections_with_points p) r.0.number r.0.lines) _ b r.2 in
+    let q = bind_ok (item_values_from_lines (point_from_line p) (point_sections_in_order p) r.0.number r.0.lines) _ b r.2 in
     let m = bind_ok (item_values_from_lines (board_from_line p) (indices_of_items p.boards) q.0.number q.0.lines) _ b q.2 in
     let k = bind_ok (item_values_from_lines (lock_from_line p) (indices_of_items p.sections) m.0.number m.0.lines) _ b m.2 in
     let trains = leading_values (train_from_line p) k.0.lines in
-    let v = bind_ok (strip_first_line (codes "events") (k.0.number + length trains) (drop (length trains) k.0.lines)) _ b k.2 in
+    let v = bind_ok (expect_first_line (codes "events") (k.0.number + length trains) (drop (length trains) k.0.lines)) _ b k.2 in
     let same : made r.0.values q.0.values m.0.values k.0.values trains (k.0.number + length trains + 1) v.0 ≡ b = ok_is v.2 in
     let shape : HasShape p (record { routes = r.0.values; points = q.0.values; boards = m.0.values; locks = k.0.values; trains = trains }) =
     shaped p r.0.values q.0.values m.0.values k.0.values trains 3 r.0.number r.0.number q.0.number q.0.number
@@ -120,7 +120,7 @@ beginning_from_lines-begins p (line ∷ more) b e = by_start (bytes_eq line (cod
 
 pub run_from_lines-of_plant : (p : PlantLists) → IsPlant p → (lines : List Bytes) (bytes : Bytes) (t : Told) → run_from_lines p lines bytes ≡ Ok t → IsRunOfPlant p t
 run_from_lines-of_plant p plant lines bytes t e =
-    let a = bind_ok (strip_first_line (codes "run 1") 1 lines) _ t e in
+    let a = bind_ok (expect_first_line (codes "run 1") 1 lines) _ t e in
     let b = bind_ok (beginning_from_lines p a.0) _ t a.2 in
     let c = bind_ok (events_from_lines p b.0.number b.0.lines bytes) _ t b.2 in
     let same : ◌≡◌ {A = Told} (record { first = b.0.first; from_start = b.0.from_start; events = c.0 }) t = ok_is c.2 in

@@ -17,7 +17,6 @@ refused-after : (p : PlantLists) (t : State) (o : Option State) (events more : L
 refused-after p t None events more f e = refl
 refused-after p t (Some u) events more f e = f u e
 
--- After a refused event, no longer prefix is a run.
 pub run-refused : (p : PlantLists) (s t : State) (events : List Event) (event : Event) (i n : ℕ) → run p s (take i events) ≡ Some t → slice_get events i ≡ Some event → next_from_hazard_free p t event ≡ None → i < n → run p s (take n events) ≡ None
 run-refused p s t [] event i n ends here refused more = cc
 run-refused p s t (first ∷ rest) event i zero ends here refused more = absurd (omega arith)
@@ -67,7 +66,6 @@ seen-refused p s t events event i ends here refused =
     (λ j after before. run-prefix p s t events i j ends (omega arith)) in
     rw none (ap (λ (o : Option ℕ). NotARun (unwrap_or o 0)) first)
 
--- The same with the event read by index.
 pub run-read : (p : PlantLists) (s t u : State) (items events : List Event) (d : Event) (i : ℕ) → items ≡ events → i < length items → run p s (take i events) ≡ Some t → next_from_hazard_free p t (get_or items i d) ≡ Some u
     → run p s (take (i + 1) events) ≡ Some u
 run-read p s t u items events d i same within ends next =

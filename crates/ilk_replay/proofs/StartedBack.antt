@@ -8,7 +8,7 @@ use Rattle.ilk_plant.specs.Start.{start}
 use Rattle.ilk_model.specs.declared.event.Event.{Event}
 use Rattle.ilk_model.specs.declared.event.Event.TheVariants.{Mark, Allocate, Lock, Sense, Release, Finish, Throw, Settle, Enter, Head, Tail, Leave, Cancel}
 use Rattle.ilk_lines.specs.Lines.{Bytes, unterminated_tail}
-use Rattle.ilk_lines.specs.Reading.{strip_first_line, expect_end}
+use Rattle.ilk_lines.specs.Reading.{expect_first_line, expect_end_of_text}
 use Rattle.ilk_lines.specs.Written.{LacksByte}
 use Rattle.ilk_lines.proofs.Lacking.{lacks_spaced}
 use Rattle.ilk_base.proofs.Lists.{drop-mapped}
@@ -16,26 +16,26 @@ use Rattle.ilk_lines.proofs.Leading.{leading_back}
 use Rattle.ilk_lines.proofs.TextLines.{lines_back}
 use Rattle.ilk_replay.proofs.WordTables.{word_lacks, words_lack}
 use Rattle.ilk_model.specs.EventWords.{event_word}
-use Rattle.ilk_replay.specs.EventSubjects.{event_with, events_about, subject}
+use Rattle.ilk_replay.specs.EventSubjects.{event_with_keyword_and_subject, events_about, subject}
 use Rattle.ilk_replay.specs.declared.event_line.Subject.{Subject}
 use Rattle.ilk_replay.specs.declared.event_line.Subject.TheVariants.{Route, Point, Section}
 use Rattle.ilk_replay.specs.EventLine.{event_from_line}
 use Rattle.ilk_replay.specs.Told.{events_from_lines, run_from_text, run_from_lines, run_from_start}
-use Rattle.ilk_replay.specs.RunText.{event_line, name_of, run_text, subject_name}
+use Rattle.ilk_replay.specs.RunText.{event_line, name_with_number, run_text, subject_name}
 use Rattle.ilk_replay.specs.Writable.{IsEventSubjectOfPlant}
 use Rattle.ilk_replay.proofs.PlainNames.{HasPlainNames}
 use Rattle.ilk_replay.specs.declared.told.Tale.TheVariants.{Told as IsTold}
 use Rattle.ilk_replay.proofs.WrittenRun.{answered}
 use Rattle.ilk_replay.proofs.ReadBack.{event_back}
 
-pub name_lacks : (c : ℕ) (names : List Bytes) (i : ℕ) → All (LacksByte c) names → LacksByte c (name_of names i)
+pub name_lacks : (c : ℕ) (names : List Bytes) (i : ℕ) → All (LacksByte c) names → LacksByte c (name_with_number names i)
 name_lacks c names i plain = by_place (slice_get names i) refl
   where
     by_place : (o : Option Bytes) → slice_get names i ≡ o → LacksByte c (unwrap_or o [])
     by_place None this = refl
     by_place (Some name) this = subst (LacksByte c) (get_or_from_slice_get names i name [] this) (plain i [] (slice_get_within names i name this))
 
-event_back-word : (event : Event) → event_with (event_word event) (subject event) ≡ Some event
+event_back-word : (event : Event) → event_with_keyword_and_subject (event_word event) (subject event) ≡ Some event
 event_back-word (Mark r) = refl
 event_back-word (Allocate r) = refl
 event_back-word (Lock r) = refl
@@ -72,9 +72,9 @@ pub events_back : (p : PlantLists) → IsPlant p → (n : ℕ) (events : List Ev
 events_back p plant n events about =
     let lines : List Bytes = map (event_line p) events ++ codes "end" ∷ [] in
     let told : All (λ event. event_from_line p (event_line p event) ≡ Some event) events = λ k d within. event_back p plant (get_or events k d) (about k d within) in
-    ap (λ (es : List Event). strip_first_line (codes "end") (n + length es) (drop (length es) lines) >>= (λ more. expect_end (n + length es + 1) more [] >>= (λ none. Ok es)))
+    ap (λ (es : List Event). expect_first_line (codes "end") (n + length es) (drop (length es) lines) >>= (λ more. expect_end_of_text (n + length es + 1) more [] >>= (λ none. Ok es)))
     (leading_back (event_from_line p) (event_line p) events (codes "end") [] told refl)
-    ∙ ap (λ (ls : List Bytes). strip_first_line (codes "end") (n + length events) ls >>= (λ more. expect_end (n + length events + 1) more [] >>= (λ none. Ok events))) (drop-mapped (event_line p) events (codes "end" ∷ []))
+    ∙ ap (λ (ls : List Bytes). expect_first_line (codes "end") (n + length events) ls >>= (λ more. expect_end_of_text (n + length events + 1) more [] >>= (λ none. Ok events))) (drop-mapped (event_line p) events (codes "end" ∷ []))
 
 pub started_back : (p : PlantLists) → IsPlant p → HasPlainNames p → (events : List Event) → All (IsEventSubjectOfPlant p) events → run_from_text p (run_text p (run_from_start p events)) ≡ IsTold (run_from_start p events)
 started_back p plant plain events about =

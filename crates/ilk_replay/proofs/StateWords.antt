@@ -16,7 +16,7 @@ use Rattle.ilk_plant.specs.declared.state.Lie.TheVariants.{Plus as LiesPlus, Min
 use Rattle.ilk_plant.specs.declared.state.Mode.{Mode}
 use Rattle.ilk_plant.specs.declared.state.Mode.TheVariants.{Free, Marked, Allocating, Locked, Occupied}
 use Rattle.ilk_plant.proofs.WordsBack.{direction_back, position_back}
-use Rattle.ilk_replay.proofs.WordTables.{value_of_word-word, word_lacks, words_lack}
+use Rattle.ilk_replay.proofs.WordTables.{first_value_with_word-word, word_lacks, words_lack}
 
 abbrev modes : List Mode
 modes = Free ∷ Marked ∷ Allocating ∷ Locked ∷ Occupied ∷ []
@@ -29,7 +29,7 @@ mode_back Locked = refl
 mode_back Occupied = refl
 
 pub mode_read : (word : Bytes) (x : Mode) → mode_from_word word ≡ Some x → word ≡ mode_word x
-mode_read word x e = value_of_word-word mode_word modes word x e
+mode_read word x e = first_value_with_word-word mode_word modes word x e
 
 pub mode_lacks : (c : ℕ) (x : Mode) → words_lack c mode_word modes ≡ true → LacksByte c (mode_word x)
 mode_lacks c x all = word_lacks c mode_word modes x (mode_back x) all
@@ -43,7 +43,7 @@ lie_back LiesMinus = refl
 lie_back Moving = refl
 
 pub lie_read : (word : Bytes) (x : Lie) → lie_from_word word ≡ Some x → word ≡ lie_word x
-lie_read word x e = value_of_word-word lie_word lies word x e
+lie_read word x e = first_value_with_word-word lie_word lies word x e
 
 pub lie_lacks : (c : ℕ) (x : Lie) → words_lack c lie_word lies ≡ true → LacksByte c (lie_word x)
 lie_lacks c x all = word_lacks c lie_word lies x (lie_back x) all
@@ -52,7 +52,7 @@ abbrev positions : List Position
 positions = Plus ∷ Minus ∷ []
 
 pub position_read : (word : Bytes) (x : Position) → position_from_word word ≡ Some x → word ≡ position_word x
-position_read word x e = value_of_word-word position_word positions word x e
+position_read word x e = first_value_with_word-word position_word positions word x e
 
 pub position_lacks : (c : ℕ) (x : Position) → words_lack c position_word positions ≡ true → LacksByte c (position_word x)
 position_lacks c x all = word_lacks c position_word positions x (position_back x) all
@@ -65,7 +65,7 @@ aspect_back Open = refl
 aspect_back Closed = refl
 
 pub aspect_read : (word : Bytes) (x : Aspect) → aspect_from_word word ≡ Some x → word ≡ aspect_word x
-aspect_read word x e = value_of_word-word aspect_word aspects word x e
+aspect_read word x e = first_value_with_word-word aspect_word aspects word x e
 
 pub aspect_lacks : (c : ℕ) (x : Aspect) → words_lack c aspect_word aspects ≡ true → LacksByte c (aspect_word x)
 aspect_lacks c x all = word_lacks c aspect_word aspects x (aspect_back x) all
@@ -79,7 +79,7 @@ hold_back LockedLock = refl
 hold_back Used = refl
 
 pub hold_read : (word : Bytes) (x : Hold) → hold_from_word word ≡ Some x → word ≡ hold_word x
-hold_read word x e = value_of_word-word hold_word holds word x e
+hold_read word x e = first_value_with_word-word hold_word holds word x e
 
 pub hold_lacks : (c : ℕ) (x : Hold) → words_lack c hold_word holds ≡ true → LacksByte c (hold_word x)
 hold_lacks c x all = word_lacks c hold_word holds x (hold_back x) all
@@ -88,7 +88,7 @@ abbrev directions : List Dir
 directions = Up ∷ Down ∷ []
 
 pub direction_read : (word : Bytes) (x : Dir) → direction_from_word word ≡ Some x → word ≡ direction_word x
-direction_read word x e = value_of_word-word direction_word directions word x e
+direction_read word x e = first_value_with_word-word direction_word directions word x e
 
 pub direction_lacks : (c : ℕ) (x : Dir) → words_lack c direction_word directions ≡ true → LacksByte c (direction_word x)
 direction_lacks c x all = word_lacks c direction_word directions x (direction_back x) all

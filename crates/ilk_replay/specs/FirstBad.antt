@@ -1,4 +1,4 @@
--- The first bad line of a text, defined by the texts of runs alone.
+-- The first bad line of a text, defined only by the texts of runs.
 use Rattle.std.specs.Prelude.{ℕ}
 use Rattle.ilk_plant.specs.Plant.{PlantLists}
 use Rattle.ilk_lines.specs.Lines.{Bytes}
@@ -6,8 +6,8 @@ use Rattle.ilk_lines.specs.FirstBad.{IsFirstBadLine}
 use Rattle.ilk_replay.specs.RunText.{run_lines}
 use Rattle.ilk_replay.specs.Writable.{IsRunOfPlant}
 
--- Holds if line n, from 1, is the first bad line of a text. The text is not the text of a run. The
--- lines before line n begin the text of some run. Together with line n, unless it is missing, they
--- begin none.
+-- Holds if line `n`, from 1, is the first bad line of a text, which is not the text of a run. The
+-- lines before line `n` begin the text of some run. Together with line `n`, unless it is missing,
+-- they begin none.
 abbrev pub IsFirstBadLineOfRun : PlantLists → Bytes → ℕ → Type 0
 IsFirstBadLineOfRun p text n = IsFirstBadLine (IsRunOfPlant p) (run_lines p) text n

@@ -10,14 +10,15 @@ use Rattle.ilk_model.specs.declared.hazards.HazardAt.{HazardAt}
 use Rattle.ilk_replay.specs.declared.seen.Seen.{Seen}
 use Rattle.ilk_replay.specs.declared.seen.Seen.TheVariants.{NotARun, NoHazard, Hazard}
 
--- The least n, from 1, such that the first n events are not a run from s. Event n isn't enabled, or
--- the state before it has a hazard.
-abbrev pub first_failing_event : PlantLists → State → List Event → ℕ
-first_failing_event p s events =
+-- Returns the number, from 1, of the first event that isn't enabled or follows a hazard, if the
+-- events from state `s` aren't a run. Otherwise returns 0.
+abbrev pub first_event_breaking_run : PlantLists → State → List Event → ℕ
+first_event_breaking_run p s events =
     unwrap_or (find (λ n. is_none (run p s (take n events))) (range_with_len 1 (length events))) 0
 
--- The result of replaying these events from s. For a run: the hazard of its last state, or no
--- hazard. Otherwise: the first refused event.
+-- Returns the result of replaying these events from state `s`: the hazard of the last state, or no
+-- hazard. If the events are not a run, returns the number of the first event that isn't enabled or
+-- follows a hazard.
 abbrev pub replay_result : PlantLists → State → List Event → Seen
 replay_result p s events = after (run p s events)
   where
@@ -26,5 +27,5 @@ replay_result p s events = after (run p s events)
     shown (Some at) = Hazard at
 
     after : Option State → Seen
-    after None = NotARun (first_failing_event p s events)
+    after None = NotARun (first_event_breaking_run p s events)
     after (Some t) = shown (hazard p t)

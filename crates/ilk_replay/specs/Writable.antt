@@ -13,31 +13,31 @@ use Rattle.ilk_replay.specs.declared.event_line.Subject.TheVariants.{Route, Poin
 use Rattle.ilk_replay.specs.declared.told.Tale.TheVariants.{Bad}
 use Rattle.ilk_replay.specs.declared.told.Told.{Told}
 
--- Holds if the plant has the subject.
+-- Holds if the plant has this route, this point or this section.
 abbrev pub IsSubjectOfPlant : PlantLists → Subject → Type 0
 IsSubjectOfPlant p (Route r) = r < length p.routes
 IsSubjectOfPlant p (Point x) = IsTrue (is_point_section p x)
 IsSubjectOfPlant p (Section x) = x < length p.sections
 
--- Holds if the event is about a route, a point or a section of the plant.
+-- Holds if the plant has the route, the point or the section that an event is about.
 abbrev pub IsEventSubjectOfPlant : PlantLists → Event → Type 0
 IsEventSubjectOfPlant p event = IsSubjectOfPlant p (subject event)
 
--- Holds if a text can describe this run of the plant. It begins in a state with the plant's shape,
--- which is the initial state if the text says `start`. The plant has the subjects of its events.
+-- Holds if a text can describe this run. Its first state is well-formed for the plant, and is the
+-- initial state if the text says `start`. The plant has the subjects of its events.
 pub record IsRunOfPlant (p : PlantLists) (told : Told) : Type 0 where
   pub shape : HasShape p told.first
   pub start : told.from_start ≡ true → told.first ≡ start p
   pub events : All (IsEventSubjectOfPlant p) told.events
 
--- Holds if the text is the one written for this run of the plant.
+-- Holds if a text can describe this run, and this is the text written for it.
 abbrev pub IsTextOfRun : PlantLists → Told → Bytes → Type 0
 IsTextOfRun p told text = IsRunOfPlant p told × (text ≡ run_text p told)
 
--- Holds if no line of the text is bad.
+-- Holds if the reader reports no line of the text as bad.
 abbrev pub HasNoBadLine : PlantLists → Bytes → Type 0
 HasNoBadLine p text = (n : ℕ) → run_from_text p text ≢ Bad n
 
--- Holds if the text is that of some run of the plant.
+-- Holds if the text is the one written for some run of the plant.
 abbrev pub IsRunText : PlantLists → Bytes → Type 0
 IsRunText p text = (told : Told) × IsTextOfRun p told text

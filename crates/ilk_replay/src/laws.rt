@@ -7,12 +7,11 @@ ghost use Rattle.ilk_replay.specs.declared.told.Told.{Told};
 
 use ilk_plant::Plant;
 
-/// A text is read as a run if and only if it is the text written for that run of the plant. So a
-/// written text is read back, and no two texts describe one run. A text has no bad line if and only
-/// if it is the text of some run of the plant. The reported bad line is the first: the lines before
-/// it begin the text of some run, and together with it they begin none. Proof only; no run-time
-/// effect.
-pub fn texts_are_those_written(plant: &Plant, text: &[u8])
+/// A text is read as a run of the plant if and only if it is the text written for that run.
+/// Otherwise its first bad line is reported: the lines before it begin the text of some run, and
+/// together with it they begin none. So a written text is read back, and no two texts describe one
+/// run. Proof only; no run-time effect.
+pub fn run_reading_is_exact(plant: &Plant, text: &[u8])
     ensures run { (told : Told) →
         (run_from_text plant.now text.now ≡ IsTold told) ↔ IsTextOfRun plant.now told text.now }
     ensures lines { HasNoBadLine plant.now text.now ↔ IsRunText plant.now text.now }

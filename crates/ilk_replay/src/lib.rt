@@ -6,9 +6,9 @@
 //!
 //! `specs/EventSubjects` defines the subject of an event, `specs/RunText` the text of a run, and
 //! `specs/Told` the content of a text. `specs/Writable` and `specs/FirstBad` connect the two. The
-//! theorem `texts_are_those_written` says that a text is read as a run if and only if it is written
-//! for that run. It also says that the reported bad line is the first. `specs/Seen` defines the
-//! result of a replay.
+//! theorem `run_reading_is_exact` says that a text is read as a run if and only if it is written
+//! for that run, and that the reported bad line is the first. `specs/Seen` defines the result of a
+//! replay.
 //!
 //! `read_run` reads a text for a plant. `write_run` writes a text that is read as the same run.
 //! `replay` executes the run of a text.
@@ -27,7 +27,7 @@ mod state_writing;
 mod told;
 
 pub use event_line::event_from_line;
-pub use laws::texts_are_those_written;
+pub use laws::run_reading_is_exact;
 pub use reading::read_run;
 pub use run_writing::write_run;
 pub use seen::{Seen, replay};

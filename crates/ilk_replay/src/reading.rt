@@ -1,10 +1,10 @@
 ghost use Rattle.std.specs.Prelude.{◌≡◌, IfOk, OnOk};
-ghost use Rattle.ilk_lines.specs.Answers.{MatchesResult, prefix_with_rest};
+ghost use Rattle.ilk_lines.specs.Answers.{ResultMatchesUnlessOutOfMemory, parsed_prefix_from_parts};
 ghost use Rattle.ilk_lines.specs.Lines.{unterminated_tail, lines_of};
 ghost use Rattle.ilk_lines.specs.Reading.{parsed_prefix};
 ghost use Rattle.ilk_plant.specs.Shape.{HasShape};
 ghost use Rattle.ilk_replay.specs.EventLine.{event_from_line};
-ghost use Rattle.ilk_replay.specs.Reading.{IsBeginningRead};
+ghost use Rattle.ilk_replay.specs.Reading.{BeginningReadMatchesDefinition};
 ghost use Rattle.ilk_replay.specs.Shaped.{HasShapeIfRead};
 ghost use Rattle.ilk_replay.specs.Told.{beginning_from_lines, events_from_lines, run_from_text, run_from_lines};
 
@@ -16,7 +16,6 @@ use ilk_model::Event;
 use ilk_plant::{Plant, Row, State, start_state};
 use std::alloc::{AllocError, Global};
 
-// Reads the events of the next lines, up to the first line that isn't an event.
 fn read_event_lines(
     alloc: Global,
     plant: &Plant,
@@ -24,20 +23,19 @@ fn read_event_lines(
 ) -> Result<Row<Event>, AllocError>
     ensures told { IfOk result
         (λ events. parsed_prefix (event_from_line plant.now) lines.old.number lines.old.lines
-        ≡ prefix_with_rest events lines.new) }
+        ≡ parsed_prefix_from_parts events lines.new) }
     ensures after { lines.new.after ≡ lines.old.after }
 {
     read_while_some(alloc, lines, |line| Ok(event_from_line(plant, line)))
 }
 
-// Reads the remaining lines: one per event, then `end`, and nothing more.
 fn read_events(alloc: Global, plant: &Plant, lines: &mut Lines) -> Result<Row<Event>, LineFault>
-    ensures { MatchesResult
+    ensures { ResultMatchesUnlessOutOfMemory
         (events_from_lines plant.now lines.old.number lines.old.lines lines.old.after) result }
 {
     let events = read_event_lines(alloc, plant, lines)?;
     lines.expect_line(b"end")?;
-    lines.check_at_end()?;
+    lines.expect_end_of_text()?;
     Ok(events)
 }
 
@@ -48,7 +46,8 @@ fn read_beginning(
     lines: &mut Lines,
 ) -> Result<(State, bool), LineFault>
     requires { lines.old.number ≡ 2 }
-    ensures told { IsBeginningRead (beginning_from_lines plant.now lines.old.lines) lines.new
+    ensures told { BeginningReadMatchesDefinition (beginning_from_lines plant.now lines.old.lines)
+        lines.new
         result }
     ensures after { OnOk result (lines.new.after ≡ lines.old.after) }
     ensures shape { IfOk result (λ begun. HasShape plant.now begun.0) }
@@ -65,9 +64,8 @@ fn read_beginning(
     Err(LineFault::BadLine(2))
 }
 
-// Reads the run of a text.
 fn read_told(alloc: Global, plant: &Plant, text: &[u8]) -> Result<Told, LineFault>
-    ensures told { MatchesResult (run_from_lines plant.now (lines_of text.now)
+    ensures told { ResultMatchesUnlessOutOfMemory (run_from_lines plant.now (lines_of text.now)
         (unterminated_tail text.now))
         result }
     ensures shape { IfOk result (λ told. HasShape plant.now told.first) }
@@ -83,8 +81,8 @@ fn read_told(alloc: Global, plant: &Plant, text: &[u8]) -> Result<Told, LineFaul
     })
 }
 
-/// Reads a run text. Returns its run, whose first state has the plant's shape, or the number of its
-/// first bad line, from 1. Fails only if memory runs out.
+/// Reads a run text for `plant`. Returns its run, whose first state is well-formed, or the number
+/// of its first bad line, from 1. Fails only if memory runs out.
 pub fn read_run(alloc: Global, plant: &Plant, text: &[u8]) -> Result<Tale, AllocError>
     ensures tale { IfOk result (λ tale. tale ≡ run_from_text plant.now text.now) }
     ensures shape { IfOk result (HasShapeIfRead plant.now) }

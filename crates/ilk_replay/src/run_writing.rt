@@ -12,7 +12,6 @@ use ilk_model::Event;
 use ilk_plant::{Plant, Row};
 use std::alloc::{AllocError, Global};
 
-// Returns the subject of an event.
 fn subject(event: Event) -> Subject
     ensures { result ≡ subject event }
 {
@@ -34,7 +33,6 @@ fn subject(event: Event) -> Subject
 }
 
 #[tactic(auto, using(crate::proofs::Subjects::subject_known))]
-// Returns the name of a subject.
 fn subject_name<'a>(plant: &'a Plant, about: Subject) -> &'a str
     requires { IsSubjectOfPlant plant.now about }
     ensures { result.now ≡ subject_name plant.now about }
@@ -46,7 +44,6 @@ fn subject_name<'a>(plant: &'a Plant, about: Subject) -> &'a str
     }
 }
 
-// Appends the line of an event.
 fn push_event(text: &mut String, plant: &Plant, event: Event) -> Result<(), AllocError>
     requires { IsEventSubjectOfPlant plant.now event }
     ensures { OnOk result
@@ -56,7 +53,6 @@ fn push_event(text: &mut String, plant: &Plant, event: Event) -> Result<(), Allo
     write!(text, "{} {}\n", event.word(), name)
 }
 
-// Appends the lines of events.
 fn push_events(text: &mut String, plant: &Plant, events: &Row<Event>) -> Result<(), AllocError>
     requires { All (IsEventSubjectOfPlant plant.now) events.now }
     ensures { OnOk result
@@ -70,7 +66,6 @@ fn push_events(text: &mut String, plant: &Plant, events: &Row<Event>) -> Result<
     Ok(())
 }
 
-// Appends the beginning of a run.
 fn push_beginning(
     alloc: Global,
     text: &mut String,
@@ -92,8 +87,8 @@ fn push_beginning(
 }
 
 #[tactic(auto, using(crate::proofs::RunTexts::text_is))]
-/// Returns the text of a run, which `read_run` reads as the same run. Fails only if memory runs
-/// out.
+/// Returns the text of the run `told`, which `read_run` reads as the same run. Fails only if memory
+/// runs out.
 pub fn write_run(alloc: Global, plant: &Plant, told: &Told) -> Result<Vec<u8>, AllocError>
     requires { IsRunOfPlant plant.now told.now }
     ensures { IfOk result (λ text. text.items ≡ run_text plant.now told.now) }

@@ -7,19 +7,18 @@ use ilk_model::{Event, HazardAt, apply, hazard};
 use ilk_plant::{Plant, Row, State};
 use std::alloc::{AllocError, Global};
 
-/// The result of replaying a list of events.
+/// The result of replaying a list of events from a state.
 #[derive(Clone, Copy, PartialEq, Eq, Debug)]
 pub enum Seen {
     /// The events are not a run: event `at`, from 1, isn't enabled, or the state before it has a
     /// hazard.
     NotARun { at: u64 },
-    /// They are a run, and its last state has no hazard.
+    /// The events are a run, and its last state has no hazard.
     NoHazard,
-    /// They are a run that ends in this hazard.
+    /// The events are a run that ends in this hazard.
     Hazard(HazardAt),
 }
 
-// Executes the event if it is enabled and the state has no hazard. Returns whether it did.
 fn advance(alloc: Global, plant: &Plant, s: &mut State, event: Event) -> Result<bool, AllocError>
     requires { HasShape plant.now s.old }
     ensures answer { IfOk result (λ enabled. enabled
@@ -34,9 +33,9 @@ fn advance(alloc: Global, plant: &Plant, s: &mut State, event: Event) -> Result<
     apply(alloc, plant, s, event)
 }
 
-/// Replays the events from `first`. If an event isn't enabled or follows a hazard, returns
-/// `NotARun` with the number of the first such event. Otherwise returns the hazard of the last
-/// state, or `NoHazard`. Fails only if memory runs out.
+/// Replays the events from the state `first`. Returns the hazard of the last state, or `NoHazard`.
+/// If an event isn't enabled or follows a hazard, returns `NotARun` with the number of the first
+/// such event, from 1. Fails only if memory runs out.
 pub fn replay(
     alloc: Global,
     plant: &Plant,

@@ -1,5 +1,5 @@
 ghost use Rattle.std.specs.Prelude.{◌≡◌, IfOk, option_map};
-ghost use Rattle.ilk_replay.specs.StateLine.{board_from_line, lock_from_line, point_state_from_words, point_from_line, route_state_from_words, route_from_line, rest_after_name, sections_named, dir_and_names_from_words, train_from_line, train_with};
+ghost use Rattle.ilk_replay.specs.StateLine.{board_from_line, lock_from_line, point_state_from_words, point_from_line, route_state_from_words, route_from_line, rest_after_kind_and_name, sections_named, dir_and_names_from_words, train_from_line, train_if_body_connected};
 ghost use Rattle.ilk_lines.specs.Words.{words_of};
 
 use crate::names::section_named;
@@ -9,14 +9,13 @@ use ilk_plant::{
 };
 use std::alloc::{AllocError, Global};
 
-// Returns the rest of `line` after the words `kind` and `name`.
 fn said_of<'a>(kind: &[u8], name: &[u8], line: &'a [u8]) -> Option<&'a [u8]>
-    ensures { option_map (λ text. text.now) result ≡ rest_after_name kind.now name.now line.now }
+    ensures { option_map (λ text. text.now) result ≡
+        rest_after_kind_and_name kind.now name.now line.now }
 {
     strip_first_word(strip_first_word(line, kind)?, name)
 }
 
-// Returns a route's mode, `seen` and `rel`, each count at most `limit`.
 fn route_said(limit: u32, text: &[u8]) -> Option<RouteState>
     ensures { result ≡ route_state_from_words limit text.now }
 {
@@ -40,7 +39,6 @@ pub(crate) fn route_from_line(plant: &Plant, r: u32, line: &[u8]) -> Option<Rout
     route_said(limit, text)
 }
 
-// Returns a point's detected and commanded position.
 fn point_said(text: &[u8]) -> Option<PointState>
     ensures { result ≡ point_state_from_words text.now }
 {
@@ -108,7 +106,6 @@ fn sections_named(
     Ok(Some(body))
 }
 
-// Returns a train's direction and the names of its sections.
 fn train_said(line: &[u8]) -> Option<(Dir, &[u8])>
     ensures { option_map (λ said. (said.0, said.1.now)) result ≡ dir_and_names_from_words line.now }
 {
@@ -117,12 +114,11 @@ fn train_said(line: &[u8]) -> Option<(Dir, &[u8])>
     Some((Dir::from_word(dir)?, names))
 }
 
-// Returns a train with this body, or `None` if the body doesn't lead on in its direction.
-fn train_with(plant: &Plant, dir: Dir, body: Row<u32>) -> Option<Train>
-    ensures { result ≡ train_with plant.now dir body }
+fn train_if_body_connected(plant: &Plant, dir: Dir, body: Row<u32>) -> Option<Train>
+    ensures { result ≡ train_if_body_connected plant.now dir body }
 {
     let train = Train { dir, body };
-    if plant.train_body_is_valid(&train) {
+    if plant.has_nonempty_connected_body(&train) {
         Some(train)
     } else {
         None
@@ -143,5 +139,5 @@ pub(crate) fn train_from_line(
     let Some(body) = sections_named(alloc, plant, names)? else {
         return Ok(None);
     };
-    Ok(train_with(plant, dir, body))
+    Ok(train_if_body_connected(plant, dir, body))
 }

@@ -1,21 +1,20 @@
 ghost use Rattle.std.specs.Prelude.{◌≡◌, IfOk, OnOk};
 ghost use Rattle.std.specs.List.{range_with_len};
-ghost use Rattle.ilk_lines.specs.Answers.{MatchesPrefixResult, prefix_with_rest};
+ghost use Rattle.ilk_lines.specs.Answers.{PrefixMatchesUnlessOutOfMemory, parsed_prefix_from_parts};
 ghost use Rattle.ilk_lines.specs.Reading.{item_values_from_lines, parsed_prefix, indices_of_items};
 ghost use Rattle.ilk_plant.specs.Shape.{HasShape};
 ghost use Rattle.ilk_replay.specs.StateLine.{board_from_line, lock_from_line, point_from_line, route_from_line, train_from_line};
-ghost use Rattle.ilk_replay.specs.StateTold.{sections_with_points, state_from_lines};
-ghost use Rattle.ilk_replay.specs.Reading.{IsStateRead};
+ghost use Rattle.ilk_replay.specs.StateTold.{point_sections_in_order, state_from_lines};
+ghost use Rattle.ilk_replay.specs.Reading.{StateReadMatchesDefinition};
 
 use crate::state_line::{
     board_from_line, lock_from_line, point_from_line, route_from_line, train_from_line,
 };
-use ilk_lines::{LineFault, Lines, read_lines, read_while_some};
+use ilk_lines::{LineFault, Lines, read_one_line_per_item, read_while_some};
 use ilk_plant::{Aspect, Hold, Plant, PointState, RouteState, Row, State, Train};
 use std::alloc::{AllocError, Global};
 
 #[tactic(auto, using(crate::proofs::Items::numbered_more))]
-// Returns the numbers below `count`.
 fn numbers_below(alloc: Global, count: u32) -> Result<Row<u32>, AllocError>
     ensures { IfOk result (λ numbers. numbers ≡ range_with_len 0 count) }
 {
@@ -28,8 +27,8 @@ fn numbers_below(alloc: Global, count: u32) -> Result<Row<u32>, AllocError>
 
 #[tactic(auto, using(crate::proofs::Items::listed_more, crate::proofs::Items::listed_same))]
 /// Returns the numbers of the point sections, in order.
-pub(crate) fn sections_with_points(alloc: Global, plant: &Plant) -> Result<Row<u32>, AllocError>
-    ensures { IfOk result (λ numbers. numbers ≡ sections_with_points plant.now) }
+pub(crate) fn point_sections_in_order(alloc: Global, plant: &Plant) -> Result<Row<u32>, AllocError>
+    ensures { IfOk result (λ numbers. numbers ≡ point_sections_in_order plant.now) }
 {
     let mut numbers = Row::new(alloc);
     for x in 0..plant.sections() {
@@ -40,20 +39,19 @@ pub(crate) fn sections_with_points(alloc: Global, plant: &Plant) -> Result<Row<u
     Ok(numbers)
 }
 
-// Reads the states of the routes, one per line.
 fn read_routes(
     alloc: Global,
     plant: &Plant,
     lines: &mut Lines,
 ) -> Result<Row<RouteState>, LineFault>
-    ensures told { MatchesPrefixResult
+    ensures told { PrefixMatchesUnlessOutOfMemory
         (item_values_from_lines (route_from_line plant.now) (indices_of_items plant.now.routes)
         lines.old.number
         lines.old.lines) lines.new result }
     ensures after { OnOk result (lines.new.after ≡ lines.old.after) }
 {
     let routes = numbers_below(alloc, plant.routes())?;
-    read_lines(
+    read_one_line_per_item(
         alloc,
         lines,
         routes.as_slice(),
@@ -61,20 +59,19 @@ fn read_routes(
     )
 }
 
-// Reads the states of the points, one per line, in the order of their sections.
 fn read_points(
     alloc: Global,
     plant: &Plant,
     lines: &mut Lines,
 ) -> Result<Row<PointState>, LineFault>
-    ensures told { MatchesPrefixResult
+    ensures told { PrefixMatchesUnlessOutOfMemory
         (item_values_from_lines (point_from_line plant.now)
-        (sections_with_points plant.now) lines.old.number
+        (point_sections_in_order plant.now) lines.old.number
         lines.old.lines) lines.new result }
     ensures after { OnOk result (lines.new.after ≡ lines.old.after) }
 {
-    let points = sections_with_points(alloc, plant)?;
-    read_lines(
+    let points = point_sections_in_order(alloc, plant)?;
+    read_one_line_per_item(
         alloc,
         lines,
         points.as_slice(),
@@ -82,16 +79,15 @@ fn read_points(
     )
 }
 
-// Reads the aspects of the boards, one per line.
 fn read_boards(alloc: Global, plant: &Plant, lines: &mut Lines) -> Result<Row<Aspect>, LineFault>
-    ensures told { MatchesPrefixResult
+    ensures told { PrefixMatchesUnlessOutOfMemory
         (item_values_from_lines (board_from_line plant.now) (indices_of_items plant.now.boards)
         lines.old.number
         lines.old.lines) lines.new result }
     ensures after { OnOk result (lines.new.after ≡ lines.old.after) }
 {
     let boards = numbers_below(alloc, plant.boards())?;
-    read_lines(
+    read_one_line_per_item(
         alloc,
         lines,
         boards.as_slice(),
@@ -99,16 +95,15 @@ fn read_boards(alloc: Global, plant: &Plant, lines: &mut Lines) -> Result<Row<As
     )
 }
 
-// Reads the locks of the sections, one per line.
 fn read_locks(alloc: Global, plant: &Plant, lines: &mut Lines) -> Result<Row<Hold>, LineFault>
-    ensures told { MatchesPrefixResult
+    ensures told { PrefixMatchesUnlessOutOfMemory
         (item_values_from_lines (lock_from_line plant.now) (indices_of_items plant.now.sections)
         lines.old.number
         lines.old.lines) lines.new result }
     ensures after { OnOk result (lines.new.after ≡ lines.old.after) }
 {
     let sections = numbers_below(alloc, plant.sections())?;
-    read_lines(
+    read_one_line_per_item(
         alloc,
         lines,
         sections.as_slice(),
@@ -116,11 +111,10 @@ fn read_locks(alloc: Global, plant: &Plant, lines: &mut Lines) -> Result<Row<Hol
     )
 }
 
-// Reads the trains of the next lines, up to the first line that isn't a train.
 fn read_trains(alloc: Global, plant: &Plant, lines: &mut Lines) -> Result<Row<Train>, AllocError>
     ensures told { IfOk result
         (λ trains. parsed_prefix (train_from_line plant.now) lines.old.number lines.old.lines
-        ≡ prefix_with_rest trains lines.new) }
+        ≡ parsed_prefix_from_parts trains lines.new) }
     ensures after { lines.new.after ≡ lines.old.after }
 {
     read_while_some(alloc, lines, |line| train_from_line(alloc, plant, line))
@@ -133,7 +127,8 @@ pub(crate) fn read_state(
     lines: &mut Lines,
 ) -> Result<State, LineFault>
     requires { lines.old.number ≡ 3 }
-    ensures told { IsStateRead (state_from_lines plant.now lines.old.lines) lines.new result }
+    ensures told { StateReadMatchesDefinition (state_from_lines plant.now lines.old.lines)
+        lines.new result }
     ensures after { OnOk result (lines.new.after ≡ lines.old.after) }
     ensures shape { IfOk result (HasShape plant.now) }
 {

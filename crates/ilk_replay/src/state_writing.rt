@@ -2,15 +2,14 @@ ghost use Rattle.std.specs.Prelude.{◌≡◌, ◌<◌, ◌++◌, ◌∷◌, [],
 ghost use Rattle.ilk_lines.specs.Reading.{indices_of_items};
 ghost use Rattle.ilk_lines.specs.Written.{lines_of_items, text_of};
 ghost use Rattle.ilk_plant.specs.Shape.{HasShape};
-ghost use Rattle.ilk_replay.specs.RunText.{board_line, name_of, point_line, route_line, section_line, state_lines, train_line};
-ghost use Rattle.ilk_replay.specs.StateTold.{sections_with_points};
+ghost use Rattle.ilk_replay.specs.RunText.{board_line, name_with_number, point_line, route_line, section_line, state_lines, train_line};
+ghost use Rattle.ilk_replay.specs.StateTold.{point_sections_in_order};
 
-use crate::state_reading::sections_with_points;
+use crate::state_reading::point_sections_in_order;
 use ilk_base::HasWord;
 use ilk_plant::{Aspect, Hold, Plant, PointState, RouteState, Row, State, Train};
 use std::alloc::{AllocError, Global};
 
-// Appends the line of route `r`.
 fn push_route(text: &mut String, plant: &Plant, r: u32, now: &RouteState) -> Result<(), AllocError>
     requires { r < length plant.now.routes }
     ensures { OnOk result
@@ -22,7 +21,6 @@ fn push_route(text: &mut String, plant: &Plant, r: u32, now: &RouteState) -> Res
     write!(text, "route {} {} {} {}\n", name, mode, now.seen, now.rel)
 }
 
-// Appends the line of the point on section `x`.
 fn push_point(text: &mut String, plant: &Plant, x: u32, now: &PointState) -> Result<(), AllocError>
     requires { x < length plant.now.sections }
     ensures { OnOk result
@@ -33,7 +31,6 @@ fn push_point(text: &mut String, plant: &Plant, x: u32, now: &PointState) -> Res
     write!(text, "point {} {} {}\n", name, now.at.word(), now.to.word())
 }
 
-// Appends the line of board `m`.
 fn push_board(text: &mut String, plant: &Plant, m: u32, aspect: Aspect) -> Result<(), AllocError>
     requires { m < length plant.now.boards }
     ensures { OnOk result
@@ -43,7 +40,6 @@ fn push_board(text: &mut String, plant: &Plant, m: u32, aspect: Aspect) -> Resul
     write!(text, "board {} {}\n", plant.board_name(m), aspect.word())
 }
 
-// Appends the line of section `x`.
 fn push_section(text: &mut String, plant: &Plant, x: u32, lock: Hold) -> Result<(), AllocError>
     requires { x < length plant.now.sections }
     ensures { OnOk result
@@ -53,22 +49,21 @@ fn push_section(text: &mut String, plant: &Plant, x: u32, lock: Hold) -> Result<
     write!(text, "section {} {}\n", plant.section_name(x), lock.word())
 }
 
-// Appends a space and the name of section `x`.
 fn push_name(text: &mut String, plant: &Plant, x: u32) -> Result<(), AllocError>
     requires { x < length plant.now.sections }
     ensures { OnOk result
-        (string_bytes text.new ≡ string_bytes text.old ++ 32 ∷ name_of plant.now.section_names x) }
+        (string_bytes text.new ≡ string_bytes text.old ++
+        32 ∷ name_with_number plant.now.section_names x) }
 {
     write!(text, " {}", plant.section_name(x))
 }
 
-// Appends the names of sections, each after a space.
 fn push_names(text: &mut String, plant: &Plant, body: &[u32]) -> Result<(), AllocError>
     requires { All (λ x. x < length plant.now.sections) body.now }
     ensures { OnOk result
         (string_bytes text.new
         ≡ string_bytes text.old
-        ++ flat_map (λ x. 32 ∷ name_of plant.now.section_names x) body.now) }
+        ++ flat_map (λ x. 32 ∷ name_with_number plant.now.section_names x) body.now) }
 {
     for x in body {
         push_name(text, plant, *x)?;
@@ -77,7 +72,6 @@ fn push_names(text: &mut String, plant: &Plant, body: &[u32]) -> Result<(), Allo
 }
 
 #[tactic(auto, using(crate::proofs::StateTexts::train_is))]
-// Appends the line of a train.
 fn push_train(text: &mut String, plant: &Plant, train: &Train) -> Result<(), AllocError>
     requires { All (λ x. x < length plant.now.sections) train.now.body }
     ensures { OnOk result
@@ -103,21 +97,20 @@ fn push_routes(text: &mut String, plant: &Plant, routes: &Row<RouteState>) -> Re
     Ok(())
 }
 
-// Appends the lines of points, in the order of their sections.
 fn push_points(
     alloc: Global,
     text: &mut String,
     plant: &Plant,
     points: &Row<PointState>,
 ) -> Result<(), AllocError>
-    requires { length points.now ≡ length (sections_with_points plant.now) }
+    requires { length points.now ≡ length (point_sections_in_order plant.now) }
     ensures { OnOk result
         (string_bytes text.new
         ≡ string_bytes text.old
         ++ text_of
-        (lines_of_items (point_line plant.now) (sections_with_points plant.now) points.now)) }
+        (lines_of_items (point_line plant.now) (point_sections_in_order plant.now) points.now)) }
 {
-    let sections = sections_with_points(alloc, plant)?;
+    let sections = point_sections_in_order(alloc, plant)?;
     for n in 0..sections.len() {
         push_point(text, plant, *sections.at(n), points.at(n))?;
     }

@@ -1,7 +1,7 @@
 use ilk_model::Event;
 use ilk_plant::{Row, State};
 
-/// A run, as read from a text.
+/// A run: its first state, and its events in order.
 #[derive(Drop)]
 pub struct Told {
     /// The first state of the run.
@@ -11,7 +11,7 @@ pub struct Told {
     pub events: Row<Event>,
 }
 
-/// The result of reading a text: a run, or its first bad line.
+/// The result of reading a run text: its run, or its first bad line.
 #[derive(Drop)]
 pub enum Tale {
     Told(Told),

@@ -2,7 +2,7 @@
 use Rattle.std.proofs.Common.{◌≡◌, refl, ℕ, Option, Some, None, List, [], ◌∷◌}
 use Rattle.ilk_base.specs.Option.{◌>>=◌}
 use Rattle.ilk_plant.specs.Plant.{PlantLists}
-use Rattle.ilk_plant.specs.Start.{free_route, start}
+use Rattle.ilk_plant.specs.Start.{free_route_state, start}
 use Rattle.ilk_plant.specs.declared.network.Dir.TheVariants.{Up, Down}
 use Rattle.ilk_plant.specs.declared.network.Position.TheVariants.{Plus, Minus}
 use Rattle.ilk_plant.specs.declared.network.Section.TheVariants.{Linear, Point}
@@ -34,7 +34,6 @@ junction = record {
 abbrev marked : RouteState
 marked = record { mode = Marked; seen = 0; rel = 0 }
 
--- The state with one up train in these sections.
 abbrev with_train_at : State → List ℕ → State
 with_train_at s body = record s { trains = record { dir = Up; body = body } ∷ [] }
 
@@ -54,15 +53,14 @@ allocation : after_allocation ≡ Some (record {
 })
 allocation = refl
 
--- Then the conflicting route isn't allocated. Route 0 isn't locked before its point is in position
--- minus.
+-- Then the conflicting route isn't allocated, and route 0 isn't locked before its point is in
+-- position.
 no_conflicting_allocation : (after_allocation >>= (λ s. after_allocate junction s 1)) ≡ None
 no_conflicting_allocation = refl
 
 no_early_lock : (after_allocation >>= (λ s. after_lock junction s 0)) ≡ None
 no_early_lock = refl
 
--- The point settles, and route 0 is locked.
 abbrev after_locking : Option State
 after_locking = do
   a ← after_allocation
@@ -79,7 +77,6 @@ locking : after_locking ≡ Some (record {
 })
 locking = refl
 
--- A train takes section 1 and then section 3; section 1 is released behind it.
 abbrev after_use : Option State
 after_use = do
   a ← after_locking
@@ -96,9 +93,8 @@ use_ : after_use ≡ Some (record {
 })
 use_ = refl
 
--- The route finishes, and releases its last section and its overlap.
 finish : (after_use >>= (λ s. after_finish junction s 0)) ≡ Some (record {
-  routes = free_route ∷ marked ∷ [];
+  routes = free_route_state ∷ marked ∷ [];
   points = record { at = LiesMinus; to = Minus } ∷ [];
   boards = Closed ∷ Closed ∷ Closed ∷ [];
   locks = FreeLock ∷ FreeLock ∷ FreeLock ∷ FreeLock ∷ [];
@@ -106,6 +102,5 @@ finish : (after_use >>= (λ s. after_finish junction s 0)) ≡ Some (record {
 })
 finish = refl
 
--- The other route isn't allocated while a train is in one of its sections.
 no_occupied_allocation : (after_use >>= (λ s. after_finish junction s 0) >>= (λ s. after_allocate junction (with_train_at s (2 ∷ [])) 1)) ≡ None
 no_occupied_allocation = refl

@@ -2,7 +2,7 @@
 use Rattle.std.proofs.Common.{◌≡◌, refl, Option, Some, None, [], ◌∷◌}
 use Rattle.ilk_base.specs.Option.{◌>>=◌}
 use Rattle.ilk_plant.specs.Plant.{PlantLists}
-use Rattle.ilk_plant.specs.Start.{free_route, start}
+use Rattle.ilk_plant.specs.Start.{free_route_state, start}
 use Rattle.ilk_plant.specs.declared.network.Dir.TheVariants.{Up}
 use Rattle.ilk_plant.specs.declared.network.Position.TheVariants.{Plus, Minus}
 use Rattle.ilk_plant.specs.declared.network.Section.TheVariants.{Linear, Point}
@@ -39,14 +39,13 @@ junction_and_line = record {
   route_names = [];
 }
 
--- Route 1 is allocated: its protecting point is locked and commanded.
 abbrev after_allocation : Option State
 after_allocation = do
   a ← after_mark junction_and_line (start junction_and_line) 1
   after_allocate junction_and_line a 1
 
 allocation : after_allocation ≡ Some (record {
-  routes = free_route ∷ record { mode = Allocating; seen = 0; rel = 0 } ∷ free_route ∷ [];
+  routes = free_route_state ∷ record { mode = Allocating; seen = 0; rel = 0 } ∷ free_route_state ∷ [];
   points = record { at = LiesPlus; to = Minus } ∷ [];
   boards = Closed ∷ Closed ∷ [];
   locks = FreeLock ∷ LockedLock ∷ FreeLock ∷ FreeLock ∷ FreeLock ∷ LockedLock ∷ [];
@@ -54,17 +53,16 @@ allocation : after_allocation ≡ Some (record {
 })
 allocation = refl
 
--- Then route 0, with that point in its path, isn't allocated. Route 1 isn't locked before the point
--- is in position minus.
+-- Then route 0, over that point, isn't allocated, and route 1 isn't locked before the point is in
+-- position.
 no_allocation_over_it : (after_allocation >>= (λ a. after_mark junction_and_line a 0 >>= (λ b. after_allocate junction_and_line b 0))) ≡ None
 no_allocation_over_it = refl
 
 no_early_lock : (after_allocation >>= (λ s. after_lock junction_and_line s 1)) ≡ None
 no_early_lock = refl
 
--- If the route is cancelled, its locks are free, and the point is still commanded to minus.
 cancelled : (after_allocation >>= (λ s. after_cancel junction_and_line s 1)) ≡ Some (record {
-  routes = free_route ∷ free_route ∷ free_route ∷ [];
+  routes = free_route_state ∷ free_route_state ∷ free_route_state ∷ [];
   points = record { at = LiesPlus; to = Minus } ∷ [];
   boards = Closed ∷ Closed ∷ [];
   locks = FreeLock ∷ FreeLock ∷ FreeLock ∷ FreeLock ∷ FreeLock ∷ FreeLock ∷ [];
@@ -72,7 +70,6 @@ cancelled : (after_allocation >>= (λ s. after_cancel junction_and_line s 1)) �
 })
 cancelled = refl
 
--- When the point is in position minus, the route is locked.
 abbrev after_locking : Option State
 after_locking = do
   a ← after_allocation
@@ -81,7 +78,7 @@ after_locking = do
   after_lock junction_and_line c 1
 
 locking : after_locking ≡ Some (record {
-  routes = free_route ∷ record { mode = Locked; seen = 0; rel = 0 } ∷ free_route ∷ [];
+  routes = free_route_state ∷ record { mode = Locked; seen = 0; rel = 0 } ∷ free_route_state ∷ [];
   points = record { at = LiesMinus; to = Minus } ∷ [];
   boards = Closed ∷ Open ∷ [];
   locks = FreeLock ∷ LockedLock ∷ FreeLock ∷ FreeLock ∷ FreeLock ∷ LockedLock ∷ [];
@@ -89,16 +86,14 @@ locking : after_locking ≡ Some (record {
 })
 locking = refl
 
--- Then it can't be cancelled.
 no_late_cancellation : (after_locking >>= (λ s. after_cancel junction_and_line s 1)) ≡ None
 no_late_cancellation = refl
 
--- After use it finishes, and also releases its protecting point.
 abbrev used : State → State
-used s = record s { routes = free_route ∷ record { mode = Occupied; seen = 1; rel = 0 } ∷ free_route ∷ [] }
+used s = record s { routes = free_route_state ∷ record { mode = Occupied; seen = 1; rel = 0 } ∷ free_route_state ∷ [] }
 
 finish : (after_locking >>= (λ s. after_finish junction_and_line (used s) 1)) ≡ Some (record {
-  routes = free_route ∷ free_route ∷ free_route ∷ [];
+  routes = free_route_state ∷ free_route_state ∷ free_route_state ∷ [];
   points = record { at = LiesMinus; to = Minus } ∷ [];
   boards = Closed ∷ Open ∷ [];
   locks = FreeLock ∷ FreeLock ∷ FreeLock ∷ FreeLock ∷ FreeLock ∷ FreeLock ∷ [];
@@ -106,7 +101,6 @@ finish : (after_locking >>= (λ s. after_finish junction_and_line (used s) 1)) �
 })
 finish = refl
 
--- Routes 0 and 2 are allocated, and one of them is locked.
 abbrev after_both_allocations : Option State
 after_both_allocations = do
   a ← after_mark junction_and_line (start junction_and_line) 0
@@ -114,8 +108,6 @@ after_both_allocations = do
   c ← after_mark junction_and_line b 2
   after_allocate junction_and_line c 2
 
--- While route 0 has opened board 0, route 2 isn't locked. While route 2 is Locked, route 0 isn't
--- locked.
 board_is_open : (after_both_allocations >>= (λ a. after_lock junction_and_line a 0 >>= (λ b. after_lock junction_and_line b 2))) ≡ None
 board_is_open = refl
 

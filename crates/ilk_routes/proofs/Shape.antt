@@ -29,7 +29,6 @@ length-close_if : (b : Bool) (boards : List Aspect) (m : ℕ) → length (if b t
 length-close_if true boards m = length-set boards m Closed
 length-close_if false boards m = refl
 
--- The state with route r at `now` and as many boards, points and locks is well-formed.
 reshaped :
     (p : PlantLists) (s : State) (r : ℕ) (mine : Route) (now : RouteState) (boards : List Aspect)
     (points : List PointState) (locks : List Hold) → HasShape p s →

@@ -16,14 +16,14 @@ same_aspect Open Open = true
 same_aspect Closed Closed = true
 same_aspect a b = false
 
--- Returns whether board m shows this aspect.
+-- Returns whether the aspect of board `m` is `aspect`.
 abbrev pub has_aspect : State → ℕ → Aspect → Bool
 has_aspect s m aspect = is_some_and (slice_get s.boards m) (λ now. same_aspect now aspect)
 
--- Returns whether board m is a protecting board of route q.
+-- Returns whether route `q` lists board `m` as a protecting board.
 abbrev pub is_protecting_board : PlantLists → ℕ → ℕ → Bool
 is_protecting_board p q m = is_some_and (slice_get p.routes q) (λ route. has_number m route.protecting_boards)
 
--- Returns whether board m is a protecting board of some Locked route.
-abbrev pub is_held_closed : PlantLists → State → ℕ → Bool
-is_held_closed p s m = any_below (length p.routes) (λ q. has_mode s q Locked && is_protecting_board p q m)
+-- Returns whether some Locked route lists board `m` as a protecting board.
+abbrev pub is_protecting_locked_route : PlantLists → State → ℕ → Bool
+is_protecting_locked_route p s m = any_below (length p.routes) (λ q. has_mode s q Locked && is_protecting_board p q m)

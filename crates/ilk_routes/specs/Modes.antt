@@ -14,10 +14,10 @@ same_mode Locked Locked = true
 same_mode Occupied Occupied = true
 same_mode a b = false
 
--- Returns whether route r has this mode.
+-- Returns whether route `r` is in mode `mode`.
 abbrev pub has_mode : State → ℕ → Mode → Bool
 has_mode s r mode = is_some_and (slice_get s.routes r) (λ now. same_mode now.mode mode)
 
--- Returns whether route r is Allocating or Locked.
+-- Returns whether route `r` is Allocating or Locked.
 abbrev pub is_allocating_or_locked : State → ℕ → Bool
 is_allocating_or_locked s r = has_mode s r Allocating || has_mode s r Locked

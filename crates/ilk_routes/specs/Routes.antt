@@ -1,5 +1,5 @@
--- The seven route events. Each definition is the next state if the event is enabled, otherwise
--- `None`.
+-- The seven route events: the next state if the event is enabled, otherwise `None`. Other parts of
+-- the state don't change.
 use Rattle.std.specs.Prelude.{ℕ, ◌+◌, Bool, Option, ◌==◌, ◌&&◌, ◌||◌, if◌then◌else◌, length, nat_le, slice_get, set, not}
 use Rattle.std.specs.List.{list_any, list_all}
 use Rattle.ilk_base.specs.Option.{◌>>=◌, then_some}
@@ -11,14 +11,14 @@ use Rattle.ilk_plant.specs.declared.state.Hold.TheVariants.{Free as FreeLock, Lo
 use Rattle.ilk_plant.specs.declared.state.Mode.TheVariants.{Free, Marked, Allocating, Locked, Occupied}
 use Rattle.ilk_plant.specs.declared.state.State.{State}
 use Rattle.ilk_plant.specs.declared.table.Route.{Route}
-use Rattle.ilk_routes.specs.Boards.{has_aspect, is_held_closed}
+use Rattle.ilk_routes.specs.Boards.{has_aspect, is_protecting_locked_route}
 use Rattle.ilk_routes.specs.Claims.{sections_outside_path, required_points}
 use Rattle.ilk_routes.specs.Lies.{is_detected_as_listed, with_commands}
 use Rattle.ilk_routes.specs.Locks.{with_locks}
 use Rattle.ilk_routes.specs.Modes.{is_allocating_or_locked, same_mode}
 use Rattle.ilk_plant.specs.Network.{last_of}
 
--- `mark r`. Enabled if r is Free. It becomes Marked.
+-- The state after `mark r`. Enabled if route `r` is Free. It becomes Marked.
 abbrev pub after_mark : PlantLists → State → ℕ → Option State
 after_mark p s r = do
   route ← slice_get p.routes r
@@ -27,45 +27,47 @@ after_mark p s r = do
     routes = set s.routes r (record now { mode = Marked });
   })
 
--- Returns whether no conflict is Allocating or Locked, and every section of path, overlap and
--- protecting points has lock Free and is vacant.
-abbrev pub can_reserve_sections : State → Route → Bool
-can_reserve_sections s route =
+-- Returns whether no route that `route` lists as a conflict is Allocating or Locked, and each
+-- section of its path, overlap and protecting points has lock Free and is vacant.
+abbrev pub can_allocate_if_marked : State → Route → Bool
+can_allocate_if_marked s route =
     not (list_any (is_allocating_or_locked s) route.conflicts) && list_all (is_unlocked_and_vacant s) (sections_locked_for route)
 
--- `allocate r`. Enabled if r is Marked and can claim its sections. It becomes Allocating, those
--- locks become Locked, and its listed and protecting points are commanded.
+-- The state after `allocate r`. Enabled if route `r` is Marked and satisfies
+-- `can_allocate_if_marked`. It becomes Allocating, the locks of its path, overlap and protecting
+-- points become Locked, and its listed and protecting points are commanded.
 abbrev pub after_allocate : PlantLists → State → ℕ → Option State
 after_allocate p s r = do
   route ← slice_get p.routes r
   now ← slice_get s.routes r
-  then_some (same_mode now.mode Marked && can_reserve_sections s route) (record s {
+  then_some (same_mode now.mode Marked && can_allocate_if_marked s route) (record s {
     routes = set s.routes r (record now { mode = Allocating });
     locks = with_locks s.locks (sections_locked_for route) LockedLock;
     points = with_commands p s.points (required_points route);
   })
 
--- Returns whether the points, listed and protecting, are in position, the protecting boards are
--- Closed, and the source is not a protecting board of a Locked route.
-abbrev pub can_lock : PlantLists → State → Route → Bool
-can_lock p s route =
+-- Returns whether the listed and protecting points of `route` are in position, its protecting
+-- boards are Closed, and no Locked route has its source as a protecting board.
+abbrev pub can_lock_if_allocating : PlantLists → State → Route → Bool
+can_lock_if_allocating p s route =
     list_all (is_detected_as_listed p s) (required_points route)
     && list_all (λ m. has_aspect s m Closed) route.protecting_boards
-    && not (is_held_closed p s route.source)
+    && not (is_protecting_locked_route p s route.source)
 
--- `lock r`. Enabled if r is Allocating and can be locked. It becomes Locked, and its source opens.
+-- The state after `lock r`. Enabled if route `r` is Allocating and satisfies
+-- `can_lock_if_allocating`. It becomes Locked, and its source board opens.
 abbrev pub after_lock : PlantLists → State → ℕ → Option State
 after_lock p s r = do
   route ← slice_get p.routes r
   now ← slice_get s.routes r
-  then_some (same_mode now.mode Allocating && can_lock p s route) (record s {
+  then_some (same_mode now.mode Allocating && can_lock_if_allocating p s route) (record s {
     routes = set s.routes r (record now { mode = Locked });
     boards = set s.boards route.source Open;
   })
 
--- `sense r`. Enabled if r is Locked or Occupied, and the first path section not yet seen is
--- occupied and has lock Locked. That lock becomes Used, one more section is seen, and r becomes
--- Occupied. With the first section, its source closes.
+-- The state after `sense r`. Enabled if route `r` is Locked or Occupied, and the first path section
+-- that is not yet seen is occupied and has lock Locked. This lock becomes Used, one more section is
+-- seen, and `r` becomes Occupied. With the first section, the source board closes.
 abbrev pub after_sense : PlantLists → State → ℕ → Option State
 after_sense p s r = do
   route ← slice_get p.routes r
@@ -79,9 +81,9 @@ after_sense p s r = do
         boards = (if now.seen == 0 then set s.boards route.source Closed else s.boards);
       })
 
--- `release r`. Enabled if r is Occupied, at least two more sections are seen than released, and the
--- first one not yet released is vacant and has lock Used. That lock becomes Free, and one more
--- section is released.
+-- The state after `release r`. Enabled if route `r` is Occupied, at least two more sections are
+-- seen than released, and the first one not yet released is vacant and has lock Used. This lock
+-- becomes Free, and one more section is released.
 abbrev pub after_release : PlantLists → State → ℕ → Option State
 after_release p s r = do
   route ← slice_get p.routes r
@@ -95,9 +97,9 @@ after_release p s r = do
         locks = set s.locks x FreeLock;
       })
 
--- `finish r`. Enabled if r is Occupied, the whole path is seen, and all of it except the last
--- section is released. The locks of that section, the overlap and the protecting points become
--- Free. Both counts become 0, and r becomes Free.
+-- The state after `finish r`. Enabled if route `r` is Occupied, its whole path is seen, and all of
+-- it except the last section is released. The locks of that section, the overlap and the protecting
+-- points become Free, both counts 0, and `r` Free.
 abbrev pub after_finish : PlantLists → State → ℕ → Option State
 after_finish p s r = do
   route ← slice_get p.routes r
@@ -110,8 +112,8 @@ after_finish p s r = do
         locks = with_locks (set s.locks x FreeLock) (sections_outside_path route) FreeLock;
       })
 
--- `cancel r`. Enabled if r is Marked or Allocating. If it is Allocating, the locks of path, overlap
--- and protecting points become Free. The route becomes Free.
+-- The state after `cancel r`. Enabled if route `r` is Marked or Allocating. It becomes Free. If it
+-- was Allocating, the locks of its path, overlap and protecting points also become Free.
 abbrev pub after_cancel : PlantLists → State → ℕ → Option State
 after_cancel p s r = do
   route ← slice_get p.routes r

@@ -7,8 +7,8 @@ ghost use Rattle.ilk_routes.specs.Locks.{with_locks};
 
 use ilk_plant::{Hold, Listed, Plant, PointState, Route, Row};
 
-/// Sets the lock of each of these sections to `hold`.
-pub fn set_section_locks(locks: &mut Row<Hold>, sections: &Row<u32>, hold: Hold)
+/// Makes `hold` the lock of each of `sections`.
+pub(crate) fn set_section_locks(locks: &mut Row<Hold>, sections: &Row<u32>, hold: Hold)
     requires { All (λ x. x < length locks.old) sections.now }
     ensures long { length locks.new ≡ length locks.old }
     ensures locks { locks.new ≡ with_locks locks.old sections.now hold }
@@ -29,8 +29,8 @@ fn give_point_locks(locks: &mut Row<Hold>, points: &Row<Listed>, hold: Hold)
     }
 }
 
-/// Sets the lock of each section of the route's overlap and protecting points to `hold`.
-pub fn set_locks_outside_path(locks: &mut Row<Hold>, route: &Route, hold: Hold)
+/// Makes `hold` the lock of each section of the route's overlap and protecting points.
+pub(crate) fn set_locks_outside_path(locks: &mut Row<Hold>, route: &Route, hold: Hold)
     requires overlap { All (λ x. x < length locks.old) route.now.overlap }
     requires protecting { All (λ listed. listed.point < length locks.old)
         route.now.protecting_points }
@@ -41,8 +41,8 @@ pub fn set_locks_outside_path(locks: &mut Row<Hold>, route: &Route, hold: Hold)
     give_point_locks(locks, &route.protecting_points, hold);
 }
 
-/// Sets the lock of each section of the route's path, overlap and protecting points to `hold`.
-pub fn set_route_locks(locks: &mut Row<Hold>, route: &Route, hold: Hold)
+/// Makes `hold` the lock of each section of the route's path, overlap and protecting points.
+pub(crate) fn set_route_locks(locks: &mut Row<Hold>, route: &Route, hold: Hold)
     requires path { All (λ x. x < length locks.old) route.now.path }
     requires overlap { All (λ x. x < length locks.old) route.now.overlap }
     requires protecting { All (λ listed. listed.point < length locks.old)
@@ -66,8 +66,12 @@ fn command_point(plant: &Plant, points: &mut Row<PointState>, listed: &Listed)
     }
 }
 
-/// Commands each of the listed points to its listed position.
-pub fn command_points(plant: &Plant, points: &mut Row<PointState>, listed_points: &Row<Listed>)
+/// Makes the listed position of each of `listed_points` the commanded position of that point.
+pub(crate) fn command_points(
+    plant: &Plant,
+    points: &mut Row<PointState>,
+    listed_points: &Row<Listed>,
+)
     requires known { All (λ listed. listed.point < length plant.now.sections) listed_points.now }
     requires points { length points.old ≡ point_count plant.now }
     ensures long { length points.new ≡ length points.old }
@@ -78,8 +82,8 @@ pub fn command_points(plant: &Plant, points: &mut Row<PointState>, listed_points
     }
 }
 
-/// Commands each point that the route requires, listed or protecting, to its position.
-pub fn command_route_points(plant: &Plant, points: &mut Row<PointState>, route: &Route)
+/// Commands each listed or protecting point of the route to the position that the route requires.
+pub(crate) fn command_route_points(plant: &Plant, points: &mut Row<PointState>, route: &Route)
     requires listed { All (λ listed. listed.point < length plant.now.sections) route.now.points }
     requires protecting { All (λ listed. listed.point < length plant.now.sections)
         route.now.protecting_points }

@@ -6,12 +6,12 @@ ghost use Rattle.ilk_plant.specs.Network.{last_of};
 ghost use Rattle.ilk_plant.specs.State.{is_unlocked_and_vacant};
 ghost use Rattle.ilk_plant.specs.declared.state.Aspect.TheVariants.{Closed};
 ghost use Rattle.ilk_plant.specs.declared.state.Mode.TheVariants.{Locked};
-ghost use Rattle.ilk_routes.specs.Boards.{has_aspect, is_held_closed, is_protecting_board};
+ghost use Rattle.ilk_routes.specs.Boards.{has_aspect, is_protecting_locked_route, is_protecting_board};
 ghost use Rattle.ilk_plant.specs.TableRules.{sections_locked_for};
 ghost use Rattle.ilk_routes.specs.Claims.{required_points};
 ghost use Rattle.ilk_routes.specs.Lies.{is_detected_moving, lie_from_position, is_detected_as_listed, is_lie_at_position};
 ghost use Rattle.ilk_routes.specs.Modes.{has_mode, is_allocating_or_locked};
-ghost use Rattle.ilk_routes.specs.Routes.{can_reserve_sections, can_lock};
+ghost use Rattle.ilk_routes.specs.Routes.{can_allocate_if_marked, can_lock_if_allocating};
 
 use ilk_base::has_number;
 use ilk_plant::{
@@ -19,8 +19,8 @@ use ilk_plant::{
     is_unlocked_and_vacant,
 };
 
-/// Returns whether route `r` has the mode.
-pub fn has_mode(s: &State, r: u32, mode: Mode) -> bool
+/// Returns whether route `r` is in mode `mode`.
+pub(crate) fn has_mode(s: &State, r: u32, mode: Mode) -> bool
     ensures { result ≡ has_mode s.now r mode }
 {
     match s.routes.as_slice().get(r as usize) {
@@ -30,7 +30,7 @@ pub fn has_mode(s: &State, r: u32, mode: Mode) -> bool
 }
 
 /// Returns whether route `r` is Allocating or Locked.
-pub fn is_allocating_or_locked(s: &State, r: u32) -> bool
+pub(crate) fn is_allocating_or_locked(s: &State, r: u32) -> bool
     ensures { result ≡ is_allocating_or_locked s.now r }
 {
     has_mode(s, r, Mode::Allocating) || has_mode(s, r, Mode::Locked)
@@ -73,15 +73,15 @@ fn all_claimed_clear(s: &State, route: &Route) -> bool
         && all_points_clear(s, &route.protecting_points)
 }
 
-/// Returns whether no conflicting route is Allocating or Locked, and each section of path, overlap
-/// and protecting points has lock Free and is vacant.
-pub fn can_reserve_sections(s: &State, route: &Route) -> bool
-    ensures { result ≡ can_reserve_sections s.now route.now }
+/// Returns whether no route that `route` lists as a conflict is Allocating or Locked, and each
+/// section of its path, overlap and protecting points has lock Free and is vacant.
+pub(crate) fn can_allocate_if_marked(s: &State, route: &Route) -> bool
+    ensures { result ≡ can_allocate_if_marked s.now route.now }
 {
     !any_claimed(s, &route.conflicts) && all_claimed_clear(s, route)
 }
 
-/// Returns the last of these sections.
+/// Returns the last number of `sections`, which must not be empty.
 pub fn last_of(sections: &Row<u32>) -> u32
     requires { 0 < length sections.now }
     ensures last { last_of sections.now ≡ Some result }
@@ -90,14 +90,14 @@ pub fn last_of(sections: &Row<u32>) -> u32
     *sections.at(sections.len() - 1)
 }
 
-/// Returns whether a point with this detected position is moving.
-pub fn is_detected_moving(lie: Lie) -> bool
+/// Returns whether the detected position `lie` is moving.
+pub(crate) fn is_detected_moving(lie: Lie) -> bool
     ensures { result ≡ is_detected_moving lie }
 {
     lie == Lie::Moving
 }
 
-/// Returns the detected position that equals `position`.
+/// Returns the detected position, plus or minus, that equals `position`.
 pub fn lie_from_position(position: Position) -> Lie
     ensures { result ≡ lie_from_position position }
 {
@@ -107,14 +107,14 @@ pub fn lie_from_position(position: Position) -> Lie
     }
 }
 
-/// Returns whether the detected position equals `position`.
-pub fn is_lie_at_position(lie: Lie, position: Position) -> bool
+/// Returns whether the detected position `lie` equals `position`; a moving point is in no position.
+pub(crate) fn is_lie_at_position(lie: Lie, position: Position) -> bool
     ensures { result ≡ is_lie_at_position lie position }
 {
     lie == lie_from_position(position)
 }
 
-/// Returns whether a listed point is detected in its listed position.
+/// Returns whether the point in `listed` is detected in the position listed there.
 pub fn is_detected_as_listed(plant: &Plant, s: &State, listed: &Listed) -> bool
     ensures { result ≡ is_detected_as_listed plant.now s.now listed.now }
 {
@@ -133,7 +133,6 @@ fn all_lie_as_listed(plant: &Plant, s: &State, points: &Row<Listed>) -> bool
         .all(|listed| is_detected_as_listed(plant, s, listed))
 }
 
-// Returns whether each point that the route requires is detected in its position.
 fn all_wanted_lie(plant: &Plant, s: &State, route: &Route) -> bool
     ensures { result ≡ list_all (is_detected_as_listed plant.now s.now)
         (required_points route.now) }
@@ -142,7 +141,7 @@ fn all_wanted_lie(plant: &Plant, s: &State, route: &Route) -> bool
         && all_lie_as_listed(plant, s, &route.protecting_points)
 }
 
-/// Returns whether board `m` shows the aspect.
+/// Returns whether the aspect of board `m` is `aspect`.
 pub fn has_aspect(s: &State, m: u32, aspect: Aspect) -> bool
     ensures { result ≡ has_aspect s.now m aspect }
 {
@@ -152,8 +151,8 @@ pub fn has_aspect(s: &State, m: u32, aspect: Aspect) -> bool
     }
 }
 
-/// Returns whether each of the boards is Closed.
-pub fn all_closed(s: &State, boards: &Row<u32>) -> bool
+/// Returns whether all `boards` are Closed.
+pub fn all_boards_closed(s: &State, boards: &Row<u32>) -> bool
     ensures { result ≡ list_all (λ m. has_aspect s.now m Closed) boards.now }
 {
     boards
@@ -175,25 +174,24 @@ fn is_locked_by(plant: &Plant, s: &State, q: u32, m: u32) -> bool
     has_mode(s, q, Mode::Locked) && is_protecting_board(plant, q, m)
 }
 
-// Returns whether board `m` is a protecting board of some Locked route.
 fn is_protecting(plant: &Plant, s: &State, m: u32) -> bool
-    ensures { result ≡ is_held_closed plant.now s.now m }
+    ensures { result ≡ is_protecting_locked_route plant.now s.now m }
 {
     (0..plant.routes()).any(|q| is_locked_by(plant, s, q, m))
 }
 
-/// Returns whether the points, listed and protecting, are in position, the protecting boards are
-/// Closed, and the source is not a protecting board of a Locked route.
-pub fn can_lock(plant: &Plant, s: &State, route: &Route) -> bool
-    ensures { result ≡ can_lock plant.now s.now route.now }
+/// Returns whether the listed and protecting points of `route` are in position, its protecting
+/// boards are Closed, and no Locked route has its source as a protecting board.
+pub(crate) fn can_lock_if_allocating(plant: &Plant, s: &State, route: &Route) -> bool
+    ensures { result ≡ can_lock_if_allocating plant.now s.now route.now }
 {
     all_wanted_lie(plant, s, route)
-        && all_closed(s, &route.protecting_boards)
+        && all_boards_closed(s, &route.protecting_boards)
         && !is_protecting(plant, s, route.source)
 }
 
-/// Returns route `r` with its state. Its counts are at most the length of its path.
-pub fn route_and_state<'a>(plant: &'a Plant, s: &State, r: u32) -> (&'a Route, RouteState)
+/// Returns route `r` and its state in `s`, whose counts are at most the length of its path.
+pub(crate) fn route_and_state<'a>(plant: &'a Plant, s: &State, r: u32) -> (&'a Route, RouteState)
     requires shape { HasShape plant.now s.now }
     requires known { r < length plant.now.routes }
     ensures route { slice_get plant.now.routes r ≡ Some result.0.now }

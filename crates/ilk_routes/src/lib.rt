@@ -5,9 +5,9 @@
 //! Peleska, "Formal modelling and verification of interlocking systems featuring sequential
 //! release", Science of Computer Programming 133 (2017).
 //!
-//! Each `step_..` tests whether its event is enabled. If so, it changes the state as the table of
-//! events says (`specs/Routes.antt`, `Points.antt`); otherwise the state doesn't change.
-//! `ilk_model` calls them in `apply`.
+//! Each `step_..` tests whether its event is enabled and, if so, changes the state as
+//! `specs/Routes.antt` and `Points.antt` say; otherwise the state doesn't change. `ilk_model` calls
+//! them in `apply`.
 #![tactic(auto)]
 
 mod changes;
@@ -16,7 +16,8 @@ mod points;
 mod routes;
 
 pub use conditions::{
-    all_closed, has_aspect, is_detected_as_listed, is_protecting_board, last_of, lie_from_position,
+    all_boards_closed, has_aspect, is_detected_as_listed, is_protecting_board, last_of,
+    lie_from_position,
 };
 pub use points::{step_settle, step_throw};
 pub use routes::{

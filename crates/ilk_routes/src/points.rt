@@ -39,8 +39,8 @@ fn settle(plant: &Plant, s: &mut State, p: u32) -> bool
 
 /// Throws the point on section `p`: it starts to move.
 ///
-/// Returns `true` if and only if `p` is a point section, and the point is neither moving nor
-/// detected in its commanded position. Otherwise `s` doesn't change.
+/// Returns `true` if and only if `p` is a point section whose point is neither moving nor detected
+/// in its commanded position. Otherwise `s` doesn't change.
 pub fn step_throw(plant: &Plant, s: &mut State, p: u32) -> bool
     requires { HasShape plant.now s.old }
     ensures answer { result ≡ is_some (after_throw plant.now s.old p) }
@@ -52,7 +52,7 @@ pub fn step_throw(plant: &Plant, s: &mut State, p: u32) -> bool
 
 /// Settles the point on section `p`: it is detected in its commanded position.
 ///
-/// Returns `true` if and only if `p` is a point section, and the point is moving. Otherwise `s`
+/// Returns `true` if and only if `p` is a point section whose point is moving. Otherwise `s`
 /// doesn't change.
 pub fn step_settle(plant: &Plant, s: &mut State, p: u32) -> bool
     requires { HasShape plant.now s.old }

@@ -3,7 +3,7 @@ ghost use Rattle.ilk_plant.specs.Shape.{HasShape};
 ghost use Rattle.ilk_routes.specs.Routes.{after_allocate, after_cancel, after_finish, after_lock, after_mark, after_release, after_sense};
 
 use crate::changes::{command_route_points, set_locks_outside_path, set_route_locks};
-use crate::conditions::{can_lock, can_reserve_sections, last_of, route_and_state};
+use crate::conditions::{can_allocate_if_marked, can_lock_if_allocating, last_of, route_and_state};
 use ilk_plant::{Aspect, Hold, Mode, Plant, RouteState, State, has_lock_state, occupied};
 
 fn mark(plant: &Plant, s: &mut State, r: u32) -> bool
@@ -27,7 +27,7 @@ fn allocate(plant: &Plant, s: &mut State, r: u32) -> bool
         return false;
     }
     let route = plant.route(r);
-    if s.routes.at(r as u64).mode != Mode::Marked || !can_reserve_sections(s, route) {
+    if s.routes.at(r as u64).mode != Mode::Marked || !can_allocate_if_marked(s, route) {
         return false;
     }
     s.routes.at_mut(r as u64).mode = Mode::Allocating;
@@ -46,7 +46,7 @@ fn lock(plant: &Plant, s: &mut State, r: u32) -> bool
     }
     let route = plant.route(r);
     let mode = s.routes.at(r as u64).mode;
-    if mode != Mode::Allocating || !can_lock(plant, s, route) {
+    if mode != Mode::Allocating || !can_lock_if_allocating(plant, s, route) {
         return false;
     }
     s.routes.at_mut(r as u64).mode = Mode::Locked;
@@ -161,9 +161,9 @@ pub fn step_mark(plant: &Plant, s: &mut State, r: u32) -> bool
 /// Allocates route `r`: it becomes Allocating, the locks of its path, overlap and protecting points
 /// become Locked, and its listed and protecting points are commanded.
 ///
-/// Returns `true` if and only if `r` is a Marked route and can claim its sections. No route that it
-/// lists as a conflict may be Allocating or Locked. Every section of its path, overlap and
-/// protecting points must have lock Free and be vacant. Otherwise `s` doesn't change.
+/// Returns `true` if and only if `r` is a Marked route and the following holds; otherwise `s`
+/// doesn't change. No route that it lists as a conflict is Allocating or Locked. Every section of
+/// its path, overlap and protecting points has lock Free and is vacant.
 pub fn step_allocate(plant: &Plant, s: &mut State, r: u32) -> bool
     requires { HasShape plant.now s.old }
     ensures answer { result ≡ is_some (after_allocate plant.now s.old r) }
@@ -175,9 +175,9 @@ pub fn step_allocate(plant: &Plant, s: &mut State, r: u32) -> bool
 
 /// Locks route `r`: it becomes Locked, and its source board opens.
 ///
-/// Returns `true` if and only if `r` is an Allocating route and can be locked. Its listed and
-/// protecting points must be in position, and its protecting boards Closed. Its source must not be
-/// a protecting board of a Locked route. Otherwise `s` doesn't change.
+/// Returns `true` if and only if `r` is an Allocating route and the following holds; otherwise `s`
+/// doesn't change. Its listed and protecting points are in position, and its protecting boards are
+/// Closed. No Locked route has its source as a protecting board.
 pub fn step_lock(plant: &Plant, s: &mut State, r: u32) -> bool
     requires { HasShape plant.now s.old }
     ensures answer { result ≡ is_some (after_lock plant.now s.old r) }

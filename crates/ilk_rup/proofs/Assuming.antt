@@ -1,4 +1,3 @@
--- The literals of a set are made false, one after the other.
 use Rattle.std.proofs.Common.{◌≡◌, ◌+◌, ◌++◌, ◌∷◌, [], ℕ, inl, inr, true, Bool, List, Some, length, take, sym, ap, ◌∙◌, subst, arith, add-one}
 use Rattle.std.specs.Prelude.{slice_get}
 use Rattle.std.specs.List.{filter}
@@ -11,7 +10,7 @@ use Rattle.ilk_cnf.proofs.SameLiterals.{has-var}
 use Rattle.ilk_trail.specs.declared.entry.Entry.{Entry}
 use Rattle.ilk_trail.specs.Trail.{level_of}
 use Rattle.ilk_trail.specs.Laws.{is_set, lits_of}
-use Rattle.ilk_trail.proofs.Levels.{last_level-push}
+use Rattle.ilk_trail.proofs.Levels.{last_level_or-push}
 use Rattle.ilk_trail.proofs.Entries.{lits_of-push}
 use Rattle.ilk_learn.proofs.Latest.{take-one-more}
 use Rattle.ilk_watches.proofs.Entries.{length-kept}
@@ -38,7 +37,7 @@ assumed-next set old mid new l k (known e h) =
     })
 assumed-next set old mid new l k (new_one e is lit level) =
     let P : List Entry → Type 0 = λ xs. AssumesNegations (set ++ l ∷ []) old xs in
-    let now : level_of (mid ++ e ∷ []) ≡ e.level = last_level-push 0 mid e in
+    let now : level_of (mid ++ e ∷ []) ≡ e.level = last_level_or-push 0 mid e in
     subst P (sym is) (record {
       kept = take-append-le (length old) mid (e ∷ []) (length-kept old mid k.kept) ∙ k.kept;
       levels = λ i x le s. elim (slice_get-push_cases mid e x i s) [

@@ -1,4 +1,3 @@
--- A list, cut at the first item that passes a test.
 use Rattle.std.proofs.Common.{◌≡◌, ℕ, ◌+◌, Bool, true, false, Some, None, List, [], ◌∷◌, length, take, drop, refl, sym, ap, ◌∙◌, position, cond, nat_lt}
 use Rattle.std.specs.List.{position_from, position_or_len, onto_first, slice_split}
 use Rattle.std.proofs.lemmas.Bool.{ltb-true}

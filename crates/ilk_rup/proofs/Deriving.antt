@@ -1,4 +1,3 @@
--- A clause of a set of literals is derived, or none is.
 use Rattle.std.proofs.Common.{◌≡◌, ◌<◌, ◌≤◌, ◌+◌, ◌++◌, ◌∷◌, [], ◌&&◌, ℕ, suc, inl, inr, true, false, List, Option, Some, None, length, take, drop, refl, sym, ap, ◌∙◌, subst, arith}
 use Rattle.std.specs.Prelude.{IfNone, nat_le, nat_lt, slice_get}
 use Rattle.std.proofs.lemmas.Bool.{and_parts, cases_Bool, ltb-true, true≢false}
@@ -20,11 +19,11 @@ use Rattle.ilk_log.specs.Propagation.{is_saturated, is_falsified}
 use Rattle.ilk_log.proofs.Closed.{no-false-end}
 use Rattle.ilk_trail.specs.declared.entry.Entry.{Entry}
 use Rattle.ilk_trail.specs.Trail.{TrailList, level_of, entries_up_to}
-use Rattle.ilk_trail.specs.Laws.{has_rising_levels, is_set, lits_of}
+use Rattle.ilk_trail.specs.Laws.{each_may_follow_level, is_set, lits_of}
 use Rattle.ilk_trail.proofs.Entries.{entry-lit}
 use Rattle.ilk_trail.proofs.Levels.{entries_up_to-all}
 use Rattle.ilk_watches.specs.Propagated.{ExtendsByPropagation}
-use Rattle.ilk_watches.specs.Watched.{IsQueue}
+use Rattle.ilk_watches.specs.Watched.{IsPropagationInvariant}
 use Rattle.ilk_watches.proofs.Covers.{covered-more}
 use Rattle.ilk_watches.proofs.Entries.{at-kept, at-old, entry-of-lit, length-kept, lit-kept, one-entry}
 use Rattle.ilk_watches.proofs.Looks.{satisfied-kept}
@@ -32,10 +31,10 @@ use Rattle.ilk_watches.proofs.Queues.{all-covered}
 use Rattle.ilk_learn.proofs.Derived.{false-at, negated_lit-of}
 use Rattle.ilk_learn.proofs.Members.{same-var, var-of}
 use Rattle.ilk_rup.specs.Accepted.{FollowsByHints}
-use Rattle.ilk_rup.specs.Needs.{IsFalseBySetAndEntries, AssumesNegations, IsClauseOfLiterals}
+use Rattle.ilk_rup.specs.Needs.{IsFalseBySetAndEntries, AssumesNegations, IsValidClauseOfLiterals}
 use Rattle.ilk_rup.proofs.Signs.{var-either}
 
-pub queue-assumed : (a : ArenaLists) (es fs : List Entry) (h s : ℕ) (set : List Literal) → IsQueue a es h s → IsClauses a → s ≡ length a.clauses → h ≡ length es → AssumesNegations set es fs → IsQueue a fs h s
+pub queue-assumed : (a : ArenaLists) (es fs : List Entry) (h s : ℕ) (set : List Literal) → IsPropagationInvariant a es h s → IsClauses a → s ≡ length a.clauses → h ≡ length es → AssumesNegations set es fs → IsPropagationInvariant a fs h s
 queue-assumed a es fs h s set k cl all here p =
     let v = all-covered a es h s k cl all in
     let more = length-kept es fs p.kept in
@@ -68,7 +67,7 @@ assumed-false set es fs m differ once untrue p h =
 pub none-follows : (n : ℕ) (cs : List (List Literal)) (es : List Entry) (set : List Literal) →
     is_saturated cs (lits_of es) ≡ true →
     ((m : Literal) → has_lit m set ≡ true → has_lit (negated_lit m) (lits_of es) ≡ true) → (c : List Literal) →
-    IsClauseOfLiterals n set c → FollowsByHints n cs c → ⊥
+    IsValidClauseOfLiterals n set c → FollowsByHints n cs c → ⊥
 none-follows n cs es set closed false_all c of follows =
     let none = no-false-end cs (negated_clause c) (lits_of es) follows.0 closed (λ m h. (let o = negated_lit-of c m h in ap (λ (l : Literal). has_lit l (lits_of es)) o.2 ∙ false_all o.0 (of.fewer o.0 o.1))) in
     true≢false (sym (and_parts (is_clause_over n c && has_distinct_vars c) (hints_end_in_conflict cs (negated_clause c) follows.0) follows.1).1 ∙ none)
@@ -76,7 +75,7 @@ none-follows n cs es set closed false_all c of follows =
 pub assumed-none : (n : ℕ) (cs : List (List Literal)) (es fs gs : List Entry) (set : List Literal) →
     is_saturated cs (lits_of gs) ≡ true → has_distinct_vars set ≡ true → has_distinct_vars (lits_of fs) ≡ true →
     take (length fs) gs ≡ fs → ((l : Literal) → has_lit l set ≡ true → has_lit l (lits_of es) ≡ false) →
-    AssumesNegations set es fs → (c : List Literal) → IsClauseOfLiterals n set c → FollowsByHints n cs c → ⊥
+    AssumesNegations set es fs → (c : List Literal) → IsValidClauseOfLiterals n set c → FollowsByHints n cs c → ⊥
 assumed-none n cs es fs gs set closed differ once kept untrue p = none-follows n cs gs set closed (λ m h. lit-kept fs gs (negated_lit m) kept (assumed-false set es fs m differ once untrue p h))
 
 pub kept-join : (es fs gs : List Entry) → take (length es) fs ≡ es → take (length fs) gs ≡ fs → take (length es) gs ≡ es
@@ -120,7 +119,7 @@ none-up (e ∷ xs) f =
     let z : nat_le e.level 0 ≡ false = grind (arith, nat_tests) in
     rw z (none-up xs (λ i x at. f (suc i) x at))
 
-back-level : (es gs : List Entry) → take (length es) gs ≡ es → has_rising_levels 0 es ≡ true → level_of es ≡ 0 → ((i : ℕ) (e : Entry) → length es ≤ i → slice_get gs i ≡ Some e → 0 < e.level) → entries_up_to 0 gs ≡ es
+back-level : (es gs : List Entry) → take (length es) gs ≡ es → each_may_follow_level 0 es ≡ true → level_of es ≡ 0 → ((i : ℕ) (e : Entry) → length es ≤ i → slice_get gs i ≡ Some e → 0 < e.level) → entries_up_to 0 gs ≡ es
 back-level es gs p climb level f =
     let whole : es ++ drop (length es) gs ≡ gs = ap (λ (xs : List Entry). xs ++ drop (length es) gs) (sym p) ∙ take-append-drop (length es) gs in
     let rest : entries_up_to 0 (drop (length es) gs) ≡ [] = none-up (drop (length es) gs)
@@ -141,7 +140,8 @@ above-level cs es fs gs set more p q i e le at =
           omega (arith, v.0, v.1, w))
     ]
 
-pub back-known : (cs : List (List Literal)) (es fs gs : List Entry) (set : List Literal) → has_rising_levels 0 es ≡ true → level_of es ≡ 0 → length es < length fs → AssumesNegations set es fs → ExtendsByPropagation cs fs gs → entries_up_to 0 gs ≡ es
+pub back-known : (cs : List (List Literal)) (es fs gs : List Entry) (set : List Literal) → each_may_follow_level 0 es ≡ true → level_of es ≡ 0 → length es < length fs → AssumesNegations set es fs → ExtendsByPropagation cs fs gs →
+    entries_up_to 0 gs ≡ es
 back-known cs es fs gs set climb level more p q = back-level es gs (kept-join es fs gs p.kept q.kept) climb level (above-level cs es fs gs set more p q)
 
 pub some-unset : (set : List Literal) (es fs : List Entry) → length es < length fs → has_distinct_vars (lits_of fs) ≡ true → AssumesNegations set es fs → (l : Literal) × (has_lit l set ≡ true) × (is_set es l.var ≡ false)

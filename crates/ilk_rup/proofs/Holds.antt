@@ -1,4 +1,3 @@
--- The invariant, as propagation continues and clauses are added.
 use Rattle.std.proofs.Common.{◌≡◌, ◌<◌, ◌≤◌, ◌+◌, ◌++◌, ◌∷◌, [], ℕ, suc, inl, inr, true, List, Some, length, take, drop, set, refl, sym, ap, ◌∙◌, subst, arith, length-append}
 use Rattle.std.specs.Prelude.{IsSomeAnd, slice_get}
 use Rattle.std.proofs.Common.{get_or, replicate}
@@ -15,30 +14,30 @@ use Rattle.ilk_cnf.specs.Literal.{Literal, has_lit, negated_lit}
 use Rattle.ilk_cnf.specs.Formula.{Formula}
 use Rattle.ilk_arena.specs.Arena.{ArenaLists}
 use Rattle.ilk_watches.specs.Chained.{IsClauses, IsClauseAdded, SameClauses}
-use Rattle.ilk_watches.specs.Reasons.{nth_clause_or_empty, is_conflict, is_reason}
+use Rattle.ilk_watches.specs.Reasons.{nth_clause_or_empty, is_conflict, clause_forces_lit}
 use Rattle.ilk_log.specs.declared.step.Step.{Step}
 use Rattle.ilk_log.specs.Derived.{is_derived}
 use Rattle.ilk_trail.specs.declared.entry.Entry.{Entry}
 use Rattle.ilk_trail.specs.Trail.{TrailList}
 use Rattle.ilk_trail.specs.Laws.{IsTrail, lits_of}
-use Rattle.ilk_watches.specs.declared.queue.Propagator.{Propagator}
+use Rattle.ilk_watches.specs.declared.queue.PropagationProgress.{PropagationProgress}
 use Rattle.ilk_watches.specs.Propagated.{ExtendsByPropagation}
-use Rattle.ilk_watches.specs.Watched.{IsQueue}
+use Rattle.ilk_watches.specs.Watched.{IsPropagationInvariant}
 use Rattle.ilk_watches.proofs.Added.{queue-with_clause_added}
 use Rattle.ilk_watches.proofs.Entries.{at-kept, at-old, length-kept}
-use Rattle.ilk_rup.specs.declared.base.Base.{Base}
+use Rattle.ilk_rup.specs.declared.base.DerivationState.{DerivationState}
 use Rattle.ilk_rup.specs.Alike.{AreEquivalent}
 use Rattle.ilk_rup.specs.LitSet.{LitSetList}
-use Rattle.ilk_rup.specs.Needs.{IsFalseBySetAndEntries, IsForced, AreUnitHintsByVar}
-use Rattle.ilk_rup.specs.Standing.{IsBaseInvariant, KeepsConsequences, IsLogged, HasOnlyUnitClausesAdded, IsBeforeClosure, IsBetweenItems}
+use Rattle.ilk_rup.specs.Needs.{IsFalseBySetAndEntries, EntryHasReason, AreUnitHintsByVar}
+use Rattle.ilk_rup.specs.Standing.{IsBaseInvariant, KeepsConsequences, AreClausesLogged, KeepsConsequencesTrailAndConflicts, IsBeforeClosure, IsClosedOrRefuted}
 use Rattle.ilk_rup.proofs.Keeping.{forced-more, known-more, logged-more}
 
 take-kept : (es fs : List Entry) (i : ℕ) → take (length es) fs ≡ es → i ≤ length es → take i fs ≡ take i es
 take-kept es fs i p le = ap (take i) (sym (take-append-drop (length es) fs) ∙ ap (λ (xs : List Entry). xs ++ drop (length es) fs) p) ∙ take-append-le i es (drop (length es) fs) le
 
-pub forced-propagated : (cs : List (List Literal)) (es fs : List Entry) (i : ℕ) → ExtendsByPropagation cs es fs → IsForced cs es i → IsForced cs fs i
+pub forced-propagated : (cs : List (List Literal)) (es fs : List Entry) (i : ℕ) → ExtendsByPropagation cs es fs → EntryHasReason cs es i → EntryHasReason cs fs i
 forced-propagated cs es fs i p h = λ e at. elim (below_or_past i (length es)) [
-  | inl b ↦ (let P : List Entry → Type 0 = λ xs. IsSomeAnd e.reason (λ c. is_reason cs (lits_of xs) e.lit c ≡ true) in
+  | inl b ↦ (let P : List Entry → Type 0 = λ xs. IsSomeAnd e.reason (λ c. clause_forces_lit cs (lits_of xs) e.lit c ≡ true) in
       subst P (sym (take-kept es fs i p.kept (omega (arith, b)))) (h e (at-old es fs i e p.kept b at)))
   | inr b ↦ p.reasons i e b at
 ]
@@ -52,16 +51,16 @@ known-propagated units cs es fs n k p h = record {
 }
 
 pub held-propagated :
-    (f : Formula) (a b : ArenaLists) (t u : TrailList) (q r : Propagator) (units : List ℕ) (named : ℕ)
+    (f : Formula) (a b : ArenaLists) (t u : TrailList) (q r : PropagationProgress) (units : List ℕ) (named : ℕ)
     (log : List Step) →
     IsBaseInvariant f a t q units named log → SameClauses a b → u ≡ record t { entries = u.entries } →
-    ExtendsByPropagation a.clauses t.entries u.entries → IsQueue b u.entries r.head r.settled →
+    ExtendsByPropagation a.clauses t.entries u.entries → IsPropagationInvariant b u.entries r.head r.settled →
     IsBaseInvariant f b u r units named log
 held-propagated f a b t u q r units named log h same is p queue =
     let cs = sym same.clauses in
-    let F : List (List Literal) → Type 0 = λ xs. (i : ℕ) → IsForced xs u.entries i in
+    let F : List (List Literal) → Type 0 = λ xs. (i : ℕ) → EntryHasReason xs u.entries i in
     let K : List (List Literal) → Type 0 = λ xs. AreUnitHintsByVar units xs u.entries f.vars named in
-    let L : List (List Literal) → Type 0 = λ xs. IsLogged f xs log in
+    let L : List (List Literal) → Type 0 = λ xs. AreClausesLogged f xs log in
     record {
       vars = same.vars ∙ h.vars;
       trail_vars = ap (λ (x : TrailList). x.vars) is ∙ h.trail_vars;
@@ -72,9 +71,9 @@ held-propagated f a b t u q r units named log h same is p queue =
       logged = subst L cs h.logged;
     }
 
-pub loose-propagated : (k : Base) (b : ArenaLists) (u : TrailList) (r : Propagator) → IsBeforeClosure k →
+pub loose-propagated : (k : DerivationState) (b : ArenaLists) (u : TrailList) (r : PropagationProgress) → IsBeforeClosure k →
     SameClauses k.clauses b → u ≡ record k.trail { entries = u.entries } →
-    ExtendsByPropagation k.clauses.clauses k.trail.entries u.entries → IsQueue b u.entries r.head r.settled →
+    ExtendsByPropagation k.clauses.clauses k.trail.entries u.entries → IsPropagationInvariant b u.entries r.head r.settled →
     IsBeforeClosure (record k { clauses = b; trail = u; queue = r })
 loose-propagated k b u r h same is p queue = record {
   held = held-propagated k.formula.now k.clauses b k.trail u k.queue r k.explainer.units.items k.explainer.named k.log h.held same is p queue;
@@ -86,7 +85,7 @@ pub added-clauses : (a b : ArenaLists) (c : List Literal) → IsClauseAdded a c 
 added-clauses a b c k = ap (λ (x : ArenaLists). x.clauses) k.is
 
 pub held-named :
-    (f : Formula) (a b : ArenaLists) (t : TrailList) (q : Propagator) (units : List ℕ) (named count : ℕ)
+    (f : Formula) (a b : ArenaLists) (t : TrailList) (q : PropagationProgress) (units : List ℕ) (named count : ℕ)
     (log : List Step) (e : Entry) (hints : List ℕ) →
     IsBaseInvariant f a t q units named log → IsClauses a → IsClauses b → IsClauseAdded a (e.lit ∷ []) b → IsTrail t →
     slice_get t.entries named ≡ Some e →
@@ -97,9 +96,9 @@ pub held-named :
 held-named f a b t q units named count log e hints h ka kb added trail at derived room size =
     let is = added-clauses a b (e.lit ∷ []) added in
     let cs = sym is in
-    let F : List (List Literal) → Type 0 = λ xs. (i : ℕ) → IsForced xs t.entries i in
+    let F : List (List Literal) → Type 0 = λ xs. (i : ℕ) → EntryHasReason xs t.entries i in
     let K : List (List Literal) → Type 0 = λ xs. AreUnitHintsByVar (set units e.lit.var count) xs t.entries f.vars (named + 1) in
-    let L : List (List Literal) → Type 0 = λ xs. IsLogged f xs (log ++ record { clause = e.lit ∷ []; hints = hints } ∷ []) in
+    let L : List (List Literal) → Type 0 = λ xs. AreClausesLogged f xs (log ++ record { clause = e.lit ∷ []; hints = hints } ∷ []) in
     let long = length-append a.clauses ((e.lit ∷ []) ∷ []) in
     record {
       vars = ap (λ (x : ArenaLists). x.vars) added.is ∙ h.vars;
@@ -148,19 +147,19 @@ refute-explains cs es k c h e =
       untrue = λ m x. absurd (true≢false (sym x));
     }
 
-pub alike-twice : (a b c : Base) → KeepsConsequences a b → KeepsConsequences b c → KeepsConsequences a c
+pub alike-twice : (a b c : DerivationState) → KeepsConsequences a b → KeepsConsequences b c → KeepsConsequences a c
 alike-twice a b c j k = record { formula = k.formula ∙ j.formula; alike = alike-join a.clauses.clauses b.clauses.clauses c.clauses.clauses j.alike k.alike }
 
-pub alike-propagated : (k : Base) (b : ArenaLists) (u : TrailList) (r : Propagator) → SameClauses k.clauses b → KeepsConsequences k (record k { clauses = b; trail = u; queue = r })
+pub alike-propagated : (k : DerivationState) (b : ArenaLists) (u : TrailList) (r : PropagationProgress) → SameClauses k.clauses b → KeepsConsequences k (record k { clauses = b; trail = u; queue = r })
 alike-propagated k b u r same = (let A : List (List Literal) → Type 0 = λ cs. AreEquivalent k.clauses.clauses cs in record { formula = refl; alike = subst A (sym same.clauses) (alike-self k.clauses.clauses) })
 
-pub named_self : (k : Base) → HasOnlyUnitClausesAdded k k
+pub named_self : (k : DerivationState) → KeepsConsequencesTrailAndConflicts k k
 named_self k = record { same = record { formula = refl; alike = alike-self k.clauses.clauses }; refuted = refl; trail = refl; conflicts = λ c h. h }
 
-pub named-twice : (a b c : Base) → HasOnlyUnitClausesAdded a b → HasOnlyUnitClausesAdded b c → HasOnlyUnitClausesAdded a c
+pub named-twice : (a b c : DerivationState) → KeepsConsequencesTrailAndConflicts a b → KeepsConsequencesTrailAndConflicts b c → KeepsConsequencesTrailAndConflicts a c
 named-twice a b c j k = record { same = alike-twice a b c j.same k.same; refuted = k.refuted ∙ j.refuted; trail = k.trail ∙ j.trail; conflicts = λ i h. k.conflicts i (j.conflicts i h) }
 
-pub stands-read : (k : Base) (s : LitSetList) → s.vars ≡ k.set.vars → IsBetweenItems k → IsBetweenItems (record k { set = s })
+pub stands-read : (k : DerivationState) (s : LitSetList) → s.vars ≡ k.set.vars → IsClosedOrRefuted k → IsClosedOrRefuted (record k { set = s })
 stands-read k s e st = record {
   set_vars = e ∙ st.set_vars;
   going = λ r. (let x = st.going r in record { loose = record { held = x.loose.held; needed_vars = x.loose.needed_vars; set_vars = e ∙ x.loose.set_vars }; closed = x.closed; head = x.head; settled = x.settled; named = x.named });

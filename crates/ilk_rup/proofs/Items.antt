@@ -1,11 +1,10 @@
--- Items of a text, read word by word.
 use Rattle.std.proofs.Common.{◌≡◌, ◌++◌, ◌∷◌, [], ◌||◌, ◌&&◌, eqb, ℕ, inl, inr, Bool, true, false, not, List, Option, Some, None, refl, sym, ap, ◌∙◌, subst, arith, option_map}
 use Rattle.std.specs.Prelude.{bytes_eq, codes, nat_le, nat_lt}
 use Rattle.std.specs.Str.Parse.{digits_value}
 use Rattle.std.proofs.lemmas.Slice.Eq.{bytes_eq-Decides}
 use Rattle.ilk_base.proofs.Options.{bind_some, mapped-Some}
 use Rattle.ilk_lines.specs.Decimal.{decimal_up_to, is_decimal}
-use Rattle.ilk_rup.specs.Needs.{IsClauseOfLiterals}
+use Rattle.ilk_rup.specs.Needs.{IsValidClauseOfLiterals}
 use Rattle.std.proofs.lemmas.Bool.{and_from, and_parts, cases_Bool, not_from_false, or_cases, or_left, or_parts, or_right, true≢false}
 use Rattle.std.proofs.lemmas.Option.{same_Some}
 use Rattle.ilk_base.specs.Option.{◌>>=◌, then_some}
@@ -15,7 +14,7 @@ use Rattle.ilk_cnf.proofs.SameLiterals.{lit-is}
 use Rattle.ilk_lines.specs.Lines.{Bytes}
 use Rattle.ilk_learn.proofs.Members.{each-within, var-of}
 use Rattle.ilk_rup.specs.RefutationText.{clauses_added_by, with_word_in_first, is_end, items_of, literal_of, literals_of, var_of}
-use Rattle.ilk_rup.specs.Items.{IsSetUnlessTautology, IsItemRead, IsPut, AreFirstItemLiteralsRead, deletion_item_kind, addition_item_kind, there, clash, more}
+use Rattle.ilk_rup.specs.Items.{IsSetUnlessTautology, IsItemRead, IsAddedUnlessVarPresent, AreFirstItemLiteralsRead, deletion_item_kind, addition_item_kind, there, clash, more}
 use Rattle.ilk_rup.proofs.Signs.{var-either}
 use Rattle.ilk_rup.proofs.Needing.{pushed-lit, push-old, push-new}
 use Rattle.ilk_rup.proofs.FirstItem.{first-item, not-both-there, taut-push}
@@ -28,7 +27,7 @@ other-sign ls l v n =
 pub are-none : IsSetUnlessTautology [] [] false
 are-none = record { clash = refl; fewer = λ e m h. h; members = λ e m h. h }
 
-pub are-more : (ls old new : List Literal) (l : Literal) (was one : Bool) → IsSetUnlessTautology ls old was → IsPut l old new one → IsSetUnlessTautology (ls ++ l ∷ []) new (one || was)
+pub are-more : (ls old new : List Literal) (l : Literal) (was one : Bool) → IsSetUnlessTautology ls old was → IsAddedUnlessVarPresent l old new one → IsSetUnlessTautology (ls ++ l ∷ []) new (one || was)
 are-more ls old new l was one k p = by was k p
   where
     yes : (b : Bool) → is_tautology (ls ++ l ∷ []) ≡ true → b ≡ true → IsSetUnlessTautology (ls ++ l ∷ []) new b
@@ -38,7 +37,7 @@ are-more ls old new l was one k p = by was k p
     or-true true = refl
     or-true false = refl
 
-    by : (was : Bool) → IsSetUnlessTautology ls old was → IsPut l old new one → IsSetUnlessTautology (ls ++ l ∷ []) new (one || was)
+    by : (was : Bool) → IsSetUnlessTautology ls old was → IsAddedUnlessVarPresent l old new one → IsSetUnlessTautology (ls ++ l ∷ []) new (one || was)
     by true k p = yes (one || true) (taut-push ls l ∙ ap (λ b. b || has_lit (negated_lit l) ls) k.clash) (or-true one)
     by false k (there e h f) = (let P : Bool → Type 0 = λ b. IsSetUnlessTautology (ls ++ l ∷ []) new (b || false) in
         let Q : List Literal → Type 0 = λ s. IsSetUnlessTautology (ls ++ l ∷ []) s false in
@@ -131,7 +130,7 @@ distinct-differ (l ∷ ls) t =
       ])) (distinct-differ ls p.1))
     ]
 
-pub clause-read : (n : ℕ) (item : List Bytes) (ls set : List Literal) → literals_of n item ≡ Some ls → IsSetUnlessTautology ls set false → IsClauseOfLiterals n set (deduped_lits ls)
+pub clause-read : (n : ℕ) (item : List Bytes) (ls set : List Literal) → literals_of n item ≡ Some ls → IsSetUnlessTautology ls set false → IsValidClauseOfLiterals n set (deduped_lits ls)
 clause-read n item ls set e k = record {
   within = each-within n (deduped_lits ls) ls (λ m h. distinct-fewer ls m h) (literals-in n item ls e);
   differ = distinct-differ ls k.clash;

@@ -1,18 +1,17 @@
--- The items of a text are judged one after the other.
 use Rattle.std.proofs.Common.{◌≡◌, ◌<◌, ◌+◌, ◌++◌, ◌∷◌, [], ℕ, suc, List, Option, Some, None, length, refl, sym, ap, ◌∙◌, subst, arith, append-nil}
 use Rattle.std.specs.Prelude.{unwrap_or}
 use Rattle.std.proofs.lemmas.Option.{same_Some}
 use Rattle.ilk_cnf.specs.Literal.{Literal}
 use Rattle.ilk_cnf.specs.Formula.{Formula}
 use Rattle.ilk_lines.specs.Lines.{Bytes}
-use Rattle.ilk_rup.specs.Accepted.{ItemsRefuteClauses, EachFollowsByHints, IsFirstBadAmong, FollowsByHints, IsRightItem, after_item, text_items}
+use Rattle.ilk_rup.specs.Accepted.{ItemsAreRightAndRefute, AllFollowByHints, IsFirstBadAmong, FollowsByHints, IsRightItem, after_item, text_items}
 use Rattle.ilk_rup.specs.Alike.{AreEquivalent}
 use Rattle.ilk_rup.specs.Checker.{CheckerLists}
 use Rattle.ilk_rup.specs.RefutationText.{clauses_added_by, items_of, text_words}
 use Rattle.ilk_rup.specs.Stepped.{HasCheckedItem, RestDecidesWhole}
 use Rattle.ilk_rup.proofs.Alike.{alike-back, alike-join, alike-more, alike-self, follows-alike}
 
-each-alike : (n : ℕ) (cs ds more : List (List Literal)) → AreEquivalent cs ds → EachFollowsByHints n cs more → EachFollowsByHints n ds more
+each-alike : (n : ℕ) (cs ds more : List (List Literal)) → AreEquivalent cs ds → AllFollowByHints n cs more → AllFollowByHints n ds more
 each-alike n cs ds [] k h = tt
 each-alike n cs ds (c ∷ more) k h = (follows-alike n cs ds c k h.0, each-alike n cs ds more k h.1)
 
@@ -32,7 +31,7 @@ pub step-unfollowed :
     (FollowsByHints k.formula.vars k.clauses c → ⊥) → IsFirstBadAmong k.formula.vars k.clauses (items_of words) 1
 step-unfollowed k words item items c is added none =
     let P : List (List Bytes) → Type 0 = λ xs. IsFirstBadAmong k.formula.vars k.clauses xs 1 in
-    let Q : List (List Literal) → Type 0 = λ cs. EachFollowsByHints k.formula.vars k.clauses cs in
+    let Q : List (List Literal) → Type 0 = λ cs. AllFollowByHints k.formula.vars k.clauses cs in
     subst P (sym is) (λ right. none (subst Q (same_Some right.0 (c ∷ []) (sym right.1 ∙ added)) right.2).0)
 
 pub step-idle : (k : CheckerLists) (words left item : List Bytes) → items_of words ≡ item ∷ items_of left → clauses_added_by k.formula.vars item ≡ Some [] → length left < length words → HasCheckedItem k words left k
@@ -76,7 +75,7 @@ going-step f text now new left rest k g s =
       given = after_item f.vars given s.item;
       alike = subst A vars (alike-join new.clauses (now.clauses ++ more) (given ++ more) (alike-back (now.clauses ++ more) new.clauses s.alike) (alike-more now.clauses given more g.alike));
       progress = record {
-        accepted = λ h. g.progress.accepted (let P : List (List Bytes) → Type 0 = λ xs. ItemsRefuteClauses f.vars given xs in subst P (sym s.is) (right, h));
+        accepted = λ h. g.progress.accepted (let P : List (List Bytes) → Type 0 = λ xs. ItemsAreRightAndRefute f.vars given xs in subst P (sym s.is) (right, h));
         bad = λ j h. (let P : List (List Bytes) → Type 0 = λ xs. IsFirstBadAmong f.vars given xs (suc (suc j)) in
             let e : k + suc j ≡ (k + 1) + j = omega arith in
             let Q : ℕ → Type 0 = λ n. IsFirstBadAmong f.vars f.clauses (text_items text) n in
@@ -91,8 +90,8 @@ going-bad f text now left k g h =
     let P : Formula → Type 0 = λ x. IsFirstBadAmong x.vars g.given (items_of left) 1 in
     subst Q e (g.progress.bad 0 (subst P g.formula (bad-alike now.formula.vars now.clauses g.given (items_of left) g.alike h)))
 
-pub going-end : (f : Formula) (text : Bytes) (now : CheckerLists) (left : List Bytes) (k : ℕ) → Going f text now left k → left ≡ [] → FollowsByHints now.formula.vars now.clauses [] → ItemsRefuteClauses f.vars f.clauses (text_items text)
+pub going-end : (f : Formula) (text : Bytes) (now : CheckerLists) (left : List Bytes) (k : ℕ) → Going f text now left k → left ≡ [] → FollowsByHints now.formula.vars now.clauses [] → ItemsAreRightAndRefute f.vars f.clauses (text_items text)
 going-end f text now left k g e h =
-    let P : List Bytes → Type 0 = λ ws. ItemsRefuteClauses f.vars g.given (items_of ws) in
+    let P : List Bytes → Type 0 = λ ws. ItemsAreRightAndRefute f.vars g.given (items_of ws) in
     let F : Formula → Type 0 = λ x. FollowsByHints x.vars g.given [] in
     g.progress.accepted (subst P (sym e) (subst F g.formula (follows-alike now.formula.vars now.clauses g.given [] g.alike h)))

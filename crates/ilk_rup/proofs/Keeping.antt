@@ -1,4 +1,3 @@
--- The invariant, as a unit clause is added.
 use Rattle.std.proofs.Common.{◌≡◌, ◌<◌, ◌+◌, ◌&&◌, ◌++◌, ◌∷◌, [], ℕ, suc, inl, inr, true, false, eqb, List, Some, length, take, set, get_or, sym, ap, ◌∙◌, subst, arith, add-one, length-append}
 use Rattle.std.specs.Prelude.{Option, None, IsSomeAnd, slice_get, not, nat_lt}
 use Rattle.std.specs.List.{list_all}
@@ -12,7 +11,7 @@ use Rattle.ilk_base.proofs.Tested.{list_all-more, list_all-slice_get}
 use Rattle.ilk_cnf.specs.Literal.{Literal, negated_lit, same_lit, has_lit, has_var, has_distinct_vars}
 use Rattle.ilk_cnf.specs.Formula.{Formula, is_clause_over}
 use Rattle.ilk_cnf.proofs.SameLiterals.{same-lit, lit-is}
-use Rattle.ilk_watches.specs.Reasons.{nth_clause_or_empty, is_conflict, is_reason}
+use Rattle.ilk_watches.specs.Reasons.{nth_clause_or_empty, is_conflict, clause_forces_lit}
 use Rattle.ilk_log.specs.declared.step.Step.{Step}
 use Rattle.ilk_log.specs.Derived.{only_last_clause_is_empty, hints_end_in_conflict, is_derived, is_derived_log, is_empty_clause, is_refutation, negated_clause, step_clauses}
 use Rattle.ilk_log.specs.Fresh.{other_lits}
@@ -27,21 +26,21 @@ use Rattle.ilk_learn.proofs.Walk.{stands}
 use Rattle.std.proofs.Common.{append_assoc}
 use Rattle.std.proofs.lemmas.Bool.{not_from_false}
 use Rattle.ilk_rup.specs.Alike.{AreEquivalent}
-use Rattle.ilk_rup.specs.Needs.{AreHints, IsFalseBySetAndEntries, IsClauseOfLiterals, IsForced, AreUnitHintsByVar}
-use Rattle.ilk_rup.specs.Standing.{IsLogged}
+use Rattle.ilk_rup.specs.Needs.{HintsDeriveClauseOfLiterals, IsFalseBySetAndEntries, IsValidClauseOfLiterals, EntryHasReason, AreUnitHintsByVar}
+use Rattle.ilk_rup.specs.Standing.{AreClausesLogged}
 use Rattle.ilk_rup.proofs.Alike.{alike-forced, last-at}
 use Rattle.ilk_rup.proofs.Explaining.{not-in}
 use Rattle.ilk_rup.proofs.Passing.{next-at, reason-in}
 
-pub reason-more : (cs more : List (List Literal)) (set : List Literal) (l : Literal) (r : ℕ) → is_reason cs set l r ≡ true → is_reason (cs ++ more) set l r ≡ true
+pub reason-more : (cs more : List (List Literal)) (set : List Literal) (l : Literal) (r : ℕ) → clause_forces_lit cs set l r ≡ true → clause_forces_lit (cs ++ more) set l r ≡ true
 reason-more cs more set l r h =
     let same : nth_clause_or_empty (cs ++ more) r ≡ nth_clause_or_empty cs r = get_or-append cs more [] r (reason-in cs set l r h) in
     ap (λ (k : List Literal). has_lit l k && is_falsified set (other_lits l k)) same ∙ h
 
-pub forced-more : (cs more : List (List Literal)) (es : List Entry) (i : ℕ) → IsForced cs es i → IsForced (cs ++ more) es i
+pub forced-more : (cs more : List (List Literal)) (es : List Entry) (i : ℕ) → EntryHasReason cs es i → EntryHasReason (cs ++ more) es i
 forced-more cs more es i h = λ e at. go e e.reason (h e at)
   where
-    go : (e : Entry) (o : Option ℕ) → IsSomeAnd o (λ c. is_reason cs (lits_of (take i es)) e.lit c ≡ true) → IsSomeAnd o (λ c. is_reason (cs ++ more) (lits_of (take i es)) e.lit c ≡ true)
+    go : (e : Entry) (o : Option ℕ) → IsSomeAnd o (λ c. clause_forces_lit cs (lits_of (take i es)) e.lit c ≡ true) → IsSomeAnd o (λ c. clause_forces_lit (cs ++ more) (lits_of (take i es)) e.lit c ≡ true)
     go e None h = absurd h
     go e (Some c) h = reason-more cs more (lits_of (take i es)) e.lit c h
 
@@ -77,7 +76,7 @@ known-more units cs es n k count e h at once room size = record {
 
 pub entry-alike : (cs : List (List Literal)) (es : List Entry) (units : List ℕ) (n k r : ℕ) (e : Entry) →
     list_all has_distinct_vars cs ≡ true → AreUnitHintsByVar units cs es n k → slice_get es k ≡ Some e →
-    is_reason cs (lits_of (take k es)) e.lit r ≡ true → AreEquivalent (cs ++ (e.lit ∷ []) ∷ []) cs
+    clause_forces_lit cs (lits_of (take k es)) e.lit r ≡ true → AreEquivalent (cs ++ (e.lit ∷ []) ∷ []) cs
 entry-alike cs es units n k r e differ known at reason =
     let d = nth_clause_or_empty cs r in
     let p = and_parts (has_lit e.lit d) (is_falsified (lits_of (take k es)) (other_lits e.lit d)) reason in
@@ -89,7 +88,7 @@ entry-alike cs es units n k r e differ known at reason =
 
 pub name-explains : (cs : List (List Literal)) (es : List Entry) (k r : ℕ) (e : Entry) →
     slice_get es k ≡ Some e → has_distinct_vars (lits_of es) ≡ true → r < length cs →
-    is_reason cs (lits_of (take k es)) e.lit r ≡ true → IsFalseBySetAndEntries cs es (e.lit ∷ []) r k k k
+    clause_forces_lit cs (lits_of (take k es)) e.lit r ≡ true → IsFalseBySetAndEntries cs es (e.lit ∷ []) r k k k
 name-explains cs es k r e at once b reason =
     let d = nth_clause_or_empty cs r in
     let p = and_parts (has_lit e.lit d) (is_falsified (lits_of (take k es)) (other_lits e.lit d)) reason in
@@ -110,7 +109,7 @@ name-explains cs es k r e at once b reason =
       ]);
     }
 
-pub step-derived : (n : ℕ) (cs : List (List Literal)) (set c : List Literal) (hints : List ℕ) → AreHints cs set hints → IsClauseOfLiterals n set c → is_derived n cs (record { clause = c; hints = hints }) ≡ true
+pub step-derived : (n : ℕ) (cs : List (List Literal)) (set c : List Literal) (hints : List ℕ) → HintsDeriveClauseOfLiterals cs set hints → IsValidClauseOfLiterals n set c → is_derived n cs (record { clause = c; hints = hints }) ≡ true
 step-derived n cs set c hints h k = and_from (is_clause_over n c && has_distinct_vars c) (hints_end_in_conflict cs (negated_clause c) hints) (and_from (is_clause_over n c) (has_distinct_vars c) k.within k.differ) (h c k.differ k.fewer k.more)
 
 ends-push : (log : List Step) (s : Step) → list_all (λ (t : Step). not (is_empty_clause t.clause)) log ≡ true → is_empty_clause s.clause ≡ true → only_last_clause_is_empty (log ++ s ∷ []) ≡ true
@@ -120,14 +119,14 @@ ends-push (t ∷ (u ∷ log)) s h e =
     let p = and_parts (not (is_empty_clause t.clause)) (list_all (λ (x : Step). not (is_empty_clause x.clause)) (u ∷ log)) h in
     and_from (not (is_empty_clause t.clause)) (only_last_clause_is_empty ((u ∷ log) ++ s ∷ [])) p.0 (ends-push (u ∷ log) s p.1 e)
 
-pub logged-more : (f : Formula) (cs : List (List Literal)) (log : List Step) (s : Step) → IsLogged f cs log → is_derived f.vars cs s ≡ true → is_empty_clause s.clause ≡ false → IsLogged f (cs ++ s.clause ∷ []) (log ++ s ∷ [])
+pub logged-more : (f : Formula) (cs : List (List Literal)) (log : List Step) (s : Step) → AreClausesLogged f cs log → is_derived f.vars cs s ≡ true → is_empty_clause s.clause ≡ false → AreClausesLogged f (cs ++ s.clause ∷ []) (log ++ s ∷ [])
 logged-more f cs log s k d e = record {
   clauses_are = ap (λ (xs : List (List Literal)). xs ++ s.clause ∷ []) k.clauses_are ∙ append_assoc f.clauses (step_clauses log) (s.clause ∷ []) ∙ ap (λ (xs : List (List Literal)). f.clauses ++ xs) (sym (clauses-push log s));
   derived = derived-push f.vars f.clauses log s k.derived (ap (λ (xs : List (List Literal)). is_derived f.vars xs s) (sym k.clauses_are) ∙ d);
   unended = list_all-more (λ (t : Step). not (is_empty_clause t.clause)) log s k.unended (not_from_false (is_empty_clause s.clause) e);
 }
 
-pub log-refutes : (f : Formula) (cs : List (List Literal)) (log : List Step) (s : Step) → IsLogged f cs log → is_derived f.vars cs s ≡ true → is_empty_clause s.clause ≡ true → is_refutation f (log ++ s ∷ []) ≡ true
+pub log-refutes : (f : Formula) (cs : List (List Literal)) (log : List Step) (s : Step) → AreClausesLogged f cs log → is_derived f.vars cs s ≡ true → is_empty_clause s.clause ≡ true → is_refutation f (log ++ s ∷ []) ≡ true
 log-refutes f cs log s k d e = and_from (is_derived_log f (log ++ s ∷ [])) (only_last_clause_is_empty (log ++ s ∷ []))
     (derived-push f.vars f.clauses log s k.derived
     (ap (λ (xs : List (List Literal)). is_derived f.vars xs s) (sym k.clauses_are) ∙ d))

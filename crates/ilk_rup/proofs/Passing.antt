@@ -1,4 +1,3 @@
--- An entry is passed on the walk back.
 use Rattle.std.proofs.Common.{◌≡◌, ◌<◌, ◌≤◌, ◌+◌, ◌++◌, ◌∷◌, [], ℕ, zero, suc, true, false, inl, inr, List, Option, Some, None, length, take, reverse, refl, sym, ap, ◌∙◌, subst, arith, add-one, option_map, get_or, append-nil, length-append}
 use Rattle.std.specs.Prelude.{IsSomeAnd, nat_eq, slice_get, not, ◌==◌}
 use Rattle.std.specs.List.{filter}
@@ -10,7 +9,7 @@ use Rattle.ilk_base.proofs.Lists.{take-at, taken-before}
 use Rattle.ilk_base.proofs.Tested.{list_all-slice_get}
 use Rattle.ilk_cnf.specs.Literal.{Literal, has_lit, has_var, has_distinct_vars}
 use Rattle.ilk_cnf.specs.Formula.{Formula, IsFormula}
-use Rattle.ilk_watches.specs.Reasons.{nth_clause_or_empty, is_reason}
+use Rattle.ilk_watches.specs.Reasons.{nth_clause_or_empty, clause_forces_lit}
 use Rattle.ilk_log.specs.Fresh.{other_lits}
 use Rattle.ilk_log.specs.Propagation.{is_falsified}
 use Rattle.ilk_trail.specs.declared.entry.Entry.{Entry}
@@ -21,7 +20,7 @@ use Rattle.ilk_watches.proofs.Entries.{entry-of-lit, one-entry}
 use Rattle.ilk_learn.proofs.Latest.{entry-at, take-one-more}
 use Rattle.ilk_learn.proofs.Members.{var-of}
 use Rattle.ilk_learn.proofs.Walk.{stands}
-use Rattle.ilk_rup.specs.Needs.{AddsNeededOfClause, HintsWorkWithoutEntry, FalsifiesWithNeeded, unit_hints_of_needed}
+use Rattle.ilk_rup.specs.Needs.{AreNeededAfterClause, HintsWorkWithoutEntry, HintsFalsifyGivenNeeded, unit_hints_of_needed}
 use Rattle.ilk_rup.proofs.Explaining.{Next, shows-skip, shows-step}
 use Rattle.ilk_rup.proofs.Needing.{pushed-lit, push-old, push-new}
 
@@ -56,7 +55,7 @@ some-reason o p P e h = (let Q : Option ℕ → Type 0 = λ x. IsSome x in subst
 pub that-reason : (o : Option ℕ) (r : ℕ) (P : ℕ → Type 0) → o ≡ Some r → IsSomeAnd o P → P r
 that-reason o r P e h = (let Q : Option ℕ → Type 0 = λ x. IsSomeAnd x P in subst Q e h)
 
-pub reason-in : (cs : List (List Literal)) (set : List Literal) (l : Literal) (r : ℕ) → is_reason cs set l r ≡ true → r < length cs
+pub reason-in : (cs : List (List Literal)) (set : List Literal) (l : Literal) (r : ℕ) → clause_forces_lit cs set l r ≡ true → r < length cs
 reason-in cs set l r h =
     let p = and_parts (has_lit l (nth_clause_or_empty cs r)) (is_falsified set (other_lits l (nth_clause_or_empty cs r))) h in
     slice_get_within cs r (nth_clause_or_empty cs r) (stands cs r l p.0)
@@ -93,15 +92,15 @@ pub passed-step :
     (f : Formula) (es : List Entry) (set needed next : List Literal) (i r : ℕ) (e : Entry) (reasons : List ℕ)
     → IsFormula f →
     slice_get es i ≡ Some e → has_distinct_vars (lits_of es) ≡ true → has_lit e.lit needed ≡ true →
-    is_reason f.clauses (lits_of (take i es)) e.lit r ≡ true → has_var e.lit.var set ≡ false →
-    AddsNeededOfClause set (nth_clause_or_empty f.clauses r) needed next →
+    clause_forces_lit f.clauses (lits_of (take i es)) e.lit r ≡ true → has_var e.lit.var set ≡ false →
+    AreNeededAfterClause set (nth_clause_or_empty f.clauses r) needed next →
     HintsWorkWithoutEntry f.clauses es set i needed (reverse reasons) next (reverse (reasons ++ (r + 1) ∷ []))
 passed-step f es set needed next i r e reasons k at once u reason away n = λ top b le s.
     (let cs = f.clauses in
     let p = and_parts (has_lit e.lit (nth_clause_or_empty cs r)) (is_falsified (lits_of (take i es)) (other_lits e.lit (nth_clause_or_empty cs r))) reason in
     let there = stands cs r e.lit p.0 in
     let turned : (r + 1) ∷ reverse reasons ≡ reverse (reasons ++ (r + 1) ∷ []) = sym (reverse-append reasons ((r + 1) ∷ [])) in
-    let P : List ℕ → Type 0 = λ hs. FalsifiesWithNeeded cs (lits_of (take top es)) (lits_of (take i es)) set next hs in
+    let P : List ℕ → Type 0 = λ hs. HintsFalsifyGivenNeeded cs (lits_of (take top es)) (lits_of (take i es)) set next hs in
     subst P (ap (λ (h : ℕ). h ∷ reverse reasons) (sym (add-one r)) ∙ turned)
     (shows-step cs (lits_of (take top es)) (lits_of (take i es)) (lits_of (take (i + 1) es)) set needed
     next (nth_clause_or_empty cs r) e.lit r (reverse reasons) (next-at es i e at once) u there
@@ -118,7 +117,6 @@ units-more units ls i l at = ap (λ (n : ℕ). unit_hints_of_needed units (take 
       | inr t ↦ rw t (hints-append xs ys)
     ]
 
--- The number of hints, if the next literal has one, and if it has none.
 pub counted-more : (units : List ℕ) (ls : List Literal) (i : ℕ) (l : Literal) → slice_get ls i ≡ Some l → ¬ (get_or units l.var 0 ≡ 0) → length (unit_hints_of_needed units (take (i + 1) ls)) ≡ length (unit_hints_of_needed units (take i ls)) + 1
 counted-more units ls i l at some = ap length (units-more units ls i l at) ∙ length-append (unit_hints_of_needed units (take i ls)) (unit_hints_of_needed units (l ∷ [])) ∙ ap
     (λ (n : ℕ). length (unit_hints_of_needed units (take i ls)) + n) (one (get_or units l.var 0) some)

@@ -1,4 +1,3 @@
--- A trail as a set, by the values of literals.
 use Rattle.std.proofs.Common.{◌≡◌, ◌+◌, ◌++◌, ◌∷◌, [], ℕ, zero, suc, inl, inr, Bool, true, false, eqb, cond, List, Option, Some, None, length, option_map, refl, sym, ap, ◌∙◌, subst, arith}
 use Rattle.std.specs.Prelude.{is_some, nat_le, slice_get}
 use Rattle.std.proofs.lemmas.Bool.{and_parts, eqb-true}
@@ -8,7 +7,7 @@ use Rattle.ilk_base.proofs.Lists.{slice_get-push_cases}
 use Rattle.ilk_cnf.specs.Literal.{Literal, has_lit, has_distinct_vars}
 use Rattle.ilk_trail.specs.declared.entry.Entry.{Entry}
 use Rattle.ilk_trail.specs.Trail.{TrailList, with_decision, level_of, entries_up_to, value_of_literal}
-use Rattle.ilk_trail.specs.Laws.{IsTrail, has_rising_levels, is_next_level, is_set, lits_of}
+use Rattle.ilk_trail.specs.Laws.{IsTrail, each_may_follow_level, may_follow_level, is_set, lits_of}
 use Rattle.ilk_trail.proofs.Entries.{lits_of-push}
 use Rattle.ilk_watches.proofs.Values.{value-tells, value-none, value-some}
 use Rattle.ilk_rup.specs.LitSet.{NoEntryHasReason}
@@ -43,10 +42,10 @@ lits_at [] i l h = absurd (cc)
 lits_at (e ∷ es) zero l h = h
 lits_at (e ∷ es) (suc i) l h = lits_at es i l h
 
-none-below : (k : ℕ) (es : List Entry) → has_rising_levels k es ≡ true → NoEntryHasReason es → entries_up_to 0 es ≡ []
+none-below : (k : ℕ) (es : List Entry) → each_may_follow_level k es ≡ true → NoEntryHasReason es → entries_up_to 0 es ≡ []
 none-below k [] c a = refl
 none-below k (e ∷ es) c a =
-    let p = and_parts (is_next_level k e) (has_rising_levels e.level es) c in
+    let p = and_parts (may_follow_level k e) (each_may_follow_level e.level es) c in
     let r = a 0 e refl in
     let q : e.level ≡ k + 1 = eqb-true e.level (k + 1) (ap (λ (o : Option ℕ). eqb e.level (cond (is_some o) k (k + 1))) (sym r) ∙ p.0) in
     let z : nat_le e.level 0 ≡ false = grind (arith, nat_tests) in

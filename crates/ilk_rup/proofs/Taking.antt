@@ -1,4 +1,3 @@
--- The clause of an item is taken.
 use Rattle.std.proofs.Common.{◌≡◌, ◌++◌, ◌∷◌, [], ℕ, inl, inr, Bool, true, false, List, Option, Some, None, refl, sym, ap, ◌∙◌, subst, arith}
 use Rattle.std.specs.Prelude.{◌==◌, IfNone, IfSome, not, slice_get}
 use Rattle.std.specs.List.{filter}
@@ -16,7 +15,7 @@ use Rattle.ilk_log.specs.Derived.{is_empty_clause}
 use Rattle.ilk_log.specs.Propagation.{is_falsified}
 use Rattle.ilk_trail.specs.declared.entry.Entry.{Entry}
 use Rattle.ilk_trail.specs.Trail.{level_of}
-use Rattle.ilk_trail.specs.Laws.{IsTrail, has_rising_levels, is_set, lits_of}
+use Rattle.ilk_trail.specs.Laws.{IsTrail, each_may_follow_level, is_set, lits_of}
 use Rattle.ilk_trail.proofs.Levels.{entries_up_to-all}
 use Rattle.ilk_watches.specs.Watched.{NotFalseBelowCurrentLevel, FirstTwoAreWatchable}
 use Rattle.ilk_watches.proofs.Added.{queue-with_clause_added}
@@ -26,9 +25,9 @@ use Rattle.ilk_learn.proofs.Derived.{false-from}
 use Rattle.ilk_learn.proofs.Members.{differ-kept, each-within, kept-at, kept-from, var-of}
 use Rattle.ilk_rup.specs.Accepted.{FollowsByHints}
 use Rattle.ilk_rup.specs.Alike.{AreEquivalent}
-use Rattle.ilk_rup.specs.Needs.{IsClauseOfLiterals, IsForced, AreUnitHintsByVar, unset_literals_first}
-use Rattle.ilk_rup.specs.Standing.{HasCurrentClauseAdded, KeepsConsequences, IsDerivedStep, IsLogged, IsStepAdded, IsBeforeClosure, IsBetweenItems}
-use Rattle.ilk_rup.specs.declared.base.Base.{Base}
+use Rattle.ilk_rup.specs.Needs.{IsValidClauseOfLiterals, EntryHasReason, AreUnitHintsByVar, unset_literals_first}
+use Rattle.ilk_rup.specs.Standing.{HasCurrentClauseAdded, KeepsConsequences, IsStepForCurrentLiterals, AreClausesLogged, IsClauseAddedWithStep, IsBeforeClosure, IsClosedOrRefuted}
+use Rattle.ilk_rup.specs.declared.base.DerivationState.{DerivationState}
 use Rattle.ilk_rup.proofs.Alike.{alike-ended, alike-join, alike-known, alike-same, follows-any, follows-known}
 use Rattle.ilk_rup.proofs.Holds.{added-clauses}
 use Rattle.ilk_rup.proofs.Keeping.{forced-more, logged-more, step-derived}
@@ -57,7 +56,7 @@ apart-differ (x ∷ xs) ys d e f =
     let none : has_var x.var (xs ++ ys) ≡ false = list_any-append (λ (l : Literal). l.var == x.var) xs ys ∙ or_from (has_var x.var xs) (has_var x.var ys) (not-true (has_var x.var xs) p.0) (f x (or_left (same_lit x x) (has_lit x xs) (same-lit x))) in
     and_from (not (has_var x.var (xs ++ ys))) (has_distinct_vars (xs ++ ys)) (not_from_false (has_var x.var (xs ++ ys)) none) (apart-differ xs ys p.1 e (λ y h. f y (or_right (same_lit y x) (has_lit y xs) h)))
 
-pub first-clause : (n : ℕ) (es : List Entry) (set : List Literal) → is_clause_over n set ≡ true → has_distinct_vars set ≡ true → IsClauseOfLiterals n set (unset_literals_first es set)
+pub first-clause : (n : ℕ) (es : List Entry) (set : List Literal) → is_clause_over n set ≡ true → has_distinct_vars set ≡ true → IsValidClauseOfLiterals n set (unset_literals_first es set)
 first-clause n es set w d =
     let p : Literal → Bool = λ l. not (is_set es l.var) in
     let q : Literal → Bool = λ l. is_set es l.var in
@@ -78,7 +77,7 @@ filter-each : (p : Literal → Bool) (ls rest : List Literal) (x : Literal) → 
 filter-each p ls rest x e m h = (let k = kept-from p ls m (ap (has_lit m) e ∙ h) in (k.1, k.0))
 
 pub first-addable : (es : List Entry) (set : List Literal) (l : Literal) → level_of es ≡ 0 →
-    has_rising_levels 0 es ≡ true → ((m : Literal) → has_lit m set ≡ true → has_lit m (lits_of es) ≡ false) →
+    each_may_follow_level 0 es ≡ true → ((m : Literal) → has_lit m set ≡ true → has_lit m (lits_of es) ≡ false) →
     has_lit l set ≡ true → is_set es l.var ≡ false → FirstTwoAreWatchable es (unset_literals_first es set)
 first-addable es set l level climb untrue h u = go (filter p set) (filter q set) refl refl
   where
@@ -123,14 +122,14 @@ not-empty : (c : List Literal) (l : Literal) → has_lit l c ≡ true → is_emp
 not-empty [] l h = absurd (true≢false (sym h))
 not-empty (x ∷ c) l h = refl
 
-pub taken-clause : (k : Base) (s : Step) → IsDerivedStep k s → is_clause_over k.set.vars k.set.lits ≡ true → has_distinct_vars k.set.lits ≡ true → IsClauseOfLiterals k.formula.now.vars k.set.lits s.clause
+pub taken-clause : (k : DerivationState) (s : Step) → IsStepForCurrentLiterals k s → is_clause_over k.set.vars k.set.lits ≡ true → has_distinct_vars k.set.lits ≡ true → IsValidClauseOfLiterals k.formula.now.vars k.set.lits s.clause
 taken-clause k s step w d =
     let n = k.formula.now.vars in
-    let P : List Literal → Type 0 = λ x. IsClauseOfLiterals n k.set.lits x in
+    let P : List Literal → Type 0 = λ x. IsValidClauseOfLiterals n k.set.lits x in
     subst P (sym step.clause) (first-clause n k.trail.entries k.set.lits (ap (λ (v : ℕ). is_clause_over v k.set.lits) (sym step.loose.set_vars) ∙ w) d)
 
-pub loose-taken : (k : Base) (b : ArenaLists) (s : Step) → IsDerivedStep k s →
-    IsClauseOfLiterals k.formula.now.vars k.set.lits s.clause → IsClauses k.clauses → IsClauses b →
+pub loose-taken : (k : DerivationState) (b : ArenaLists) (s : Step) → IsStepForCurrentLiterals k s →
+    IsValidClauseOfLiterals k.formula.now.vars k.set.lits s.clause → IsClauses k.clauses → IsClauses b →
     IsClauseAdded k.clauses s.clause b → IsTrail k.trail →
     IsBeforeClosure (record k { clauses = b; log = k.log ++ s ∷ [] })
 loose-taken k b s step own ka kb added trail =
@@ -143,9 +142,9 @@ loose-taken k b s step own ka kb added trail =
     let may = subst A (sym step.clause) (first-addable es k.set.lits step.unset h.level trail.climbing step.untrue step.has step.open_) in
     let derived = step-derived f.vars a.clauses k.set.lits s.clause s.hints step.hints own in
     let cs = sym (added-clauses a b s.clause added) in
-    let F : List (List Literal) → Type 0 = λ xs. (i : ℕ) → IsForced xs es i in
+    let F : List (List Literal) → Type 0 = λ xs. (i : ℕ) → EntryHasReason xs es i in
     let K : List (List Literal) → Type 0 = λ xs. AreUnitHintsByVar k.explainer.units.items xs es f.vars k.explainer.named in
-    let L : List (List Literal) → Type 0 = λ xs. IsLogged f xs (k.log ++ s ∷ []) in
+    let L : List (List Literal) → Type 0 = λ xs. AreClausesLogged f xs (k.log ++ s ∷ []) in
     record {
       held = record {
         vars = ap (λ (x : ArenaLists). x.vars) added.is ∙ h.vars;
@@ -160,18 +159,18 @@ loose-taken k b s step own ka kb added trail =
       set_vars = l.set_vars;
     }
 
-pub has-taken : (k m a new : Base) (s : Step) →
+pub has-taken : (k m a new : DerivationState) (s : Step) →
     m ≡ record k { clauses = m.clauses; trail = m.trail; queue = m.queue; explainer = m.explainer } →
-    m.clauses.clauses ≡ k.clauses.clauses → IsDerivedStep m s →
-    IsClauseOfLiterals m.formula.now.vars m.set.lits s.clause → IsStepAdded m s a → IsBetweenItems new → KeepsConsequences a new →
+    m.clauses.clauses ≡ k.clauses.clauses → IsStepForCurrentLiterals m s →
+    IsValidClauseOfLiterals m.formula.now.vars m.set.lits s.clause → IsClauseAddedWithStep m s a → IsClosedOrRefuted new → KeepsConsequences a new →
     HasCurrentClauseAdded k new
 has-taken k m a new s rest cs step own added stands same =
     let old = k.clauses.clauses in
-    let vars = ap (λ (b : Base). b.formula.now.vars) rest in
+    let vars = ap (λ (b : DerivationState). b.formula.now.vars) rest in
     let is = added-clauses m.clauses a.clauses s.clause added.clauses in
     record {
       stands = stands;
-      formula = same.formula ∙ ap (λ (b : Base). b.formula) added.rest ∙ ap (λ (b : Base). b.formula) rest;
+      formula = same.formula ∙ ap (λ (b : DerivationState). b.formula) added.rest ∙ ap (λ (b : DerivationState). b.formula) rest;
       follows = λ d of. (let p = here d of in
           let N : ℕ → Type 0 = λ n. FollowsByHints n m.clauses.clauses d in
           let C : List (List Literal) → Type 0 = λ xs. FollowsByHints k.formula.now.vars xs d in
@@ -183,10 +182,10 @@ has-taken k m a new s rest cs step own added stands same =
           alike-join (old ++ d ∷ []) a.clauses.clauses new.clauses.clauses (subst C cs (subst A (sym is) more)) same.alike);
     }
   where
-    here : (d : List Literal) → IsClauseOfLiterals k.formula.now.vars k.set.lits d → IsClauseOfLiterals m.formula.now.vars m.set.lits d
-    here d of = (let P : Base → Type 0 = λ b. IsClauseOfLiterals b.formula.now.vars b.set.lits d in subst P (sym rest) of)
+    here : (d : List Literal) → IsValidClauseOfLiterals k.formula.now.vars k.set.lits d → IsValidClauseOfLiterals m.formula.now.vars m.set.lits d
+    here d of = (let P : DerivationState → Type 0 = λ b. IsValidClauseOfLiterals b.formula.now.vars b.set.lits d in subst P (sym rest) of)
 
-pub taken-known : (k : Base) (l : Literal) → IsBetweenItems k → k.refuted ≡ false → has_lit l k.set.lits ≡ true → has_lit l (lits_of k.trail.entries) ≡ true → HasCurrentClauseAdded k k
+pub taken-known : (k : DerivationState) (l : Literal) → IsClosedOrRefuted k → k.refuted ≡ false → has_lit l k.set.lits ≡ true → has_lit l (lits_of k.trail.entries) ≡ true → HasCurrentClauseAdded k k
 taken-known k l st e h t =
     let s = st.going e in
     let cs = k.clauses.clauses in
@@ -201,7 +200,7 @@ taken-known k l st e h t =
       alike = λ c of. alike-known cs n.0 l c at (of.more l h);
     }
 
-pub taken-refuted : (k : Base) → IsBetweenItems k → k.refuted ≡ true → HasCurrentClauseAdded k k
+pub taken-refuted : (k : DerivationState) → IsClosedOrRefuted k → k.refuted ≡ true → HasCurrentClauseAdded k k
 taken-refuted k st e =
     let n = k.formula.now.vars in
     let cs = k.clauses.clauses in

@@ -3,16 +3,17 @@ use Rattle.std.specs.Prelude.{ℕ, ◌≡◌, true, List, ◌++◌}
 use Rattle.ilk_cnf.specs.Literal.{Literal}
 use Rattle.ilk_log.specs.Derived.{hints_end_in_conflict}
 
--- Holds if some list of hints ends at a false clause.
-abbrev pub HasFalsifyingHints : List (List Literal) → List Literal → Type 0
-HasFalsifyingHints cs set = (hints : List ℕ) × (hints_end_in_conflict cs set hints ≡ true)
+-- Holds if some list of hints over clauses `cs` ends at a false clause, from the true literals
+-- `set` on.
+abbrev pub SomeHintsEndInConflict : List (List Literal) → List Literal → Type 0
+SomeHintsEndInConflict cs set = (hints : List ℕ) × (hints_end_in_conflict cs set hints ≡ true)
 
--- Holds if some list of hints over `ds` ends whenever one over `cs` does, after any clauses are
--- added to both.
-abbrev pub ConsequencesHoldIn : List (List Literal) → List (List Literal) → Type 0
-ConsequencesHoldIn ds cs = (more : List (List Literal)) (set : List Literal) → HasFalsifyingHints (cs ++ more) set → HasFalsifyingHints (ds ++ more) set
+-- Holds if `ds` has the consequences of `cs`. After any clauses are added to both, some hints over
+-- `ds` end at a false clause if some over `cs` do.
+abbrev pub HasConsequencesOf : List (List Literal) → List (List Literal) → Type 0
+HasConsequencesOf ds cs = (more : List (List Literal)) (set : List Literal) → SomeHintsEndInConflict (cs ++ more) set → SomeHintsEndInConflict (ds ++ more) set
 
--- Holds if the lists have the same consequences: each covers the other.
+-- Holds if each of two lists of clauses has the consequences of the other.
 pub record AreEquivalent (cs ds : List (List Literal)) : Type 0 where
-  pub there : ConsequencesHoldIn ds cs
-  pub back : ConsequencesHoldIn cs ds
+  pub there : HasConsequencesOf ds cs
+  pub back : HasConsequencesOf cs ds

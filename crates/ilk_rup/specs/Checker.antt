@@ -1,13 +1,13 @@
--- The state of a checker for a formula.
 use Rattle.std.specs.Prelude.{List}
 use Rattle.ilk_cnf.specs.Formula.{Formula}
 use Rattle.ilk_cnf.specs.Literal.{Literal}
-use Rattle.ilk_rup.specs.declared.base.Base.{Base}
+use Rattle.ilk_rup.specs.declared.base.DerivationState.{DerivationState}
 
--- The formula, and the stored clauses: its own, and those derived so far.
+-- The content of a checker: the formula, and the stored clauses. These are those of the formula and
+-- those derived so far.
 pub record CheckerLists : Type 0 where
   pub formula : Formula
   pub clauses : List (List Literal)
 
-abbrev pub checker_lists_of_base : Base → CheckerLists
+abbrev pub checker_lists_of_base : DerivationState → CheckerLists
 checker_lists_of_base k = record { formula = k.formula.now; clauses = k.clauses.clauses }

@@ -7,13 +7,15 @@ use Rattle.ilk_rup.specs.Needs.{IsFalseBySetAndEntries, AreUnitHintsByVar}
 use Rattle.ilk_rup.specs.declared.explain.Explainer.{Explainer}
 use Rattle.ilk_rup.specs.declared.explain.Conflict.{Conflict}
 
--- Holds if no variable has a unit clause.
+-- Holds if explainer `x` is over the variables 1 to `n` and knows no unit clause yet.
 pub record IsNewExplainer (x : Explainer) (n : ℕ) : Type 0 where
   pub units : x.units.items ≡ replicate (n + 1) 0
   pub named : x.named ≡ 0
   pub vars : x.needed.vars ≡ n
 
--- Holds if all is over the same variables, and the clause is false as `at` says.
+-- Holds if `explain` may be called. All parameters are over the same variables, the explainer has
+-- the right hints of unit clauses, and clause `at.clause` is false as `IsFalseBySetAndEntries`
+-- says.
 pub record CanExplain (x : Explainer) (clauses : ArenaLists) (trail : TrailList) (set : LitSetList) (at : Conflict) : Type 0 where
   pub vars : x.needed.vars ≡ clauses.vars
   pub set_vars : set.vars ≡ clauses.vars

@@ -15,7 +15,7 @@ abbrev pub is_empty_word : Bytes → Bool
 is_empty_word [] = true
 is_empty_word (b ∷ bytes) = false
 
--- The words of a line: its nonempty parts before, between and after blanks.
+-- Returns the words of a line: its nonempty parts, separated by blanks.
 abbrev pub words_in : Bytes → List Bytes
 words_in line = filter (λ part. not (is_empty_word part)) (slice_split is_blank line)
 
@@ -24,40 +24,42 @@ abbrev pub is_comment : Bytes → Bool
 is_comment [] = false
 is_comment (b ∷ line) = b == 99
 
--- The words of a line, or none if it is a comment.
+-- Returns the words of a line, or none if it is a comment.
 abbrev pub line_words : Bytes → List Bytes
 line_words line = if is_comment line then [] else words_in line
 
--- The words of a text, line by line; the last line may lack its line feed.
+-- Returns the words of all lines of a text except comments.
 abbrev pub text_words : Bytes → List Bytes
 text_words text = flat_map line_words (parts_at 10 text)
 
--- The variable that a word writes, or `None` if it isn't one of 1 to `n`.
+-- Returns the variable that a word writes, or `None` if it isn't one of 1 to `n`.
 abbrev pub var_of : ℕ → Bytes → Option ℕ
 var_of n word = do
   v ← decimal_up_to n word
   then_some (nat_lt 0 v) v
 
--- The literal that a word writes: its variable, after a minus sign if it is negative.
+-- Returns the literal that a word writes: a variable of 1 to `n`, after a minus sign if it is
+-- negative. Returns `None` for other words.
 abbrev pub literal_of : ℕ → Bytes → Option Literal
 literal_of n [] = None
 literal_of n (b ∷ word) = if b == 45 then option_map (λ v. record { var = v; positive = false }) (var_of n word) else option_map (λ v. record { var = v; positive = true }) (var_of n (b ∷ word))
 
--- Returns whether a word ends an item.
+-- Returns whether a word is `0`, which ends an item.
 abbrev pub is_end : Bytes → Bool
 is_end word = bytes_eq word (codes "0")
 
--- The items with the word at the front of the first, or as an item of its own if there is none.
+-- Returns the items with the word at the front of the first, or as the only item if there is none.
 abbrev pub with_word_in_first : Bytes → List (List Bytes) → List (List Bytes)
 with_word_in_first word [] = (word ∷ []) ∷ []
 with_word_in_first word (item ∷ items) = (word ∷ item) ∷ items
 
--- The items: each ends with the next word `0`, which the last may lack.
+-- Returns the items of some words: each ends with the next `0`, which the last may lack.
 abbrev pub items_of : List Bytes → List (List Bytes)
 items_of [] = []
 items_of (word ∷ words) = if is_end word then (word ∷ []) ∷ items_of words else with_word_in_first word (items_of words)
 
--- The literals that the words write, followed by the word `0`, and nothing more.
+-- Returns the literals that the words of an item write. Returns `None` if they aren't literals over
+-- 1 to `n`, ended by the word `0`.
 abbrev pub literals_of : ℕ → List Bytes → Option (List Literal)
 literals_of n [] = None
 literals_of n (word ∷ []) = then_some (is_end word) []
@@ -66,9 +68,9 @@ literals_of n (word ∷ (next ∷ words)) = do
   ls ← literals_of n (next ∷ words)
   Some (l ∷ ls)
 
--- The clauses that an item adds. Literals and `0` add their clause, each literal once, or nothing
--- if they have both literals of a variable. The word `d`, literals and `0` add nothing, because
--- keeping a clause is sound. Any other item, or an unfinished one, gives `None`.
+-- Returns the clause that an item adds, as a list of at most one. Literals and `0` add their
+-- clause, each literal once, or nothing if some variable has both its literals. After the word `d`
+-- they add nothing, because keeping a deleted clause is sound. Any other item gives `None`.
 abbrev pub clauses_added_by : ℕ → List Bytes → Option (List (List Literal))
 clauses_added_by n [] = None
 clauses_added_by n (word ∷ words) = if bytes_eq word (codes "d") then option_map (λ ls. []) (literals_of n words) else option_map clause_unless_tautology (literals_of n (word ∷ words))

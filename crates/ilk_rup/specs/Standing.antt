@@ -1,4 +1,4 @@
--- Used only in private contracts and proofs: the invariant while the items of a text are taken.
+-- Used only in private contracts and proofs: the invariant between the items of a text.
 use Rattle.std.specs.Prelude.{ℕ, ◌≡◌, Bool, true, false, not, List, [], ◌∷◌, ◌++◌, length}
 use Rattle.std.specs.List.{list_all}
 use Rattle.ilk_arena.specs.Arena.{ArenaLists}
@@ -11,99 +11,102 @@ use Rattle.ilk_log.specs.Derived.{is_derived_log, is_empty_clause, is_refutation
 use Rattle.ilk_log.specs.Propagation.{is_saturated}
 use Rattle.ilk_trail.specs.Laws.{is_set, lits_of}
 use Rattle.ilk_trail.specs.Trail.{TrailList, level_of}
-use Rattle.ilk_watches.specs.Watched.{IsQueue}
-use Rattle.ilk_watches.specs.declared.queue.Propagator.{Propagator}
+use Rattle.ilk_watches.specs.Watched.{IsPropagationInvariant}
+use Rattle.ilk_watches.specs.declared.queue.PropagationProgress.{PropagationProgress}
 use Rattle.ilk_rup.specs.Accepted.{FollowsByHints}
 use Rattle.ilk_rup.specs.Alike.{AreEquivalent}
-use Rattle.ilk_rup.specs.Needs.{AreHints, IsClauseOfLiterals, IsForced, AreUnitHintsByVar, unset_literals_first}
-use Rattle.ilk_rup.specs.declared.base.Base.{Base}
+use Rattle.ilk_rup.specs.Needs.{HintsDeriveClauseOfLiterals, IsValidClauseOfLiterals, EntryHasReason, AreUnitHintsByVar, unset_literals_first}
+use Rattle.ilk_rup.specs.declared.base.DerivationState.{DerivationState}
 
--- Holds if the clauses are those of the formula and of the steps, each step follows, and none is
--- empty.
-pub record IsLogged (f : Formula) (clauses : List (List Literal)) (log : List Step) : Type 0 where
+-- Holds if the clauses are those of the formula and then those of the log, each step is derived,
+-- and no step has the empty clause.
+pub record AreClausesLogged (f : Formula) (clauses : List (List Literal)) (log : List Step) : Type 0 where
   pub clauses_are : clauses ≡ f.clauses ++ step_clauses log
   pub derived : is_derived_log f log ≡ true
   pub unended : list_all (λ (s : Step). not (is_empty_clause s.clause)) log ≡ true
 
--- Holds for the data of a base: the trail is what the clauses set at level 0, each entry has a
--- reason and a unit clause for hints.
-pub record IsBaseInvariant (f : Formula) (clauses : ArenaLists) (trail : TrailList) (queue : Propagator) (units : List ℕ) (named : ℕ) (log : List Step) : Type 0 where
+-- Holds for the fields of a base. All entries of the trail are at level 0 and forced. The queue is
+-- right, `units` has hints for the first `named` entries, and the clauses are logged.
+pub record IsBaseInvariant (f : Formula) (clauses : ArenaLists) (trail : TrailList) (queue : PropagationProgress) (units : List ℕ) (named : ℕ) (log : List Step) : Type 0 where
   pub vars : clauses.vars ≡ f.vars
   pub trail_vars : trail.vars ≡ f.vars
   pub level : level_of trail.entries ≡ 0
-  pub queued : IsQueue clauses trail.entries queue.head queue.settled
-  pub forced : (i : ℕ) → IsForced clauses.clauses trail.entries i
+  pub queued : IsPropagationInvariant clauses trail.entries queue.head queue.settled
+  pub forced : (i : ℕ) → EntryHasReason clauses.clauses trail.entries i
   pub known : AreUnitHintsByVar units clauses.clauses trail.entries f.vars named
-  pub logged : IsLogged f clauses.clauses log
+  pub logged : AreClausesLogged f clauses.clauses log
 
--- Holds before propagation has ended.
-pub record IsBeforeClosure (k : Base) : Type 0 where
+-- Holds if the base is valid, also if propagation hasn't ended (`IsBaseInvariant`).
+pub record IsBeforeClosure (k : DerivationState) : Type 0 where
   pub held : IsBaseInvariant k.formula.now k.clauses k.trail k.queue k.explainer.units.items k.explainer.named k.log
   pub needed_vars : k.explainer.needed.vars ≡ k.formula.now.vars
   pub set_vars : k.set.vars ≡ k.formula.now.vars
 
--- Holds after propagation has ended.
-pub record IsAfterClosure (k : Base) : Type 0 where
+-- Holds if the base is valid, propagation has ended without a conflict, and each entry has a unit
+-- clause.
+pub record IsAfterClosure (k : DerivationState) : Type 0 where
   pub loose : IsBeforeClosure k
   pub closed : is_saturated k.clauses.clauses (lits_of k.trail.entries) ≡ true
   pub head : k.queue.head ≡ length k.trail.entries
   pub settled : k.queue.settled ≡ length k.clauses.clauses
   pub named : k.explainer.named ≡ length k.trail.entries
 
--- Holds if the log refutes the formula, and the empty clause follows.
-pub record Refutes (k : Base) : Type 0 where
+-- Holds if the log of base `k` refutes its formula, and the empty clause follows from its clauses.
+pub record LogRefutesFormula (k : DerivationState) : Type 0 where
   pub log : is_refutation k.formula.now k.log ≡ true
   pub follows : FollowsByHints k.formula.now.vars k.clauses.clauses []
 
--- Holds after an item: propagation has ended, or the empty clause was derived.
-pub record IsBetweenItems (k : Base) : Type 0 where
+-- Holds if base `k` may take an item: propagation has ended, or the log refutes the formula.
+pub record IsClosedOrRefuted (k : DerivationState) : Type 0 where
   pub set_vars : k.set.vars ≡ k.formula.now.vars
   pub going : k.refuted ≡ false → IsAfterClosure k
-  pub ended : k.refuted ≡ true → Refutes k
+  pub ended : k.refuted ≡ true → LogRefutesFormula k
 
--- Holds if the clauses after a call have the same consequences as those before it.
-pub record KeepsConsequences (old new : Base) : Type 0 where
+-- Holds if the formula is the same, and the clauses of `new` have the same consequences as those of
+-- `old`.
+pub record KeepsConsequences (old new : DerivationState) : Type 0 where
   pub formula : new.formula ≡ old.formula
   pub alike : AreEquivalent old.clauses.clauses new.clauses.clauses
 
--- Holds if the clauses have the same consequences, the same literals are set, and each false clause
--- stays false.
-pub record HasOnlyUnitClausesAdded (old new : Base) : Type 0 where
+-- Holds if the clauses have the same consequences as before, the trail is the same, and each false
+-- clause stays false.
+pub record KeepsConsequencesTrailAndConflicts (old new : DerivationState) : Type 0 where
   pub same : KeepsConsequences old new
   pub refuted : new.refuted ≡ old.refuted
   pub trail : new.trail ≡ old.trail
   pub conflicts : (c : ℕ) → is_conflict old.clauses.clauses (lits_of old.trail.entries) c ≡ true → is_conflict new.clauses.clauses (lits_of new.trail.entries) c ≡ true
 
--- Holds if one clause was added, with the step that derives it.
-pub record IsStepAdded (old : Base) (s : Step) (new : Base) : Type 0 where
+-- Holds if `new` is `old` with step `s` in its log and the clause of `s` among its clauses.
+pub record IsClauseAddedWithStep (old : DerivationState) (s : Step) (new : DerivationState) : Type 0 where
   pub clauses : IsClauseAdded old.clauses s.clause new.clauses
   pub log : new.log ≡ old.log ++ s ∷ []
   pub rest : new ≡ record old { clauses = new.clauses; log = new.log }
 
--- Holds if no hints derive a clause of the current literals.
-abbrev pub NoHintsDeriveClause : Base → Type 0
-NoHintsDeriveClause k = (c : List Literal) → IsClauseOfLiterals k.formula.now.vars k.set.lits c → FollowsByHints k.formula.now.vars k.clauses.clauses c → ⊥
+-- Holds if no list of hints derives a clause of the literals in `k.set`.
+abbrev pub NoHintsDeriveClause : DerivationState → Type 0
+NoHintsDeriveClause k = (c : List Literal) → IsValidClauseOfLiterals k.formula.now.vars k.set.lits c → FollowsByHints k.formula.now.vars k.clauses.clauses c → ⊥
 
--- Holds for the clause of the current literals, the unset ones first, with hints that derive it.
--- None of them is true, and one is unset.
-pub record IsDerivedStep (k : Base) (s : Step) : Type 0 where
+-- Holds if step `s` derives the clause of the literals in `k.set`, the unset ones first. None of
+-- them is true, and at least one is unset.
+pub record IsStepForCurrentLiterals (k : DerivationState) (s : Step) : Type 0 where
   pub loose : IsBeforeClosure k
   pub clause : s.clause ≡ unset_literals_first k.trail.entries k.set.lits
-  pub hints : AreHints k.clauses.clauses k.set.lits s.hints
+  pub hints : HintsDeriveClauseOfLiterals k.clauses.clauses k.set.lits s.hints
   pub untrue : (m : Literal) → has_lit m k.set.lits ≡ true → has_lit m (lits_of k.trail.entries) ≡ false
   pub unset : Literal
   pub has : has_lit unset k.set.lits ≡ true
   pub open_ : is_set k.trail.entries unset.var ≡ false
 
--- Holds if the clause of the current literals follows and was added.
-pub record HasCurrentClauseAdded (old new : Base) : Type 0 where
-  pub stands : IsBetweenItems new
+-- Holds if the clause of the literals in `old.set` follows, and the clauses of `new` have the
+-- consequences of those of `old` and this clause.
+pub record HasCurrentClauseAdded (old new : DerivationState) : Type 0 where
+  pub stands : IsClosedOrRefuted new
   pub formula : new.formula ≡ old.formula
-  pub follows : (c : List Literal) → IsClauseOfLiterals old.formula.now.vars old.set.lits c → FollowsByHints old.formula.now.vars old.clauses.clauses c
-  pub alike : (c : List Literal) → IsClauseOfLiterals old.formula.now.vars old.set.lits c → AreEquivalent (old.clauses.clauses ++ c ∷ []) new.clauses.clauses
+  pub follows : (c : List Literal) → IsValidClauseOfLiterals old.formula.now.vars old.set.lits c → FollowsByHints old.formula.now.vars old.clauses.clauses c
+  pub alike : (c : List Literal) → IsValidClauseOfLiterals old.formula.now.vars old.set.lits c → AreEquivalent (old.clauses.clauses ++ c ∷ []) new.clauses.clauses
 
--- Holds if the result is right. After `true` the clause of the current literals was added; after
--- `false` no hints derive it.
-abbrev pub IsTryAddResult : Base → Bool → Base → Type 0
+-- Holds if the result for the clause of `old.set` is right. After `true` it follows and was added;
+-- after `false` no hints derive it.
+abbrev pub IsTryAddResult : DerivationState → Bool → DerivationState → Type 0
 IsTryAddResult old true new = HasCurrentClauseAdded old new
 IsTryAddResult old false new = NoHintsDeriveClause old

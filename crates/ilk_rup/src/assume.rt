@@ -43,8 +43,8 @@ fn is_set(trail: &Trail, l: Lit) -> bool
 }
 
 #[tactic(auto, using(crate::proofs::Sets::has_value, crate::proofs::Sets::no_value))]
-/// Returns whether `l` is true.
-pub fn is_true(trail: &Trail, l: Lit) -> bool
+/// Returns whether the trail sets literal `l` to true.
+pub(crate) fn is_true(trail: &Trail, l: Lit) -> bool
     requires { IsTrue (is_lit_over trail.now.vars l) }
     ensures { result ≡ has_lit l (lits_of trail.now.entries) }
 {
@@ -55,8 +55,8 @@ pub fn is_true(trail: &Trail, l: Lit) -> bool
     }
 }
 
-/// Makes the literals of a set false at level 1, if their variables are unset.
-pub fn assume_negations(trail: &mut Trail, set: &LitSet)
+/// Makes each literal of `set` false at level 1, if its variable is unset.
+pub(crate) fn assume_negations(trail: &mut Trail, set: &LitSet)
     requires vars { set.now.vars ≡ trail.old.vars }
     requires level { level_of trail.old.entries ≡ 0 }
     ensures trail { trail.new ≡ record trail.old { entries = trail.new.entries } }
@@ -67,7 +67,6 @@ pub fn assume_negations(trail: &mut Trail, set: &LitSet)
     }
 }
 
-// Adds the literals whose variables are set. `push_unset` adds those whose variables are unset.
 fn push_where(clause: &mut Lits, trail: &Trail, set: &LitSet) -> Result<(), AllocError>
     requires { set.now.vars ≡ trail.now.vars }
     ensures { OnOk result
@@ -93,8 +92,12 @@ fn push_unset(clause: &mut Lits, trail: &Trail, set: &LitSet) -> Result<(), Allo
     Ok(())
 }
 
-/// Returns the literals of a set, the unset ones first, in memory of exactly their size.
-pub fn unset_literals_first(alloc: Global, trail: &Trail, set: &LitSet) -> Result<Lits, AllocError>
+/// Returns the literals of `set`, those of unset variables first, in memory of exactly their size.
+pub(crate) fn unset_literals_first(
+    alloc: Global,
+    trail: &Trail,
+    set: &LitSet,
+) -> Result<Lits, AllocError>
     requires { set.now.vars ≡ trail.now.vars }
     ensures { IfOk result (λ clause. clause ≡ unset_literals_first trail.now.entries set.now.lits) }
 {

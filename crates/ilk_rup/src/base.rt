@@ -5,34 +5,33 @@ ghost use Rattle.ilk_cnf.specs.Formula.{is_clause_over};
 ghost use Rattle.ilk_cnf.specs.Literal.{Literal, has_lit, has_distinct_vars};
 ghost use Rattle.ilk_watches.specs.Reasons.{is_conflict};
 ghost use Rattle.ilk_trail.specs.Laws.{lits_of};
-ghost use Rattle.ilk_rup.specs.Standing.{KeepsConsequences, IsDerivedStep, HasOnlyUnitClausesAdded, IsStepAdded, IsTryAddResult, IsBeforeClosure, NoHintsDeriveClause, IsAfterClosure, IsBetweenItems};
+ghost use Rattle.ilk_rup.specs.Standing.{KeepsConsequences, IsStepForCurrentLiterals, KeepsConsequencesTrailAndConflicts, IsClauseAddedWithStep, IsTryAddResult, IsBeforeClosure, NoHintsDeriveClause, IsAfterClosure, IsClosedOrRefuted};
 
 use crate::assume::{assume_negations, is_true, unset_literals_first};
-use crate::explain::{Conflict, Explainer, reason_of};
+use crate::explain::{Conflict, Explainer, reason_index_of_entry};
 use crate::set::LitSet;
 use ilk_cnf::{Cnf, Lit, Lits};
 use ilk_log::{Hints, Log, Step};
 use ilk_trail::Trail;
-use ilk_watches::{Clauses, Propagator};
+use ilk_watches::{NumberedClauses, PropagationProgress};
 use std::alloc::{AllocError, Global};
 
-/// The clauses of a formula and those derived so far, the literals that they set, and the steps
-/// that derive them.
+/// A formula, the clauses derived so far, the literals that they set at level 0, and the log of the
+/// steps that derive them.
 #[derive(Drop)]
-pub struct Base<'a> {
+pub(crate) struct DerivationState<'a> {
     pub formula: &'a Cnf,
-    pub clauses: Clauses,
+    pub clauses: NumberedClauses,
     pub trail: Trail,
-    pub queue: Propagator,
+    pub queue: PropagationProgress,
     pub explainer: Explainer,
-    // The literals of the current clause.
+    // The literals of the clause to add next: the current clause.
     pub set: LitSet,
     pub log: Log,
     // True if the log ends with the empty clause.
     pub refuted: bool,
 }
 
-// Returns the unit clause of `l`.
 fn alone(alloc: Global, l: Lit) -> Result<Lits, AllocError>
     ensures { IfOk result (λ clause. clause ≡ l ∷ []) }
 {
@@ -41,9 +40,9 @@ fn alone(alloc: Global, l: Lit) -> Result<Lits, AllocError>
     Ok(clause)
 }
 
-impl<'a> Base<'a> {
-    /// Creates the base of a formula, with nothing set.
-    pub fn new(alloc: Global, cnf: &'a Cnf) -> Result<Base<'a>, AllocError>
+impl<'a> DerivationState<'a> {
+    /// Creates the base of the formula `cnf`: no clause derived, nothing set.
+    pub fn new(alloc: Global, cnf: &'a Cnf) -> Result<DerivationState<'a>, AllocError>
         ensures loose { IfOk result (λ k. IsBeforeClosure k) }
         ensures formula { IfOk result (λ k. k.formula.now ≡ cnf.now) }
         ensures clauses { IfOk result (λ k. k.clauses.clauses ≡ cnf.now.clauses) }
@@ -51,13 +50,13 @@ impl<'a> Base<'a> {
     {
         let vars = cnf.vars();
         let _ = cnf.clauses();
-        let clauses = Clauses::from_cnf(alloc, cnf)?;
+        let clauses = NumberedClauses::from_cnf(alloc, cnf)?;
         let trail = Trail::new(alloc, vars)?;
-        let queue = Propagator::new();
+        let queue = PropagationProgress::new();
         let explainer = Explainer::new(alloc, vars)?;
         let set = LitSet::new(alloc, vars)?;
         let log = Log::new(alloc);
-        Ok(Base {
+        Ok(DerivationState {
             formula: cnf,
             clauses,
             trail,
@@ -69,12 +68,11 @@ impl<'a> Base<'a> {
         })
     }
 
-    // Adds a clause, and the step that derives it.
     fn add(&mut self, clause: Lits, hints: Hints) -> Result<(), AllocError>
         requires within { IsTrue (is_clause_over self.old.clauses.vars clause) }
         requires differ { IsTrue (has_distinct_vars clause) }
         ensures { OnOk result
-            (IsStepAdded self.old (record { clause = clause; hints = hints }) self.new) }
+            (IsClauseAddedWithStep self.old (record { clause = clause; hints = hints }) self.new) }
     {
         let _ = self.clauses.vars();
         self.clauses.add(clause.as_slice())?;
@@ -86,14 +84,14 @@ impl<'a> Base<'a> {
         requires loose { IsBeforeClosure self.old }
         requires below { self.old.explainer.named < length self.old.trail.entries }
         ensures loose { OnOk result (IsBeforeClosure self.new) }
-        ensures same { OnOk result (HasOnlyUnitClausesAdded self.old self.new) }
+        ensures same { OnOk result (KeepsConsequencesTrailAndConflicts self.old self.new) }
         ensures named { OnOk result (self.new.explainer.named ≡ self.old.explainer.named + 1) }
     {
         let _ = self.clauses.count();
         let _ = self.trail.count();
         let named = self.explainer.named;
         let l = self.trail.at(named);
-        let reason = reason_of(&self.clauses, &self.trail, named);
+        let reason = reason_index_of_entry(&self.clauses, &self.trail, named);
         let at = Conflict {
             clause: reason,
             from: named,
@@ -110,11 +108,10 @@ impl<'a> Base<'a> {
         Ok(())
     }
 
-    // Adds a unit clause for each entry that has none.
     fn name_all(&mut self, alloc: Global) -> Result<(), AllocError>
         requires { IsBeforeClosure self.old }
         ensures loose { OnOk result (IsBeforeClosure self.new) }
-        ensures same { OnOk result (HasOnlyUnitClausesAdded self.old self.new) }
+        ensures same { OnOk result (KeepsConsequencesTrailAndConflicts self.old self.new) }
         ensures named { OnOk result (self.new.explainer.named ≡ length self.new.trail.entries) }
     {
         'names: while self.explainer.named < self.trail.count() {
@@ -123,12 +120,12 @@ impl<'a> Base<'a> {
         Ok(())
     }
 
-    /// Assigns what the clauses force at level 0 until nothing is left to assign, or the empty
-    /// clause is derived. If it isn't, each entry has a unit clause afterwards.
+    /// Assigns the literals that the clauses force at level 0, and adds a unit clause for each. If
+    /// a clause becomes false, derives the empty clause and sets `refuted`.
     pub fn propagate_units(&mut self, alloc: Global) -> Result<(), AllocError>
         requires loose { IsBeforeClosure self.old }
         requires going { self.old.refuted ≡ false }
-        ensures stands { OnOk result (IsBetweenItems self.new) }
+        ensures stands { OnOk result (IsClosedOrRefuted self.new) }
         ensures same { OnOk result (KeepsConsequences self.old self.new) }
     {
         'rounds: loop {
@@ -155,7 +152,7 @@ impl<'a> Base<'a> {
         requires named { self.old.explainer.named ≡ length self.old.trail.entries }
         requires conflict { IsTrue
             (is_conflict self.old.clauses.clauses (lits_of self.old.trail.entries) conflict) }
-        ensures stands { OnOk result (IsBetweenItems self.new) }
+        ensures stands { OnOk result (IsClosedOrRefuted self.new) }
         ensures same { OnOk result (KeepsConsequences self.old self.new) }
     {
         let _ = self.clauses.count();
@@ -199,7 +196,8 @@ impl<'a> Base<'a> {
         requires untrue { (l : Literal) → has_lit l self.old.set.lits ≡ true →
             has_lit l (lits_of self.old.trail.entries) ≡ false }
         ensures none { IfOk result (λ step. IfNone step (NoHintsDeriveClause self.old)) }
-        ensures derived { IfOk result (λ step. IfSome step (λ s. IsDerivedStep self.new s)) }
+        ensures derived { IfOk result (λ step. IfSome step (λ s.
+            IsStepForCurrentLiterals self.new s)) }
         ensures clauses { self.new.clauses.clauses ≡ self.old.clauses.clauses }
         ensures rest { self.new
             ≡ record self.old {
@@ -237,10 +235,11 @@ impl<'a> Base<'a> {
         Ok(Some(Step { clause, hints }))
     }
 
-    /// Takes the clause of the current literals. Returns whether some list of hints derives it from
-    /// the clauses so far. After `false` nothing is known about the base.
+    /// Returns whether some list of hints derives the current clause, which has the literals in
+    /// `set`. If so, the base has its consequences afterwards. After `false` the base must not be
+    /// used.
     pub fn try_add_clause(&mut self, alloc: Global) -> Result<bool, AllocError>
-        requires { IsBetweenItems self.old }
+        requires { IsClosedOrRefuted self.old }
         ensures { IfOk result (λ right. IsTryAddResult self.old right self.new) }
     {
         if self.refuted {

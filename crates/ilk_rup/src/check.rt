@@ -8,9 +8,8 @@ use crate::words::Words;
 use ilk_cnf::Cnf;
 use std::alloc::{AllocError, Global};
 
-/// Checks a refutation of the formula, in the text of clauses that other solvers write. Returns
-/// `Refuted` if and only if the text is accepted, otherwise `Bad`. The only error is that there is
-/// no memory for the clauses and the log.
+/// Checks whether `text`, written by another solver, refutes `cnf`. Returns `Refuted` with a log if
+/// the text is accepted, otherwise `Bad` with the first bad item. Fails only if memory runs out.
 pub fn check_rup(alloc: Global, cnf: &Cnf, text: &[u8]) -> Result<Rup, AllocError>
     ensures { IfOk result (λ rup. IsRupVerdictFor cnf.now text.now rup) }
 {

@@ -4,7 +4,7 @@ ghost use Rattle.std.specs.Prelude.{◌≡◌, IfOk};
 ghost use Rattle.ilk_rup.specs.Alike.{AreEquivalent};
 ghost use Rattle.ilk_rup.specs.Stepped.{IsItemCheckResult};
 
-use crate::base::Base;
+use crate::base::DerivationState;
 use crate::item::{ItemKind, read_item};
 use crate::next::Next;
 use crate::words::Words;
@@ -12,21 +12,21 @@ use ilk_cnf::Cnf;
 use std::alloc::{AllocError, Global};
 use std::marker::Model;
 
-/// A formula, and the clauses derived from it so far.
+/// The state of a check between two items: the formula, and the clauses derived from it so far.
 #[derive(Drop)]
-pub struct Checker<'a> {
-    base: Base<'a>,
+pub(crate) struct Checker<'a> {
+    base: DerivationState<'a>,
 }
 
 impl<'a> Model for Checker<'a> {
     ghost use Rattle.ilk_rup.specs.Checker.{CheckerLists, checker_lists_of_base};
-    ghost use Rattle.ilk_rup.specs.Standing.{IsBetweenItems};
+    ghost use Rattle.ilk_rup.specs.Standing.{IsClosedOrRefuted};
 
     ghost Value = { CheckerLists };
 
     ghost view = { λ k. checker_lists_of_base k.base };
 
-    ghost invariant = { λ k. IsBetweenItems k.base };
+    ghost invariant = { λ k. IsClosedOrRefuted k.base };
 }
 
 impl<'a> Checker<'a> {
@@ -35,12 +35,13 @@ impl<'a> Checker<'a> {
         ensures formula { IfOk result (λ k. k.formula ≡ cnf.now) }
         ensures alike { IfOk result (λ k. AreEquivalent cnf.now.clauses k.clauses) }
     {
-        let mut base = Base::new(alloc, cnf)?;
+        let mut base = DerivationState::new(alloc, cnf)?;
         base.propagate_units(alloc)?;
         Ok(Checker { base })
     }
 
-    /// Takes the next item.
+    /// Reads the next item from `words` and checks it. If it is right, the result contains the
+    /// checker with its clause added.
     pub fn step(self, alloc: Global, words: &mut Words) -> Result<Next<'a>, AllocError>
         ensures { IfOk result (λ next. IsItemCheckResult self.entry words.old words.new next) }
     {
@@ -49,7 +50,7 @@ impl<'a> Checker<'a> {
         base.set.clear();
         match read_item(words, &mut base.set, vars) {
             ItemKind::End => {
-                let Base { log, refuted, .. } = base;
+                let DerivationState { log, refuted, .. } = base;
                 if refuted {
                     Ok(Next::Refuted(log))
                 } else {

@@ -6,20 +6,20 @@ ghost use Rattle.ilk_watches.specs.Reasons.{nth_clause_or_empty};
 ghost use Rattle.std.specs.List.{filter};
 ghost use Rattle.ilk_trail.specs.Laws.{lits_of};
 ghost use Rattle.ilk_rup.specs.Explained.{CanExplain, IsNewExplainer};
-ghost use Rattle.ilk_rup.specs.Needs.{AreHints, EntriesHaveReasons, IsForced, AddsNeededOfClause, HintsWorkWithoutEntry, IsReasonAt, AddsNeededOfLiteral, FalsifiesWithNeeded, unit_hints_of_needed};
+ghost use Rattle.ilk_rup.specs.Needs.{HintsDeriveClauseOfLiterals, EntriesHaveReasonsOutsideSet, EntryHasReason, AreNeededAfterClause, HintsWorkWithoutEntry, IsReasonAt, AreNeededAfterLiteral, HintsFalsifyGivenNeeded, unit_hints_of_needed};
 
 use crate::set::LitSet;
 use ilk_cnf::Lit;
 use ilk_log::Hints;
 use ilk_trail::Trail;
-use ilk_watches::Clauses;
+use ilk_watches::NumberedClauses;
 use std::alloc::{AllocError, Global};
 
 // Adds the opposite of `l` to `needed`, if `set` doesn't have `l`.
 fn need_one(needed: &mut LitSet, set: &LitSet, l: Lit)
     requires within { IsTrue (is_lit_over needed.old.vars l) }
     requires vars { set.now.vars ≡ needed.old.vars }
-    ensures needed { AddsNeededOfLiteral set.now.lits l needed.old.lits needed.new.lits }
+    ensures needed { AreNeededAfterLiteral set.now.lits l needed.old.lits needed.new.lits }
     ensures vars { needed.new.vars ≡ needed.old.vars }
 {
     if set.has(l) || needed.has_var(l) {
@@ -28,12 +28,11 @@ fn need_one(needed: &mut LitSet, set: &LitSet, l: Lit)
     needed.put(l.negated());
 }
 
-// Adds what clause `c` needs.
-fn need(needed: &mut LitSet, clauses: &Clauses, set: &LitSet, c: u64)
+fn need(needed: &mut LitSet, clauses: &NumberedClauses, set: &LitSet, c: u64)
     requires known { c < length clauses.now.clauses }
     requires vars { needed.old.vars ≡ clauses.now.vars }
     requires set { set.now.vars ≡ clauses.now.vars }
-    ensures needed { AddsNeededOfClause set.now.lits
+    ensures needed { AreNeededAfterClause set.now.lits
         (nth_clause_or_empty clauses.now.clauses c) needed.old.lits
         needed.new.lits }
     ensures vars { needed.new.vars ≡ needed.old.vars }
@@ -43,11 +42,11 @@ fn need(needed: &mut LitSet, clauses: &Clauses, set: &LitSet, c: u64)
     }
 }
 
-/// Returns the index of the clause that forces entry `i`.
-pub fn reason_of(clauses: &Clauses, trail: &Trail, i: u64) -> u64
+/// Returns the number of the clause that forces entry `i` of the trail.
+pub(crate) fn reason_index_of_entry(clauses: &NumberedClauses, trail: &Trail, i: u64) -> u64
     requires trail { trail.now.vars ≡ clauses.now.vars }
     requires below { i < length trail.now.entries }
-    requires forced { IsForced clauses.now.clauses trail.now.entries i }
+    requires forced { EntryHasReason clauses.now.clauses trail.now.entries i }
     ensures known { result < length clauses.now.clauses }
     ensures reason { IsReasonAt clauses.now.clauses trail.now.entries i result }
 {
@@ -60,7 +59,7 @@ pub fn reason_of(clauses: &Clauses, trail: &Trail, i: u64) -> u64
 fn pass(
     reasons: &mut Vec<u64>,
     needed: &mut LitSet,
-    clauses: &Clauses,
+    clauses: &NumberedClauses,
     set: &LitSet,
     trail: &Trail,
     i: u64,
@@ -69,7 +68,8 @@ fn pass(
     requires set { set.now.vars ≡ clauses.now.vars }
     requires trail { trail.now.vars ≡ clauses.now.vars }
     requires below { i < length trail.now.entries }
-    requires walk { EntriesHaveReasons clauses.now.clauses trail.now.entries set.now.lits i
+    requires walk { EntriesHaveReasonsOutsideSet clauses.now.clauses trail.now.entries set.now.lits
+        i
         (i + 1) }
     ensures passed { OnOk result
         (HintsWorkWithoutEntry clauses.now.clauses trail.now.entries set.now.lits i needed.old.lits
@@ -81,7 +81,7 @@ fn pass(
     if !needed.has(trail.at(i)) {
         return Ok(());
     }
-    let reason = reason_of(clauses, trail, i);
+    let reason = reason_index_of_entry(clauses, trail, i);
     reasons.push(reason + 1)?;
     need(needed, clauses, set, reason);
     Ok(())
@@ -92,7 +92,7 @@ fn pass(
 fn walk(
     reasons: &mut Vec<u64>,
     needed: &mut LitSet,
-    clauses: &Clauses,
+    clauses: &NumberedClauses,
     set: &LitSet,
     trail: &Trail,
     from: u64,
@@ -103,12 +103,14 @@ fn walk(
     requires trail { trail.now.vars ≡ clauses.now.vars }
     requires from { from ≤ top }
     requires top { top ≤ length trail.now.entries }
-    requires walk { EntriesHaveReasons clauses.now.clauses trail.now.entries set.now.lits from top }
-    requires shows { FalsifiesWithNeeded clauses.now.clauses (lits_of (take top trail.now.entries))
+    requires walk { EntriesHaveReasonsOutsideSet clauses.now.clauses trail.now.entries set.now.lits
+        from top }
+    requires shows { HintsFalsifyGivenNeeded clauses.now.clauses (lits_of
+        (take top trail.now.entries))
         (lits_of (take top trail.now.entries)) set.now.lits needed.old.lits
         (reverse reasons.old.items) }
     ensures shows { OnOk result
-        (FalsifiesWithNeeded clauses.now.clauses (lits_of (take top trail.now.entries))
+        (HintsFalsifyGivenNeeded clauses.now.clauses (lits_of (take top trail.now.entries))
         (lits_of (take from trail.now.entries)) set.now.lits needed.new.lits
         (reverse reasons.new.items)) }
     ensures vars { needed.new.vars ≡ needed.old.vars }
@@ -121,7 +123,6 @@ fn walk(
     Ok(())
 }
 
-// Returns the hint for the unit clause of `l`, or 0 if there is none.
 fn unit_of(units: &[u64], l: Lit) -> u64
     ensures { result ≡ slice_index units.now l.var }
 {
@@ -131,7 +132,6 @@ fn unit_of(units: &[u64], l: Lit) -> u64
     }
 }
 
-// Returns the number of needed literals that have a unit clause.
 fn count_units(needed: &LitSet, units: &[u64]) -> u64
     ensures { result ≡ length (unit_hints_of_needed units.now needed.now.lits) }
 {
@@ -162,7 +162,6 @@ fn gather(
     Ok(hints)
 }
 
-// Adds a hint, unless it is 0.
 fn push_unit(hints: &mut Hints, unit: u64) -> Result<(), AllocError>
     ensures { OnOk result (hints.new ≡ hints.old ++ filter (λ u. not (u == 0)) (unit ∷ [])) }
 {
@@ -172,7 +171,6 @@ fn push_unit(hints: &mut Hints, unit: u64) -> Result<(), AllocError>
     Ok(())
 }
 
-// Adds the hints of needed unit clauses.
 fn push_units(hints: &mut Hints, needed: &LitSet, units: &[u64]) -> Result<(), AllocError>
     ensures { OnOk result
         (hints.new ≡ hints.old ++ unit_hints_of_needed units.now needed.now.lits) }
@@ -183,7 +181,6 @@ fn push_units(hints: &mut Hints, needed: &LitSet, units: &[u64]) -> Result<(), A
     Ok(())
 }
 
-// Adds `numbers` in reverse order.
 fn push_turned(hints: &mut Hints, numbers: &[u64]) -> Result<(), AllocError>
     ensures { OnOk result (hints.new ≡ hints.old ++ reverse numbers.now) }
 {
@@ -202,18 +199,18 @@ fn zeros(alloc: Global, vars: u64) -> Result<Vec<u64>, AllocError>
     Ok(vec![in alloc; 0; vars as usize + 1]?)
 }
 
-/// A false clause, and the entries between it and the known or assumed ones: those from `from` on
-/// and before `top`.
+/// A false clause, and the range of entries with reasons that may explain it: from index `from` on
+/// and before `top`. Entries before `from` are known or assumed.
 #[derive(Clone, Copy)]
-pub struct Conflict {
+pub(crate) struct Conflict {
     pub clause: u64,
     pub from: u64,
     pub top: u64,
 }
 
-/// Finds the hints of a conflict.
+/// Finds the hints of a conflict. It stores the hints of unit clauses, and memory for the walk.
 #[derive(Drop)]
-pub struct Explainer {
+pub(crate) struct Explainer {
     // By variable: the hint of the unit clause of its literal, or 0 if there is none.
     pub units: Vec<u64>,
     // The number of entries with a unit clause.
@@ -237,18 +234,19 @@ impl Explainer {
         })
     }
 
-    /// Returns hints that derive a clause of the literals of `set`. Clause `at.clause` has to be
-    /// false by the set and the entries before `at.top`: see `IsFalseBySetAndEntries`.
+    /// Returns hints that derive the clause of the literals in `set`. Clause `at.clause` has to be
+    /// false by `set` and the entries before `at.top`, as `IsFalseBySetAndEntries` says.
     pub fn explain(
         &mut self,
         alloc: Global,
-        clauses: &Clauses,
+        clauses: &NumberedClauses,
         trail: &Trail,
         set: &LitSet,
         at: Conflict,
     ) -> Result<Hints, AllocError>
         requires { CanExplain self.old clauses.now trail.now set.now at }
-        ensures hints { IfOk result (λ hints. AreHints clauses.now.clauses set.now.lits hints) }
+        ensures hints { IfOk result (λ hints.
+            HintsDeriveClauseOfLiterals clauses.now.clauses set.now.lits hints) }
         ensures vars { self.new.needed.vars ≡ self.old.needed.vars }
         ensures rest { self.new
             ≡ record self.old { needed = self.new.needed; reasons = self.new.reasons } }

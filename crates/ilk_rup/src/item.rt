@@ -3,27 +3,26 @@
 ghost use Rattle.std.specs.Prelude.{◌≡◌, ◌≤◌, ◌^◌, ◌∷◌, [], ◌||◌, IsTrue, bytes_eq, codes};
 ghost use Rattle.ilk_cnf.specs.Formula.{is_lit_over};
 ghost use Rattle.ilk_rup.specs.RefutationText.{is_end, literal_of, var_of};
-ghost use Rattle.ilk_rup.specs.Items.{IsItemRead, IsPut, AreFirstItemLiteralsRead, deletion_item_kind, addition_item_kind};
+ghost use Rattle.ilk_rup.specs.Items.{IsItemRead, IsAddedUnlessVarPresent, AreFirstItemLiteralsRead, deletion_item_kind, addition_item_kind};
 
 use crate::set::LitSet;
 use crate::words::Words;
 use ilk_cnf::Lit;
 use ilk_lines::decimal_up_to;
 
-/// The kind of the item that was read.
+/// The kind of the item that `read_item` has read.
 #[derive(Clone, Copy)]
-pub enum ItemKind {
+pub(crate) enum ItemKind {
     /// No item: the text has ended.
     End,
-    /// A malformed or unfinished item.
+    /// Not an item: a word is wrong, or the last `0` is missing.
     Malformed,
-    /// An item that adds nothing.
+    /// A well-formed item that adds nothing: a deletion, or a clause that is always true.
     Idle,
     /// An item that adds a clause.
     Adds,
 }
 
-// Returns the variable that `word` writes, or `None` if it isn't one of 1 to `vars`.
 fn var_of(word: &[u8], vars: u64) -> Option<u64>
     ensures { result ≡ var_of vars word.now }
 {
@@ -31,7 +30,6 @@ fn var_of(word: &[u8], vars: u64) -> Option<u64>
     if v > 0 { Some(v) } else { None }
 }
 
-// Returns the literal that `word` writes, or `None` if it isn't one over the variables 1 to `vars`.
 fn literal_of(word: &[u8], vars: u64) -> Option<Lit>
     requires { vars ≤ 2 ^ 62 }
     ensures { result ≡ literal_of vars word.now }
@@ -45,7 +43,7 @@ fn literal_of(word: &[u8], vars: u64) -> Option<Lit>
 // Adds `l` to `set`, unless the set has its opposite. Returns whether it has.
 fn put(set: &mut LitSet, l: Lit) -> bool
     requires { IsTrue (is_lit_over set.old.vars l) }
-    ensures put { IsPut l set.old.lits set.new.lits result }
+    ensures put { IsAddedUnlessVarPresent l set.old.lits set.new.lits result }
     ensures vars { set.new.vars ≡ set.old.vars }
 {
     if set.has(l) {
@@ -104,7 +102,6 @@ fn read_literals(first: &[u8], words: &mut Words, set: &mut LitSet, vars: u64) -
     }
 }
 
-// Returns the kind of an item without the word `d`.
 fn plain_item(read: Option<bool>) -> ItemKind
     ensures { result ≡ addition_item_kind read }
 {
@@ -115,7 +112,6 @@ fn plain_item(read: Option<bool>) -> ItemKind
     }
 }
 
-// Returns the kind of an item with the word `d`.
 fn kept_item(read: Option<bool>) -> ItemKind
     ensures { result ≡ deletion_item_kind read }
 {
@@ -125,9 +121,9 @@ fn kept_item(read: Option<bool>) -> ItemKind
     }
 }
 
-/// Reads the next item, with an empty set. If the item adds a clause, the set then has its
-/// literals.
-pub fn read_item(words: &mut Words, set: &mut LitSet, vars: u64) -> ItemKind
+/// Reads the next item from `words`, over the variables 1 to `vars`, and returns its kind. If it
+/// adds a clause, its literals are then in `set`, which has to be empty before.
+pub(crate) fn read_item(words: &mut Words, set: &mut LitSet, vars: u64) -> ItemKind
     requires numbered { vars ≤ 2 ^ 62 }
     requires vars { set.old.vars ≡ vars }
     requires empty { set.old.lits ≡ [] }
@@ -140,7 +136,6 @@ pub fn read_item(words: &mut Words, set: &mut LitSet, vars: u64) -> ItemKind
     }
 }
 
-// Reads an item from its first word on.
 fn read_after(word: &[u8], words: &mut Words, set: &mut LitSet, vars: u64) -> ItemKind
     requires numbered { vars ≤ 2 ^ 62 }
     requires vars { set.old.vars ≡ vars }

@@ -12,9 +12,9 @@
 //! read, but the clause is kept, which loses no consequence.
 //!
 //! The text is read word by word (`words`, `item`), so only the literals of the current item are
-//! stored (`set`). A `Checker` takes one item after the other. Its `Base` has the clauses derived
-//! so far, the literals that they set at level 0, and the steps that derive them. `specs/Standing`
-//! has the invariant between items.
+//! stored (`set`). A `Checker` takes one item after the other. Its `DerivationState` has the
+//! clauses derived so far, the literals that they set at level 0, and the steps that derive them.
+//! `specs/Standing` has the invariant between items.
 //!
 //! The text has no hints, so propagation searches with watched literals (`ilk_watches`). The
 //! literals of a clause are made false at a level of their own (`assume_negations`), which is

@@ -12,7 +12,7 @@ use std::marker::Model;
 
 /// A set of literals over different variables, in the order of insertion.
 #[derive(Drop)]
-pub struct LitSet {
+pub(crate) struct LitSet {
     // Each literal is decided at a level of its own.
     trail: Trail,
 }
@@ -41,7 +41,7 @@ impl LitSet {
 
     #[inline(always)]
     #[tactic(auto, using(crate::proofs::Sets::has_value, crate::proofs::Sets::no_value))]
-    /// Returns whether the set has `l`.
+    /// Returns whether the set has literal `l`.
     pub fn has(&self, l: Lit) -> bool
         requires { IsTrue (is_lit_over self.now.vars l) }
         ensures { result ≡ has_lit l self.now.lits }
@@ -55,7 +55,7 @@ impl LitSet {
 
     #[inline(always)]
     #[tactic(auto, using(crate::proofs::Sets::some_set, crate::proofs::Sets::none_set))]
-    /// Returns whether the set has a literal of the variable of `l`.
+    /// Returns whether the set has `l` or its opposite.
     pub fn has_var(&self, l: Lit) -> bool
         requires { IsTrue (is_lit_over self.now.vars l) }
         ensures { result ≡ has_var l.var self.now.lits }
@@ -67,7 +67,7 @@ impl LitSet {
     }
 
     #[tactic(auto, using(crate::proofs::Sets::decided_lits, crate::proofs::Sets::decided_all))]
-    /// Adds `l` to the set.
+    /// Adds literal `l`, whose variable must be new to the set.
     pub fn put(&mut self, l: Lit)
         requires within { IsTrue (is_lit_over self.old.vars l) }
         requires unset { has_var l.var self.old.lits ≡ false }
@@ -87,7 +87,7 @@ impl LitSet {
     }
 
     #[tactic(auto, using(crate::proofs::Sets::lits_length, crate::proofs::Sets::lits_at))]
-    /// Returns literal `i`.
+    /// Returns literal `i` in the order of insertion, from 0.
     pub fn at(&self, i: u64) -> Lit
         requires { i < length self.now.lits }
         ensures { slice_get self.now.lits i ≡ Some result }

@@ -6,12 +6,12 @@ ghost use Rattle.std.specs.Option.{option_map_or};
 ghost use Rattle.ilk_rup.specs.RefutationText.{is_blank, line_words, text_words, words_in};
 ghost use Rattle.ilk_rup.specs.WordsLeft.{words_left};
 
-use ilk_lines::split_at_byte;
+use ilk_lines::split_at_first_occurrence;
 use std::marker::Model;
 
-/// The words of a text that are still to be read.
+/// An iterator over the words of a text.
 #[derive(Drop)]
-pub struct Words<'a> {
+pub(crate) struct Words<'a> {
     // The rest of the current line.
     line: &'a [u8],
     // The lines after it, if there are any.
@@ -29,7 +29,7 @@ impl<'a> Model for Words<'a> {
 }
 
 impl<'a> Words<'a> {
-    /// Creates the words of `text`.
+    /// Creates an iterator over the words of `text`, except those of comments.
     pub fn from_text(text: &'a [u8]) -> Words<'a>
         ensures { result ≡ text_words text.now }
     {
@@ -80,11 +80,10 @@ fn next_line(text: &[u8]) -> (&[u8], Option<&[u8]>)
         ≡ words_in result.0.now ++ option_map_or (λ rest. text_words rest.now) result.1 [] }
     ensures shorter { IfSome result.1 (λ rest. length rest.now < length text.now) }
 {
-    let (line, rest) = split_at_byte(text, b'\n');
+    let (line, rest) = split_at_first_occurrence(text, b'\n');
     (without_comment(line), rest)
 }
 
-// Returns the line, or an empty one if it is a comment.
 fn without_comment(line: &[u8]) -> &[u8]
     ensures { words_in result.now ≡ line_words line.now }
 {
@@ -119,8 +118,6 @@ fn cut_blank(line: &[u8]) -> (&[u8], Option<&[u8]>)
     }
 }
 
-// Returns the first word of a line, and the rest. Returns `None` if and only if the line has no
-// word.
 fn next_in(line: &[u8]) -> Option<(&[u8], &[u8])>
     ensures { words_in line.now ≡ option_map_or (λ cut. cut.0.now ∷ words_in cut.1.now) result [] }
 {
@@ -137,7 +134,6 @@ fn next_in(line: &[u8]) -> Option<(&[u8], &[u8])>
     }
 }
 
-// Returns the part after a blank, or an empty one.
 fn rest_of(rest: Option<&[u8]>) -> &[u8]
     ensures { words_in result.now ≡ option_map_or (λ after. words_in after.now) rest.entry [] }
 {

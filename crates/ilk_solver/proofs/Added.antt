@@ -1,4 +1,3 @@
--- A search with one more step.
 use Rattle.std.proofs.Common.{◌≡◌, ◌+◌, ◌-◌, ◌<◌, ℕ, inl, inr, cond, List, [], ◌∷◌, ◌++◌, length, take, get_or, sym, ap, ◌∙◌, subst, arith, append_assoc, length-append}
 use Rattle.std.specs.Prelude.{count_by}
 use Rattle.std.proofs.lemmas.Bool.{and_from, and_parts, le-leb, lt-ltb, ltb-true}
@@ -6,13 +5,13 @@ use Rattle.std.proofs.lemmas.List.{take-append-le, get_or_past}
 use Rattle.ilk_base.proofs.Ranges.{below_or_past}
 use Rattle.std.proofs.lemmas.List.Sums.{count_by-le-length}
 use Rattle.ilk_cnf.specs.Literal.{Literal, has_var, positive_lit}
-use Rattle.ilk_cnf.specs.Formula.{Formula, with_clauses, is_lit_over}
+use Rattle.ilk_cnf.specs.Formula.{Formula, with_vars_and_clauses, is_lit_over}
 use Rattle.ilk_log.specs.declared.step.Step.{Step}
 use Rattle.ilk_log.specs.Derived.{step_clauses}
 use Rattle.ilk_trail.specs.Trail.{TrailList}
 use Rattle.ilk_watches.specs.Reasons.{HasReasons}
 use Rattle.ilk_watches.proofs.Forced.{reasons-grown}
-use Rattle.ilk_solver.specs.Levels.{LevelsClosed}
+use Rattle.ilk_solver.specs.Levels.{LowerLevelsAreSaturated}
 use Rattle.ilk_solver.specs.View.{ViewLists, weight_of}
 use Rattle.ilk_solver.specs.Held.{HoldsSearch}
 use Rattle.ilk_solver.proofs.ClosedLevels.{closed-added}
@@ -21,9 +20,9 @@ use Rattle.ilk_log.proofs.Pushed.{clauses-push}
 use Rattle.ilk_solver.proofs.Weights.{count_by-push}
 
 pub held-added : (cs : Formula) (given : ℕ) (log : List Step) (view new : ViewLists) (s : Step) →
-    HoldsSearch cs given log view → LevelsClosed (s.clause ∷ []) view.trail.entries → new.trail ≡ view.trail →
+    HoldsSearch cs given log view → LowerLevelsAreSaturated (s.clause ∷ []) view.trail.entries → new.trail ≡ view.trail →
     ((v : ℕ) → 0 < v → weight_of new v ≡ weight_of view v + cond (has_var v s.clause) 1 0) →
-    HoldsSearch (with_clauses cs cs.vars (s.clause ∷ [])) given (log ++ s ∷ []) new
+    HoldsSearch (with_vars_and_clauses cs cs.vars (s.clause ∷ [])) given (log ++ s ∷ []) new
 held-added cs given log view new s h apart same counts =
     let c = s.clause in
     let front : take given (cs.clauses ++ c ∷ []) ≡ take given cs.clauses = take-append-le given cs.clauses (c ∷ []) h.first in
@@ -35,8 +34,8 @@ held-added cs given log view new s h apart same counts =
     let closed = closed-added cs.clauses c view.trail.entries (known-closed cs given log view h) apart in
     let R : List (List Literal) → Type 0 = λ xs. HasReasons xs view.trail.entries in
     let S : TrailList → Type 0 = λ t. HasReasons (take given (cs.clauses ++ c ∷ []) ++ step_clauses (log ++ s ∷ [])) t.entries in
-    let C : List (List Literal) → Type 0 = λ xs. LevelsClosed xs view.trail.entries in
-    let D : TrailList → Type 0 = λ t. LevelsClosed (take given (cs.clauses ++ c ∷ []) ++ step_clauses (log ++ s ∷ [])) t.entries in
+    let C : List (List Literal) → Type 0 = λ xs. LowerLevelsAreSaturated xs view.trail.entries in
+    let D : TrailList → Type 0 = λ t. LowerLevelsAreSaturated (take given (cs.clauses ++ c ∷ []) ++ step_clauses (log ++ s ∷ [])) t.entries in
     record {
       first = (let l = length-append cs.clauses (c ∷ []) in let f = h.first in omega (arith, l, f));
       laid = laid;

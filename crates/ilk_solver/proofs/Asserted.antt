@@ -10,10 +10,10 @@ use Rattle.ilk_trail.specs.Trail.{level_of, entries_up_to}
 use Rattle.ilk_trail.specs.Laws.{lits_of}
 use Rattle.ilk_watches.proofs.Values.{no_lit}
 use Rattle.ilk_learn.specs.Levels.{level_at, is_current, highest_level}
-use Rattle.ilk_learn.specs.Asserting.{back_level, has_first_at_level, is_asserting}
-use Rattle.ilk_solver.specs.Levels.{LevelsClosed}
+use Rattle.ilk_learn.specs.Asserting.{back_level, has_first_at_level, is_false_in_asserting_order}
+use Rattle.ilk_solver.specs.Levels.{LowerLevelsAreSaturated}
 use Rattle.ilk_base.proofs.Ranges.{below_or_past}
-use Rattle.ilk_trail.specs.Laws.{has_rising_levels}
+use Rattle.ilk_trail.specs.Laws.{each_may_follow_level}
 use Rattle.ilk_learn.proofs.Derived.{false-at, false-from}
 use Rattle.ilk_learn.proofs.Fresh.{has-entries_up_to}
 use Rattle.ilk_learn.proofs.Highest.{below-highest}
@@ -54,7 +54,8 @@ open-below es k l d h = no_lit (negated_lit l) l.var (lits_of (entries_up_to k e
 two-open : (set : List Literal) (l m : Literal) (ls : List Literal) → is_false set l ≡ false → is_false set m ≡ false → (not (is_falsified set (l ∷ (m ∷ ls))) && is_none (unit_lit set (l ∷ (m ∷ ls))) && true) ≡ true
 two-open set l m ls h k = rw (h, k) refl
 
-pub asserting-open : (es : List Entry) (c : List Literal) (n : ℕ) → has_distinct_vars (lits_of es) ≡ true → is_asserting es c ≡ true → n ≤ back_level es c → level_of (entries_up_to n es) ≡ n → LevelsClosed (c ∷ []) (entries_up_to n es)
+pub asserting-open : (es : List Entry) (c : List Literal) (n : ℕ) → has_distinct_vars (lits_of es) ≡ true → is_false_in_asserting_order es c ≡ true → n ≤ back_level es c → level_of (entries_up_to n es) ≡ n →
+    LowerLevelsAreSaturated (c ∷ []) (entries_up_to n es)
 asserting-open es [] n d a b top = absurd (cc)
 asserting-open es (l ∷ []) n d a b top = λ k low. absurd (omega (arith, b, top, low))
 asserting-open es (l ∷ (m ∷ c)) n d a b top = λ k low.
@@ -74,12 +75,12 @@ rest-false es ls n d f h = false-from (lits_of (entries_up_to n es)) ls (λ x s.
     (let low = below-highest es ls x s in
     has-entries_up_to n es (negated_lit x) d (false-at (lits_of es) ls x f s) (omega (arith, low, h))))
 
-second-now : (es : List Entry) (m : Literal) (n : ℕ) → has_rising_levels 0 es ≡ true → has_distinct_vars (lits_of es) ≡ true → level_at es m ≡ n → level_of (entries_up_to n es) ≡ n → NotFalseBelowCurrentLevel (entries_up_to n es) m
+second-now : (es : List Entry) (m : Literal) (n : ℕ) → each_may_follow_level 0 es ≡ true → has_distinct_vars (lits_of es) ≡ true → level_at es m ≡ n → level_of (entries_up_to n es) ≡ n → NotFalseBelowCurrentLevel (entries_up_to n es) m
 second-now es m n climb d at top = λ i e s q.
     (let old = at-kept (entries_up_to n es) es i e (front-kept n es climb) s in
     sym (level-entry es i e d old) ∙ ap (level_at es) q ∙ at ∙ sym top)
 
-pub addable : (es : List Entry) (c : List Literal) (n : ℕ) → has_rising_levels 0 es ≡ true → has_distinct_vars (lits_of es) ≡ true → is_asserting es c ≡ true → n ≤ back_level es c → level_of (entries_up_to n es) ≡ n →
+pub addable : (es : List Entry) (c : List Literal) (n : ℕ) → each_may_follow_level 0 es ≡ true → has_distinct_vars (lits_of es) ≡ true → is_false_in_asserting_order es c ≡ true → n ≤ back_level es c → level_of (entries_up_to n es) ≡ n →
     FirstTwoAreWatchable (entries_up_to n es) c
 addable es [] n climb d a b top = tt
 addable es (l ∷ []) n climb d a b top = tt

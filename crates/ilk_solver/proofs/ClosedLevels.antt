@@ -1,4 +1,3 @@
--- Closed levels and reasons, as the trail changes.
 use Rattle.std.proofs.Common.{◌≡◌, ◌&&◌, ◌+◌, ◌<◌, ◌≤◌, ℕ, Bool, true, false, not, suc, inl, inr, List, [], ◌∷◌, ◌++◌, length, take, drop, Option, Some, None, refl, sym, ap, ◌∙◌, subst, arith}
 use Rattle.std.specs.Prelude.{IsSomeAnd, nat_le, is_none}
 use Rattle.std.specs.List.{slice_get, filter}
@@ -13,18 +12,18 @@ use Rattle.ilk_cnf.specs.Literal.{Literal}
 use Rattle.ilk_log.specs.Propagation.{is_saturated, is_falsified, unit_lit}
 use Rattle.ilk_trail.specs.declared.entry.Entry.{Entry}
 use Rattle.ilk_trail.specs.Trail.{with_decision, level_of, entries_up_to}
-use Rattle.ilk_trail.specs.Laws.{has_rising_levels, is_next_level, lits_of}
-use Rattle.ilk_trail.proofs.Levels.{last_level-push, next-level, entries_up_to-above, entries_up_to-all}
-use Rattle.ilk_watches.specs.Reasons.{HasReasons, is_reason}
+use Rattle.ilk_trail.specs.Laws.{each_may_follow_level, may_follow_level, lits_of}
+use Rattle.ilk_trail.proofs.Levels.{last_level_or-push, next-level, entries_up_to-above, entries_up_to-all}
+use Rattle.ilk_watches.specs.Reasons.{HasReasons, clause_forces_lit}
 use Rattle.ilk_watches.proofs.Forced.{reasons-front, reasons-push}
 use Rattle.ilk_watches.specs.Propagated.{ExtendsByPropagation}
 use Rattle.ilk_watches.proofs.Prefixes.{entries_up_to-twice}
-use Rattle.ilk_solver.specs.Levels.{LevelsClosed}
+use Rattle.ilk_solver.specs.Levels.{LowerLevelsAreSaturated}
 
-pub closed-with_decision : (cs : List (List Literal)) (es : List Entry) (l : Literal) → has_rising_levels 0 es ≡ true → LevelsClosed cs es → is_saturated cs (lits_of es) ≡ true → LevelsClosed cs (with_decision es l)
+pub closed-with_decision : (cs : List (List Literal)) (es : List Entry) (l : Literal) → each_may_follow_level 0 es ≡ true → LowerLevelsAreSaturated cs es → is_saturated cs (lits_of es) ≡ true → LowerLevelsAreSaturated cs (with_decision es l)
 closed-with_decision cs es l c h k = λ j b.
     let e : Entry = record { lit = l; level = level_of es + 1; reason = None } in
-    let top : level_of (with_decision es l) ≡ level_of es + 1 = last_level-push 0 es e in
+    let top : level_of (with_decision es l) ≡ level_of es + 1 = last_level_or-push 0 es e in
     let low : j < level_of es + 1 = omega (arith, top, b) in
     let front : entries_up_to j (with_decision es l) ≡ entries_up_to j es = entries_up_to-above j es e low in
     let P : List Entry → Type 0 = λ xs. is_saturated cs (lits_of xs) ≡ true in
@@ -55,7 +54,7 @@ entries_up_to-propagated cs old new k p b =
         let l = p.levels (length old + i) e (omega arith) (later old new i e p.kept s) in
         grind (arith, nat_tests)
 
-pub closed-propagated : (cs : List (List Literal)) (old new : List Entry) → ExtendsByPropagation cs old new → LevelsClosed cs old → LevelsClosed cs new
+pub closed-propagated : (cs : List (List Literal)) (old new : List Entry) → ExtendsByPropagation cs old new → LowerLevelsAreSaturated cs old → LowerLevelsAreSaturated cs new
 closed-propagated cs old new p h = λ k b.
     let low : k < level_of old = omega (arith, p.level, b) in
     let P : List Entry → Type 0 = λ xs. is_saturated cs (lits_of xs) ≡ true in
@@ -63,10 +62,10 @@ closed-propagated cs old new p h = λ k b.
 
 pub reasons-propagated : (cs : List (List Literal)) (old new : List Entry) → ExtendsByPropagation cs old new → HasReasons cs old → HasReasons cs new
 reasons-propagated cs old new p h = λ i e c s r. elim (below_or_past i (length old)) [
-  | inl b ↦ (let P : List Entry → Type 0 = λ xs. is_reason cs (lits_of xs) e.lit c ≡ true in
+  | inl b ↦ (let P : List Entry → Type 0 = λ xs. clause_forces_lit cs (lits_of xs) e.lit c ≡ true in
       let there : slice_get old i ≡ Some e = ap (λ xs. slice_get xs i) (sym p.kept) ∙ take-at new i (length old) e b s in
       subst P (same old new i b p.kept) (h i e c there r))
-  | inr b ↦ (let Q : Option ℕ → Type 0 = λ o. IsSomeAnd o (λ k. is_reason cs (lits_of (take i new)) e.lit k ≡ true) in subst Q r (p.reasons i e b s))
+  | inr b ↦ (let Q : Option ℕ → Type 0 = λ o. IsSomeAnd o (λ k. clause_forces_lit cs (lits_of (take i new)) e.lit k ≡ true) in subst Q r (p.reasons i e b s))
 ]
   where
     same : (old new : List Entry) (i : ℕ) → i < length old → take (length old) new ≡ old → take i old ≡ take i new
@@ -78,19 +77,19 @@ reasons-propagated cs old new p h = λ i e c s r. elim (below_or_past i (length 
 abbrev above_level : ℕ → List Entry → List Entry
 above_level k es = filter (λ e. not (nat_le e.level k)) es
 
-all-above : (j k : ℕ) (es : List Entry) → has_rising_levels j es ≡ true → k < j → (entries_up_to k es ≡ []) × (above_level k es ≡ es)
+all-above : (j k : ℕ) (es : List Entry) → each_may_follow_level j es ≡ true → k < j → (entries_up_to k es ≡ []) × (above_level k es ≡ es)
 all-above j k [] c h = (refl, refl)
 all-above j k (x ∷ es) c h =
-    let p = and_parts (is_next_level j x) (has_rising_levels x.level es) c in
+    let p = and_parts (may_follow_level j x) (each_may_follow_level x.level es) c in
     let n = next-level j x p.0 in
     let high : nat_le x.level k ≡ false = grind (arith, nat_tests) in
     let r = all-above x.level k es p.1 (omega (arith, n.0, h)) in
     (rw high r.0, rw high (ap (λ ys. x ∷ ys) r.1))
 
-pub entries_up_to-front : (j k : ℕ) (es : List Entry) → has_rising_levels j es ≡ true → entries_up_to k es ++ above_level k es ≡ es
+pub entries_up_to-front : (j k : ℕ) (es : List Entry) → each_may_follow_level j es ≡ true → entries_up_to k es ++ above_level k es ≡ es
 entries_up_to-front j k [] c = refl
 entries_up_to-front j k (x ∷ es) c =
-    let p = and_parts (is_next_level j x) (has_rising_levels x.level es) c in
+    let p = and_parts (may_follow_level j x) (each_may_follow_level x.level es) c in
     elim (cases_Bool (nat_le x.level k)) [
       | inl t ↦ rw t (ap (λ ys. x ∷ ys) (entries_up_to-front x.level k es p.1))
       | inr t ↦ (let high : k < x.level = grind (arith, nat_tests) in
@@ -98,18 +97,18 @@ entries_up_to-front j k (x ∷ es) c =
           rw (t, r.0, r.1) refl)
     ]
 
-pub reasons-back : (cs : List (List Literal)) (es : List Entry) (m : ℕ) → has_rising_levels 0 es ≡ true → HasReasons cs es → HasReasons cs (entries_up_to m es)
+pub reasons-back : (cs : List (List Literal)) (es : List Entry) (m : ℕ) → each_may_follow_level 0 es ≡ true → HasReasons cs es → HasReasons cs (entries_up_to m es)
 reasons-back cs es m c h =
     let P : List Entry → Type 0 = λ xs. HasReasons cs xs in
     reasons-front cs (entries_up_to m es) (above_level m es) (subst P (sym (entries_up_to-front 0 m es c)) h)
 
-pub closed-back : (cs : List (List Literal)) (es : List Entry) (m : ℕ) → m ≤ level_of es → level_of (entries_up_to m es) ≡ m → LevelsClosed cs es → LevelsClosed cs (entries_up_to m es)
+pub closed-back : (cs : List (List Literal)) (es : List Entry) (m : ℕ) → m ≤ level_of es → level_of (entries_up_to m es) ≡ m → LowerLevelsAreSaturated cs es → LowerLevelsAreSaturated cs (entries_up_to m es)
 closed-back cs es m le top h = λ k b.
     let low : k < m = omega (arith, top, b) in
     let P : List Entry → Type 0 = λ xs. is_saturated cs (lits_of xs) ≡ true in
     subst P (sym (entries_up_to-twice k m es (omega (arith, low)))) (h k (omega (arith, low, le)))
 
-pub closed-added : (cs : List (List Literal)) (c : List Literal) (es : List Entry) → LevelsClosed cs es → LevelsClosed (c ∷ []) es → LevelsClosed (cs ++ c ∷ []) es
+pub closed-added : (cs : List (List Literal)) (c : List Literal) (es : List Entry) → LowerLevelsAreSaturated cs es → LowerLevelsAreSaturated (c ∷ []) es → LowerLevelsAreSaturated (cs ++ c ∷ []) es
 closed-added cs c es h k = λ j b.
     let set = lits_of (entries_up_to j es) in
     let test : List Literal → Bool = λ x. not (is_falsified set x) && is_none (unit_lit set x) in

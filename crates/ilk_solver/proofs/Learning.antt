@@ -1,4 +1,3 @@
--- Learned clauses, and formulas that are stuck.
 use Rattle.std.proofs.Common.{◌≡◌, ◌&&◌, ◌-◌, ◌<◌, ℕ, Bool, true, false, not, inl, inr, List, [], ◌∷◌, length, refl, sym, ◌∙◌, subst, arith}
 use Rattle.std.specs.Prelude.{is_none, nat_lt, Result, Ok, Err, IfOk}
 use Rattle.std.proofs.lemmas.Bool.{and_parts, cases_Bool, ltb-true, not-true, true≢false}
@@ -16,10 +15,10 @@ use Rattle.ilk_trail.specs.Laws.{lits_of}
 use Rattle.ilk_watches.specs.Reasons.{nth_clause_or_empty, is_conflict}
 use Rattle.ilk_watches.proofs.Within.{clause-there}
 use Rattle.ilk_learn.specs.Levels.{is_current, highest_level}
-use Rattle.ilk_learn.specs.Asserting.{back_level, has_first_at_level, is_asserting}
-use Rattle.ilk_solver.specs.Levels.{LevelsClosed}
+use Rattle.ilk_learn.specs.Asserting.{back_level, has_first_at_level, is_false_in_asserting_order}
+use Rattle.ilk_solver.specs.Levels.{LowerLevelsAreSaturated}
 use Rattle.ilk_solver.specs.Search.{SearchLists, IsSearch, all_clauses}
-use Rattle.ilk_solver.specs.Learned.{IsLearned}
+use Rattle.ilk_solver.specs.Learned.{IsLearnedAssertingStep}
 use Rattle.ilk_solver.specs.View.{ViewLists}
 use Rattle.ilk_solver.specs.Held.{search_from_clauses, HoldsSearch}
 use Rattle.ilk_solver.proofs.Searches.{known-closed}
@@ -34,10 +33,10 @@ no-conflict cs set c k =
       | inr t ↦ t
     ]
 
-pub none-below : (cs : List (List Literal)) (es : List Entry) (c : ℕ) → LevelsClosed cs es → 0 < level_of es → is_conflict cs (lits_of (entries_up_to (level_of es - 1) es)) c ≡ false
+pub none-below : (cs : List (List Literal)) (es : List Entry) (c : ℕ) → LowerLevelsAreSaturated cs es → 0 < level_of es → is_conflict cs (lits_of (entries_up_to (level_of es - 1) es)) c ≡ false
 none-below cs es c h p = no-conflict cs (lits_of (entries_up_to (level_of es - 1) es)) c (h (level_of es - 1) (omega (arith, p)))
 
-pub back-below : (es : List Entry) (c : List Literal) → is_asserting es c ≡ true → back_level es c < level_of es
+pub back-below : (es : List Entry) (c : List Literal) → is_false_in_asserting_order es c ≡ true → back_level es c < level_of es
 back-below es [] a = absurd (cc)
 back-below es (l ∷ ls) a =
     let high = highest_level es ls in
@@ -45,7 +44,7 @@ back-below es (l ∷ ls) a =
     let two = and_parts (is_falsified (lits_of es) (l ∷ ls) && is_current es l) (nat_lt high (level_of es)) one.0 in
     ltb-true high (level_of es) two.1
 
-pub stuck : (s : SearchLists) (step : Step) (k : ℕ) → IsSearch s → 0 < level_of s.view.trail.entries → IsLearned s step k → CanLearnButNotRefute s.formula s.log
+pub stuck : (s : SearchLists) (step : Step) (k : ℕ) → IsSearch s → 0 < level_of s.view.trail.entries → IsLearnedAssertingStep s step k → CanLearnButNotRefute s.formula s.log
 stuck s step k h p l = record {
   unrefuted = λ hints. no-false-end (all_clauses s) [] (lits_of (entries_up_to 0 s.view.trail.entries)) hints (h.closed 0 p) (λ m none. absurd (true≢false (sym none)));
   next = (step, l.derived, l.fresh);
@@ -53,9 +52,9 @@ stuck s step k h p l = record {
 
 pub learned-here : (cs : Formula) (given : ℕ) (log : List Step) (view : ViewLists) (step : Step) (k : ℕ) →
     HoldsSearch cs given log view → is_derived cs.vars cs.clauses step ≡ true →
-    is_asserting view.trail.entries step.clause ≡ true → k ≡ back_level view.trail.entries step.clause →
+    is_false_in_asserting_order view.trail.entries step.clause ≡ true → k ≡ back_level view.trail.entries step.clause →
     (is_saturated cs.clauses (lits_of (entries_up_to k view.trail.entries)) ≡ true → IsEmpowering cs.clauses step.clause) →
-    IsLearned (search_from_clauses cs given log view) step k
+    IsLearnedAssertingStep (search_from_clauses cs given log view) step k
 learned-here cs given log view step k h d a b fresh =
     let below = back-below view.trail.entries step.clause a in
     let D : List (List Literal) → Type 0 = λ xs. is_derived cs.vars xs step ≡ true in

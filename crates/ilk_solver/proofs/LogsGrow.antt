@@ -1,4 +1,3 @@
--- The log of a search with one more step.
 use Rattle.std.proofs.Common.{◌≡◌, ◌<◌, ℕ, Bool, true, false, not, cond, List, [], ◌∷◌, ◌++◌, length, refl, sym, ap, ◌∙◌, subst, arith, length-append}
 use Rattle.std.specs.Prelude.{count_by}
 use Rattle.std.proofs.lemmas.Bool.{and_parts, and_from, not_from_false, true≢false}
@@ -11,21 +10,21 @@ use Rattle.ilk_log.specs.Derived.{is_derived, is_derived_log, is_empty_clause, i
 use Rattle.ilk_log.specs.Fresh.{IsEmpowering, CanLearnButNotRefute}
 use Rattle.ilk_log.proofs.Count.{fresh_few}
 use Rattle.ilk_solver.specs.Search.{SearchLists}
-use Rattle.ilk_solver.specs.Answered.{IsSearchLog, IsSpentLog, has_no_empty_step}
+use Rattle.ilk_solver.specs.Answered.{IsEmpoweringLogWithinBudget, IsSpentLog, has_no_empty_step}
 use Rattle.ilk_log.proofs.Pushed.{derived-push}
 use Rattle.ilk_solver.proofs.Logs.{fresh-push, ends-push}
 use Rattle.ilk_solver.proofs.Weights.{count_by-push}
 
-pub log-start : (f : Formula) (budget : ℕ) → IsSearchLog f budget []
+pub log-start : (f : Formula) (budget : ℕ) → IsEmpoweringLogWithinBudget f budget []
 log-start f budget = record { derived = refl; fresh = tt; few = omega arith }
 
 pub fresh-some : (cs : List (List Literal)) (c : List Literal) → IsEmpowering cs c → is_empty_clause c ≡ false
 fresh-some cs [] h = absurd (true≢false (sym h.1))
 fresh-some cs (l ∷ c) h = refl
 
-pub log-more : (f : Formula) (budget : ℕ) (log : List Step) (s : Step) → IsSearchLog f budget log →
+pub log-more : (f : Formula) (budget : ℕ) (log : List Step) (s : Step) → IsEmpoweringLogWithinBudget f budget log →
     length log < budget → is_derived f.vars (f.clauses ++ step_clauses log) s ≡ true →
-    IsEmpowering (f.clauses ++ step_clauses log) s.clause → IsSearchLog f budget (log ++ s ∷ [])
+    IsEmpowering (f.clauses ++ step_clauses log) s.clause → IsEmpoweringLogWithinBudget f budget (log ++ s ∷ [])
 log-more f budget log s h room d fr = record {
   derived = derived-push f.vars f.clauses log s h.derived d;
   fresh = fresh-push f.clauses log s h.fresh (λ _. fr);
@@ -40,7 +39,7 @@ has_no_empty_step-more cs log s h fr = list_all-more (λ (t : Step). not (is_emp
 empty-is : (c : List Literal) → c ≡ [] → is_empty_clause c ≡ true
 empty-is c e = ap is_empty_clause e
 
-pub log-ended : (f : Formula) (budget : ℕ) (log : List Step) (s : Step) → IsSearchLog f budget log → is_derived f.vars (f.clauses ++ step_clauses log) s ≡ true → s.clause ≡ [] → IsSearchLog f budget (log ++ s ∷ [])
+pub log-ended : (f : Formula) (budget : ℕ) (log : List Step) (s : Step) → IsEmpoweringLogWithinBudget f budget log → is_derived f.vars (f.clauses ++ step_clauses log) s ≡ true → s.clause ≡ [] → IsEmpoweringLogWithinBudget f budget (log ++ s ∷ [])
 log-ended f budget log s h d e = record {
   derived = derived-push f.vars f.clauses log s h.derived d;
   fresh = fresh-push f.clauses log s h.fresh (λ some. absurd (true≢false (sym (empty-is s.clause e) ∙ some)));
@@ -51,7 +50,8 @@ log-ended f budget log s h d e = record {
       omega (arith, more, none, few));
 }
 
-pub refuted : (f : Formula) (budget : ℕ) (log : List Step) (s : Step) → IsSearchLog f budget log → has_no_empty_step log ≡ true → is_derived f.vars (f.clauses ++ step_clauses log) s ≡ true → s.clause ≡ [] → is_refutation f (log ++ s ∷ []) ≡ true
+pub refuted : (f : Formula) (budget : ℕ) (log : List Step) (s : Step) → IsEmpoweringLogWithinBudget f budget log → has_no_empty_step log ≡ true → is_derived f.vars (f.clauses ++ step_clauses log) s ≡ true → s.clause ≡ [] →
+    is_refutation f (log ++ s ∷ []) ≡ true
 refuted f budget log s h n d e = and_from (is_derived_log f (log ++ s ∷ [])) (only_last_clause_is_empty (log ++ s ∷ [])) (derived-push f.vars f.clauses log s h.derived d) (ends-push log s n (empty-is s.clause e))
 
 count-each : (log : List Step) → has_no_empty_step log ≡ true → count_by (λ (s : Step). not (is_empty_clause s.clause)) log ≡ length log
@@ -64,7 +64,7 @@ count-each (s ∷ log) h =
     let rest = count-each log p.1 in
     omega (arith, one, here, rest)
 
-pub spent : (f : Formula) (budget : ℕ) (log : List Step) → IsSearchLog f budget log → has_no_empty_step log ≡ true → length log ≡ budget → CanLearnButNotRefute f log → IsSpentLog f budget log
+pub spent : (f : Formula) (budget : ℕ) (log : List Step) → IsEmpoweringLogWithinBudget f budget log → has_no_empty_step log ≡ true → length log ≡ budget → CanLearnButNotRefute f log → IsSpentLog f budget log
 spent f budget log h n e st = record {
   steps = e;
   unfinished = n;

@@ -1,4 +1,3 @@
--- The tree of winners of a view.
 use Rattle.std.proofs.Common.{◌≡◌, ◌-◌, ◌<◌, ◌≤◌, ℕ, true, false, not, zero, suc, inl, inr, cond, eqb, sum_by, List, [], ◌∷◌, Some, length, take, get_or, set, refl, sym, ap, ◌∙◌, subst, arith}
 use Rattle.std.specs.Prelude.{nat_le}
 use Rattle.std.specs.List.{slice_get}
@@ -12,24 +11,24 @@ use Rattle.ilk_cnf.specs.Formula.{is_lit_over}
 use Rattle.ilk_cnf.proofs.Literals.{is_lit_over-parts}
 use Rattle.ilk_trail.specs.declared.entry.Entry.{Entry}
 use Rattle.ilk_trail.specs.Trail.{TrailList, entry_of, entries_up_to}
-use Rattle.ilk_trail.specs.Laws.{IsTrail, has_rising_levels, is_next_level, is_set}
+use Rattle.ilk_trail.specs.Laws.{IsTrail, each_may_follow_level, may_follow_level, is_set}
 use Rattle.ilk_trail.proofs.Levels.{next-level}
 use Rattle.ilk_learn.proofs.Latest.{entry-at}
 use Rattle.ilk_solver.specs.Assigned.{AllSet}
 use Rattle.ilk_solver.specs.Heaviest.{IsHeaviest}
-use Rattle.ilk_solver.specs.Order.{HasEntriesAbove, TreeFitsView, HasNoSetTop, LosesNoUnset}
-use Rattle.ilk_solver.specs.Tree.{IsTree, LosesNoVariable, HasSameVariables, IsAtLeaf, leaves_of, top_of}
+use Rattle.ilk_solver.specs.Order.{HasEntriesAbove, TreeHasAllUnsetVars, HasNoSetTop, LosesNoUnset}
+use Rattle.ilk_solver.specs.Tree.{IsTree, LosesNoVariable, HasSameVariables, IsAtLeaf, leaves_of, variable_at_top}
 use Rattle.ilk_solver.specs.Word.{word_of}
 use Rattle.ilk_solver.specs.View.{ViewLists, IsView, is_unset}
 use Rattle.ilk_solver.proofs.Trees.{leaves-short, top-pick_greatest_positive, top-stands, top-within}
 use Rattle.ilk_solver.proofs.Words.{greater-heavier, word-positive}
 
-pub fewer : (ws t u : List ℕ) → IsTree ws t → 0 < top_of t → leaves_of ws u ≡ set (leaves_of ws t) (top_of t) 0 → sum_by (λ (x : ℕ). cond (eqb x 0) 0 1) (leaves_of ws u) < sum_by (λ (x : ℕ). cond (eqb x 0) 0 1) (leaves_of ws t)
+pub fewer : (ws t u : List ℕ) → IsTree ws t → 0 < variable_at_top t → leaves_of ws u ≡ set (leaves_of ws t) (variable_at_top t) 0 → sum_by (λ (x : ℕ). cond (eqb x 0) 0 1) (leaves_of ws u) < sum_by (λ (x : ℕ). cond (eqb x 0) 0 1) (leaves_of ws t)
 fewer ws t u h p e =
     elim (top-stands ws t h) [
       | inl z ↦ absurd (omega (arith, z.1, p))
       | inr z ↦ (let f : ℕ → ℕ = λ x. cond (eqb x 0) 0 1 in
-          let v = top_of t in
+          let v = variable_at_top t in
           let s = sum_by-set f (leaves_of ws t) v 0 0 (leaves-short ws t v h z.1) in
           let some = word-positive ws v (let n = h.numbered in let b = z.1 in omega (arith, n, b)) in
           let one : f (get_or (leaves_of ws t) v 0) ≡ 1 = elim (eqb_tells (word_of ws v) 0) [
@@ -51,28 +50,28 @@ put-one ws t u v h q e =
       here,
     )
 
-level-from : (k : ℕ) (es : List Entry) (i : ℕ) (e : Entry) → has_rising_levels k es ≡ true → slice_get es i ≡ Some e → k ≤ e.level
+level-from : (k : ℕ) (es : List Entry) (i : ℕ) (e : Entry) → each_may_follow_level k es ≡ true → slice_get es i ≡ Some e → k ≤ e.level
 level-from k [] i e c s = absurd (cc)
 level-from k (x ∷ es) zero e c s =
-    let p = and_parts (is_next_level k x) (has_rising_levels x.level es) c in
+    let p = and_parts (may_follow_level k x) (each_may_follow_level x.level es) c in
     let n = next-level k x p.0 in
     let same : x ≡ e = cc in
     omega (arith, n.0, ap (λ (y : Entry). y.level) same)
 level-from k (x ∷ es) (suc i) e c s =
-    let p = and_parts (is_next_level k x) (has_rising_levels x.level es) c in
+    let p = and_parts (may_follow_level k x) (each_may_follow_level x.level es) c in
     let n = next-level k x p.0 in
     omega (arith, n.0, level-from x.level es i e p.1 s)
 
-level-between : (k : ℕ) (es : List Entry) (i j : ℕ) (e f : Entry) → has_rising_levels k es ≡ true → i ≤ j → slice_get es i ≡ Some e → slice_get es j ≡ Some f → e.level ≤ f.level
+level-between : (k : ℕ) (es : List Entry) (i j : ℕ) (e f : Entry) → each_may_follow_level k es ≡ true → i ≤ j → slice_get es i ≡ Some e → slice_get es j ≡ Some f → e.level ≤ f.level
 level-between k [] i j e f c h s r = absurd (cc)
 level-between k (x ∷ es) zero zero e f c h s r = (let same : e ≡ f = cc in omega (arith, ap (λ (y : Entry). y.level) same))
 level-between k (x ∷ es) zero (suc j) e f c h s r =
-    let p = and_parts (is_next_level k x) (has_rising_levels x.level es) c in
+    let p = and_parts (may_follow_level k x) (each_may_follow_level x.level es) c in
     let same : x ≡ e = cc in
     omega (arith, level-from x.level es j f p.1 r, ap (λ (y : Entry). y.level) same)
 level-between k (x ∷ es) (suc i) zero e f c h s r = absurd (omega (arith, h))
 level-between k (x ∷ es) (suc i) (suc j) e f c h s r =
-    let p = and_parts (is_next_level k x) (has_rising_levels x.level es) c in
+    let p = and_parts (may_follow_level k x) (each_may_follow_level x.level es) c in
     level-between x.level es i j e f p.1 (omega (arith, h)) s r
 
 pub low-above : (t : TrailList) (ws tree : List ℕ) (n level : ℕ) (x : Entry) (l : Literal) (k : ℕ) →
@@ -140,7 +139,7 @@ above-at k (x ∷ es) v h u =
     ]
 
 pub holds : (view : ViewLists) (t u : List ℕ) → IsView view → IsTree view.weights u → ((v : ℕ) → is_unset view v ≡ true → IsAtLeaf view.weights t v) → LosesNoUnset view.trail.entries view.weights t u → HasNoSetTop view.trail.entries u
-    → TreeFitsView view u
+    → TreeHasAllUnsetVars view u
 holds view t u h w s k e = record {
   is = h;
   won = w;
@@ -148,7 +147,7 @@ holds view t u h w s k e = record {
   settled = e;
 }
 
-pub stands-back : (view : ViewLists) (t u : List ℕ) (k : ℕ) → TreeFitsView view t →
+pub stands-back : (view : ViewLists) (t u : List ℕ) (k : ℕ) → TreeHasAllUnsetVars view t →
     LosesNoVariable view.weights t u → HasEntriesAbove view.trail.entries k view.weights u → (v : ℕ) → 0 < v →
     v ≤ view.trail.vars → is_set (entries_up_to k view.trail.entries) v ≡ false → IsAtLeaf view.weights u v
 stands-back view t u k h kept above v p w e =
@@ -159,11 +158,11 @@ stands-back view t u k h kept above v p w e =
       | inr s ↦ kept v (h.stands v (unset-from view v p w s))
     ]
 
-pub top-heaviest : (view : ViewLists) (t : List ℕ) → TreeFitsView view t → 0 < top_of t → IsHeaviest view (top_of t)
+pub top-heaviest : (view : ViewLists) (t : List ℕ) → TreeHasAllUnsetVars view t → 0 < variable_at_top t → IsHeaviest view (variable_at_top t)
 top-heaviest view t h p = record {
   unset = elim h.settled [
     | inl e ↦ absurd (omega (arith, e, p))
-    | inr e ↦ unset-from view (top_of t) p (let w = top-within view.weights t h.won in let n = h.is.weighed in omega (arith, w, n)) e
+    | inr e ↦ unset-from view (variable_at_top t) p (let w = top-within view.weights t h.won in let n = h.is.weighed in omega (arith, w, n)) e
   ];
   first = λ w s. elim (top-stands view.weights t h.won) [
     | inl z ↦ absurd (omega (arith, z.1, p))
@@ -171,11 +170,11 @@ top-heaviest view t h p = record {
         let u = unset-parts view w s in
         let n = h.is.weighed in
         let less = top-pick_greatest_positive view.weights t w h.won (h.stands w s) in
-        greater-heavier view.weights w (top_of t) (omega (arith, few, n, u.1)) (omega (arith, few, z.1)) (omega (arith, less, z.3)))
+        greater-heavier view.weights w (variable_at_top t) (omega (arith, few, n, u.1)) (omega (arith, few, z.1)) (omega (arith, less, z.3)))
   ];
 }
 
-pub top-none : (view : ViewLists) (t : List ℕ) → TreeFitsView view t → top_of t ≡ 0 → AllSet view
+pub top-none : (view : ViewLists) (t : List ℕ) → TreeHasAllUnsetVars view t → variable_at_top t ≡ 0 → AllSet view
 top-none view t h e = λ v p w.
     elim (cases_Bool (is_set view.trail.entries v)) [
       | inl s ↦ s
@@ -189,18 +188,18 @@ top-none view t h e = λ v p w.
       ]
     ]
 
-pub holds-counted : (view : ViewLists) (ws t u s : List ℕ) → TreeFitsView view t →
+pub holds-counted : (view : ViewLists) (ws t u s : List ℕ) → TreeHasAllUnsetVars view t →
     length ws ≡ length view.weights → HasSameVariables view.weights t ws u → IsTree ws s →
     LosesNoUnset view.trail.entries ws u s → HasNoSetTop view.trail.entries s →
-    TreeFitsView (record { trail = view.trail; weights = ws }) s
+    TreeHasAllUnsetVars (record { trail = view.trail; weights = ws }) s
 holds-counted view ws t u s h n kept w keeps settled =
     let new : ViewLists = record { trail = view.trail; weights = ws } in
     holds new u s (record { trail = h.is.trail; weighed = n ∙ h.is.weighed }) w (λ v q. (let p = unset-parts new v q in kept.kept v p.0 (h.stands v (unset-from view v p.0 p.1 p.2)))) keeps settled
 
-pub holds-longer : (view : ViewLists) (now : TrailList) (t u : List ℕ) → TreeFitsView view t → IsTrail now →
+pub holds-longer : (view : ViewLists) (now : TrailList) (t u : List ℕ) → TreeHasAllUnsetVars view t → IsTrail now →
     now.vars ≡ view.trail.vars → take (length view.trail.entries) now.entries ≡ view.trail.entries →
     IsTree view.weights u → LosesNoUnset now.entries view.weights t u → HasNoSetTop now.entries u →
-    TreeFitsView (record { trail = now; weights = view.weights }) u
+    TreeHasAllUnsetVars (record { trail = now; weights = view.weights }) u
 holds-longer view now t u h k n e w kept settled =
     let new : ViewLists = record { trail = now; weights = view.weights } in
     holds new t u (record { trail = k; weighed = h.is.weighed ∙ sym n }) w
@@ -208,11 +207,11 @@ holds-longer view now t u h k n e w kept settled =
     h.stands v (unset-from view v p.0 (let b = p.1 in omega (arith, b, n)) (unset-before view.trail.entries now.entries v e p.2))))
     kept settled
 
-pub holds-back : (view : ViewLists) (now : TrailList) (k : ℕ) (t s u : List ℕ) → TreeFitsView view t →
+pub holds-back : (view : ViewLists) (now : TrailList) (k : ℕ) (t s u : List ℕ) → TreeHasAllUnsetVars view t →
     IsTrail now → now ≡ record { vars = view.trail.vars; entries = entries_up_to k view.trail.entries } →
     LosesNoVariable view.weights t s → HasEntriesAbove view.trail.entries k view.weights s → IsTree view.weights u →
     LosesNoUnset now.entries view.weights s u → HasNoSetTop now.entries u →
-    TreeFitsView (record { trail = now; weights = view.weights }) u
+    TreeHasAllUnsetVars (record { trail = now; weights = view.weights }) u
 holds-back view now k t s u h i e kept above w keeps settled =
     let new : ViewLists = record { trail = now; weights = view.weights } in
     let n : now.vars ≡ view.trail.vars = ap (λ (x : TrailList). x.vars) e in

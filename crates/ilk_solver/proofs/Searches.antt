@@ -1,4 +1,3 @@
--- A search whose trail changes.
 use Rattle.std.proofs.Common.{◌≡◌, ◌-◌, zero, suc, ◌≤◌, ℕ, true, List, [], ◌++◌, length, take, replicate, get_or, refl, sym, ap, ◌∙◌, subst, arith}
 use Rattle.std.proofs.lemmas.List.{append-nil}
 use Rattle.std.proofs.Math.Seq.{take-length}
@@ -8,23 +7,24 @@ use Rattle.ilk_log.specs.declared.step.Step.{Step}
 use Rattle.ilk_log.specs.Propagation.{is_saturated}
 use Rattle.ilk_trail.specs.declared.entry.Entry.{Entry}
 use Rattle.ilk_trail.specs.Trail.{with_decision, level_of, entries_up_to}
-use Rattle.ilk_trail.specs.Laws.{has_rising_levels, lits_of}
+use Rattle.ilk_trail.specs.Laws.{each_may_follow_level, lits_of}
 use Rattle.ilk_arena.specs.Arena.{ArenaLists}
 use Rattle.ilk_watches.specs.Chained.{SameClauses, formula_of}
 use Rattle.ilk_watches.specs.Reasons.{HasReasons}
 use Rattle.ilk_watches.proofs.Forced.{reasons-none}
 use Rattle.ilk_watches.specs.Propagated.{ExtendsByPropagation}
-use Rattle.ilk_solver.specs.Levels.{LevelsClosed}
+use Rattle.ilk_solver.specs.Levels.{LowerLevelsAreSaturated}
 use Rattle.ilk_solver.specs.View.{ViewLists, with_trail_entries}
 use Rattle.ilk_solver.specs.Search.{all_clauses}
 use Rattle.ilk_solver.specs.Held.{search_from_clauses, HoldsSearch}
 use Rattle.ilk_solver.proofs.ClosedLevels.{closed-back, closed-with_decision, closed-propagated, reasons-back, reasons-with_decision, reasons-propagated}
 
-held-entries : (cs : Formula) (given : ℕ) (log : List Step) (view : ViewLists) (es : List Entry) → HoldsSearch cs given log view → HasReasons cs.clauses es → LevelsClosed cs.clauses es → HoldsSearch cs given log (with_trail_entries view es)
+held-entries : (cs : Formula) (given : ℕ) (log : List Step) (view : ViewLists) (es : List Entry) → HoldsSearch cs given log view → HasReasons cs.clauses es → LowerLevelsAreSaturated cs.clauses es →
+    HoldsSearch cs given log (with_trail_entries view es)
 held-entries cs given log view es h r c =
     let all = all_clauses (search_from_clauses cs given log view) in
     let R : List (List Literal) → Type 0 = λ xs. HasReasons xs es in
-    let C : List (List Literal) → Type 0 = λ xs. LevelsClosed xs es in
+    let C : List (List Literal) → Type 0 = λ xs. LowerLevelsAreSaturated xs es in
     record {
       first = h.first;
       laid = h.laid;
@@ -39,15 +39,15 @@ held-entries cs given log view es h r c =
 pub known-reasons : (cs : Formula) (given : ℕ) (log : List Step) (view : ViewLists) → HoldsSearch cs given log view → HasReasons cs.clauses view.trail.entries
 known-reasons cs given log view h = (let R : List (List Literal) → Type 0 = λ xs. HasReasons xs view.trail.entries in subst R (sym h.laid) h.search.reasons)
 
-pub known-closed : (cs : Formula) (given : ℕ) (log : List Step) (view : ViewLists) → HoldsSearch cs given log view → LevelsClosed cs.clauses view.trail.entries
-known-closed cs given log view h = (let C : List (List Literal) → Type 0 = λ xs. LevelsClosed xs view.trail.entries in subst C (sym h.laid) h.search.closed)
+pub known-closed : (cs : Formula) (given : ℕ) (log : List Step) (view : ViewLists) → HoldsSearch cs given log view → LowerLevelsAreSaturated cs.clauses view.trail.entries
+known-closed cs given log view h = (let C : List (List Literal) → Type 0 = λ xs. LowerLevelsAreSaturated xs view.trail.entries in subst C (sym h.laid) h.search.closed)
 
 pub held-propagated : (cs : Formula) (given : ℕ) (log : List Step) (view : ViewLists) (es : List Entry) → HoldsSearch cs given log view → ExtendsByPropagation cs.clauses view.trail.entries es → HoldsSearch cs given log (with_trail_entries view es)
 held-propagated cs given log view es h p =
     held-entries cs given log view es h (reasons-propagated cs.clauses view.trail.entries es p (known-reasons cs given log view h)) (closed-propagated cs.clauses view.trail.entries es p (known-closed cs given log view h))
 
 pub held-with_decision : (cs : Formula) (given : ℕ) (log : List Step) (view : ViewLists) (l : Literal) →
-    HoldsSearch cs given log view → has_rising_levels 0 view.trail.entries ≡ true →
+    HoldsSearch cs given log view → each_may_follow_level 0 view.trail.entries ≡ true →
     is_saturated cs.clauses (lits_of view.trail.entries) ≡ true →
     HoldsSearch cs given log (with_trail_entries view (with_decision view.trail.entries l))
 held-with_decision cs given log view l h c k =
@@ -55,7 +55,7 @@ held-with_decision cs given log view l h c k =
     (closed-with_decision cs.clauses view.trail.entries l c (known-closed cs given log view h) k)
 
 pub held-back : (cs : Formula) (given : ℕ) (log : List Step) (view : ViewLists) (m : ℕ) →
-    HoldsSearch cs given log view → has_rising_levels 0 view.trail.entries ≡ true → m ≤ level_of view.trail.entries →
+    HoldsSearch cs given log view → each_may_follow_level 0 view.trail.entries ≡ true → m ≤ level_of view.trail.entries →
     level_of (entries_up_to m view.trail.entries) ≡ m →
     HoldsSearch cs given log (with_trail_entries view (entries_up_to m view.trail.entries))
 held-back cs given log view m h c le top =

@@ -14,7 +14,6 @@ use Rattle.ilk_solver.specs.Assigned.{AllSet, SomeUnset}
 use Rattle.ilk_solver.specs.View.{ViewLists, IsView}
 use Rattle.ilk_solver.specs.Search.{SearchLists, IsSearch}
 
--- The number of variables from 1 to `n` that the literals have.
 abbrev count_set : ℕ → List Literal → ℕ
 count_set zero ls = 0
 count_set (suc n) ls = count_set n ls + cond (has_var (suc n) ls) 1 0

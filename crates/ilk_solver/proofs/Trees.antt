@@ -1,10 +1,9 @@
--- Trees of winners.
 use Rattle.std.proofs.Common.{◌≡◌, ◌≢◌, ◌⊎◌, ◌+◌, ◌*◌, ◌-◌, ◌/◌, ◌<◌, ◌≤◌, ℕ, zero, suc, inl, inr, List, length, get_or, set, refl, sym, ap, ◌∙◌, subst, arith}
 use Rattle.std.proofs.lemmas.Bool.{cases_eq, cases_lt}
 use Rattle.std.proofs.lemmas.List.{get_or-drop, get_or-set_same, get_or-set_other, length-set, drop-set-lt, drop-set-add, get_or_past, length-drop}
 use Rattle.ilk_solver.specs.declared.word.TheConstants.{MOST_VARIABLES}
 use Rattle.ilk_solver.specs.Word.{IsGreaterOfTwo, variable_of, word_of}
-use Rattle.ilk_solver.specs.Tree.{IsTree, IsTreeExceptAt, IsWinnerNode, HasSameVariables, IsAtLeaf, leaves_of, top_of}
+use Rattle.ilk_solver.specs.Tree.{IsTree, IsTreeExceptAt, IsWinnerNode, HasSameVariables, IsAtLeaf, leaves_of, variable_at_top}
 use Rattle.ilk_solver.proofs.Words.{variable-is, variable-none}
 
 won-other : (t : List ℕ) (i x k : ℕ) → k ≢ i → 2 * k ≢ i → 2 * k + 1 ≢ i → IsWinnerNode t k → IsWinnerNode (set t i x) k
@@ -97,17 +96,17 @@ stands-below (suc n) ws t k h a f =
       ]
     ]
 
-pub top-stands : (ws t : List ℕ) → IsTree ws t → ((get_or t 1 0 ≡ 0) × (top_of t ≡ 0)) ⊎ ((0 < top_of t) × (top_of t ≤ length ws) × IsAtLeaf ws t (top_of t) × (get_or t 1 0 ≡ word_of ws (top_of t)))
+pub top-stands : (ws t : List ℕ) → IsTree ws t → ((get_or t 1 0 ≡ 0) × (variable_at_top t ≡ 0)) ⊎ ((0 < variable_at_top t) × (variable_at_top t ≤ length ws) × IsAtLeaf ws t (variable_at_top t) × (get_or t 1 0 ≡ word_of ws (variable_at_top t)))
 top-stands ws t h =
     elim (stands-below (2 * length ws + 2) ws t 1 h (omega arith) (omega arith)) [
       | inl e ↦ inl (e, ap variable_of e ∙ variable-none)
       | inr z ↦ (let v = z.0 in
-          let same : top_of t ≡ v = ap variable_of z.4 ∙ variable-is ws v (let n = h.numbered in let b = z.2 in omega (arith, n, b)) in
+          let same : variable_at_top t ≡ v = ap variable_of z.4 ∙ variable-is ws v (let n = h.numbered in let b = z.2 in omega (arith, n, b)) in
           let P : ℕ → Type 0 = λ w. (0 < w) × (w ≤ length ws) × IsAtLeaf ws t w × (get_or t 1 0 ≡ word_of ws w) in
           inr (subst P (sym same) (z.1, z.2, z.3, z.4)))
     ]
 
-pub top-within : (ws t : List ℕ) → IsTree ws t → top_of t ≤ length ws
+pub top-within : (ws t : List ℕ) → IsTree ws t → variable_at_top t ≤ length ws
 top-within ws t h = elim (top-stands ws t h) [ inl z ↦ omega (arith, z.1) | inr z ↦ z.1 ]
 
 below-top : (fuel : ℕ) (ws t : List ℕ) (k : ℕ) → IsTree ws t → 0 < k → k ≤ fuel → get_or t k 0 ≤ get_or t 1 0

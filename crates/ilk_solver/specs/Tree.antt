@@ -8,37 +8,40 @@ use Rattle.std.specs.Prelude.{ℕ, ◌≡◌, ◌≢◌, ◌⊎◌, ◌+◌, ◌
 use Rattle.ilk_solver.specs.declared.word.TheConstants.{MOST_VARIABLES}
 use Rattle.ilk_solver.specs.Word.{IsGreaterOfTwo, variable_of, word_of}
 
--- The leaves of a tree over these weights.
+-- Returns the leaves of a tree over these weights: the entry of each variable, from 0 on.
 abbrev pub leaves_of : List ℕ → List ℕ → List ℕ
 leaves_of weights tree = drop (length weights + 1) tree
 
-abbrev pub top_of : List ℕ → ℕ
-top_of tree = variable_of (slice_index tree 1)
+-- Returns the variable at the top of a tree, or 0 if there is none.
+abbrev pub variable_at_top : List ℕ → ℕ
+variable_at_top tree = variable_of (slice_index tree 1)
 
--- Holds if node `k` has the greater word of the two nodes below.
+-- Holds if node `k` has the greater word of the two nodes below it.
 abbrev pub IsWinnerNode : List ℕ → ℕ → Type 0
 IsWinnerNode tree k = IsGreaterOfTwo (slice_index tree k) (slice_index tree (2 * k)) (slice_index tree (2 * k + 1))
 
--- Holds if variable `v` is at its leaf, with its weight.
+-- Holds if the leaf of variable `v` has its word, with its weight.
 abbrev pub IsAtLeaf : List ℕ → List ℕ → ℕ → Type 0
 IsAtLeaf weights tree v = slice_index (leaves_of weights tree) v ≡ word_of weights v
 
--- Holds for a tree in which all nodes but `j` are right.
+-- Holds if each leaf of the tree is empty or has its variable's word. Each inner node but `j` has
+-- the greater word of the two nodes below.
 pub record IsTreeExceptAt (weights tree : List ℕ) (j : ℕ) : Type 0 where
   pub numbered : length weights ≤ MOST_VARIABLES
   pub size : length tree ≡ 2 * length weights + 2
   pub leaf : (v : ℕ) → v ≤ length weights → (slice_index (leaves_of weights tree) v ≡ 0) ⊎ ((0 < v) × IsAtLeaf weights tree v)
   pub won : (k : ℕ) → 0 < k → k ≤ length weights → k ≢ j → IsWinnerNode tree k
 
--- Holds for a tree in which all nodes are right. The exception is node 0, which is no inner node.
+-- Holds if each leaf of the tree is empty or has its variable's word. Each inner node has the
+-- greater word of the two nodes below.
 abbrev pub IsTree : List ℕ → List ℕ → Type 0
 IsTree weights tree = IsTreeExceptAt weights tree 0
 
--- Holds if the variables that were at their leaves still are.
+-- Holds if tree `new` contains each variable that `old` contains.
 abbrev pub LosesNoVariable : List ℕ → List ℕ → List ℕ → Type 0
 LosesNoVariable weights old new = (v : ℕ) → IsAtLeaf weights old v → IsAtLeaf weights new v
 
--- Holds if the tree has the same variables at its leaves after a weight has changed.
+-- Holds if tree `new`, with the new weights, contains the same variables as `old`.
 pub record HasSameVariables (old_weights old weights new : List ℕ) : Type 0 where
   pub kept : (v : ℕ) → 0 < v → IsAtLeaf old_weights old v → IsAtLeaf weights new v
   pub none : (v : ℕ) → slice_index (leaves_of old_weights old) v ≡ 0 → slice_index (leaves_of weights new) v ≡ 0

@@ -1,4 +1,3 @@
--- A picker's view of a search.
 use Rattle.std.specs.Prelude.{ℕ, ◌≡◌, ◌-◌, ◌&&◌, Bool, List, length, not, slice_index}
 use Rattle.ilk_cnf.specs.Literal.{positive_lit}
 use Rattle.ilk_cnf.specs.Formula.{is_lit_over}
@@ -6,12 +5,12 @@ use Rattle.ilk_trail.specs.declared.entry.Entry.{Entry}
 use Rattle.ilk_trail.specs.Trail.{TrailList}
 use Rattle.ilk_trail.specs.Laws.{IsTrail, is_set}
 
--- The trail, and the weights of the variables: entry `v - 1` is that of variable `v`.
+-- A view of a search: its trail, and the weight of each variable `v` as entry `v - 1`.
 pub record ViewLists : Type 0 where
   pub trail : TrailList
   pub weights : List ℕ
 
--- Returns whether variable `v` exists and is unset.
+-- Returns whether variable `v` exists and has no value.
 abbrev pub is_unset : ViewLists → ℕ → Bool
 is_unset view v = is_lit_over view.trail.vars (positive_lit v) && not (is_set view.trail.entries v)
 
@@ -21,7 +20,7 @@ weight_of view v = slice_index view.weights (v - 1)
 abbrev pub with_trail_entries : ViewLists → List Entry → ViewLists
 with_trail_entries view entries = record { trail = record { vars = view.trail.vars; entries = entries }; weights = view.weights }
 
--- Holds for every view: it has a trail, and a weight for each variable.
+-- Holds for every view: its trail is valid, and each variable has a weight.
 pub record IsView (view : ViewLists) : Type 0 where
   pub trail : IsTrail view.trail
   pub weighed : length view.weights ≡ view.trail.vars

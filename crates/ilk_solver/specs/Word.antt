@@ -6,11 +6,11 @@
 use Rattle.std.specs.Prelude.{ℕ, ◌≡◌, ◌==◌, ◌⊎◌, ◌≤◌, ◌+◌, ◌*◌, ◌-◌, ◌%◌, List, slice_index, if◌then◌else◌}
 use Rattle.ilk_solver.specs.declared.word.TheConstants.{WEIGHT_LIMIT}
 
--- The word of variable `v`; entry `v - 1` is its weight.
+-- Returns the word of variable `v`, whose weight is entry `v - 1`.
 abbrev pub word_of : List ℕ → ℕ → ℕ
 word_of weights v = slice_index weights (v - 1) * WEIGHT_LIMIT + (WEIGHT_LIMIT - 1 - v)
 
--- The variable with this word, or 0 if there is none.
+-- Returns the variable with this word, or 0 if the word is 0.
 abbrev pub variable_of : ℕ → ℕ
 variable_of word = if word == 0 then 0 else (WEIGHT_LIMIT - 1 - word % WEIGHT_LIMIT)
 

@@ -1,18 +1,18 @@
 use ilk_cnf::Assignment;
 use ilk_log::Log;
 
-/// The answer of a search.
+/// The answer of a search for an assignment.
 #[derive(Drop)]
 pub enum Answer {
     /// An assignment that satisfies the formula.
     Sat(Assignment),
     /// No assignment satisfies the formula: the log refutes it.
     Unsat,
-    /// The log has as many steps as the budget allows, and another one would be due.
+    /// Neither: as many clauses were learned as the budget allows, and another one would be due.
     Spent,
 }
 
-/// The end of a search.
+/// The result of a search.
 #[derive(Drop)]
 pub struct Outcome {
     /// The answer.

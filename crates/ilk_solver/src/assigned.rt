@@ -5,8 +5,8 @@ use crate::view::View;
 use ilk_cnf::{Assignment, Lit};
 use std::alloc::{AllocError, Global};
 
-/// Returns the assignment of the values of `view`. The value of an unset variable is `false`.
-pub fn assignment(alloc: Global, view: &View) -> Result<Assignment, AllocError>
+/// Returns the assignment of the values in `view`, with `false` for an unset variable.
+pub(crate) fn assignment(alloc: Global, view: &View) -> Result<Assignment, AllocError>
     ensures { IfOk result (λ a. a ≡ assignment_of view.now) }
 {
     let mut values = Assignment::new(alloc);

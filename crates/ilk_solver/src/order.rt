@@ -10,8 +10,8 @@ use ilk_cnf::Lit;
 use ilk_trail::Trail;
 use std::alloc::{AllocError, Global};
 
-/// Creates a tree that contains each variable.
-pub fn new_tree(alloc: Global, weights: &[u32]) -> Result<Vec<u64>, AllocError>
+/// Creates a tree that contains every variable, with entry `v - 1` as the weight of variable `v`.
+pub(crate) fn new_tree(alloc: Global, weights: &[u32]) -> Result<Vec<u64>, AllocError>
     requires { length weights.now ≤ MOST_VARIABLES }
     ensures tree { IfOk result (λ tree. IsTree weights.now tree.items) }
     ensures each { IfOk result
@@ -35,8 +35,8 @@ fn is_past(trail: &Trail, v: u64) -> bool
     v != 0 && trail.value(Lit::new(v, true)).is_some()
 }
 
-/// Removes variables from the top of `tree` as long as they are set.
-pub fn drop_set_from_top(trail: &Trail, weights: &[u32], tree: &mut [u64])
+/// Removes the variable at the top of `tree` as long as it is set.
+pub(crate) fn drop_set_from_top(trail: &Trail, weights: &[u32], tree: &mut [u64])
     requires vars { trail.now.vars ≡ length weights.now }
     requires tree { IsTree weights.now tree.old }
     ensures tree { IsTree weights.now tree.new }
@@ -49,8 +49,8 @@ pub fn drop_set_from_top(trail: &Trail, weights: &[u32], tree: &mut [u64])
     }
 }
 
-/// Puts the variables of the entries above `level` into `tree`.
-pub fn put_back_above(trail: &Trail, weights: &[u32], tree: &mut [u64], level: u64)
+/// Puts the variables of the trail's entries above `level` back into `tree`.
+pub(crate) fn put_back_above(trail: &Trail, weights: &[u32], tree: &mut [u64], level: u64)
     requires vars { trail.now.vars ≡ length weights.now }
     requires tree { IsTree weights.now tree.old }
     ensures tree { IsTree weights.now tree.new }

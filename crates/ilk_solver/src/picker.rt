@@ -7,9 +7,9 @@ ghost use Rattle.ilk_solver.specs.View.{ViewLists, IsView, is_unset};
 use crate::view::View;
 use ilk_cnf::Lit;
 
-/// Chooses the next decision by a closure, which may be called on every view with an unset variable
-/// and returns a literal of such a variable. Ghost fields keep these two facts; no test is made at
-/// run time.
+/// Chooses the next decision by a closure. It has to accept every view with an unset variable, and
+/// return a literal of such a variable. Ghost fields keep these facts; nothing is tested at run
+/// time.
 #[derive(Drop)]
 pub struct Picker {
     picks: Box<dyn Fn(&View) -> Lit>,

@@ -1,7 +1,7 @@
 ghost use Rattle.std.specs.Prelude.{◌≡◌, ◌≤◌, Bool, if◌then◌else◌};
 
-/// Decides when a search goes back to its start, by a closure over the number of steps so far that
-/// have a literal. It is asked after each of them. Learned clauses are kept, as in Chaff (M. W.
+/// Decides when a search goes back to its start, by a closure over the number of learned clauses so
+/// far. The closure is asked after each learned clause. These are kept, as in Chaff (M. W.
 /// Moskewicz, C. F. Madigan, Y. Zhao, L. Zhang and S. Malik, 2001).
 #[derive(Drop)]
 pub struct Restart {
@@ -28,7 +28,6 @@ impl Restart {
         if self.is_due(steps) { 0 } else { level }
     }
 
-    // Returns whether a restart is due after `steps` steps.
     fn is_due(&self, steps: u64) -> bool
         ensures { post self.now.asks steps result }
     {

@@ -10,9 +10,9 @@ ghost use Rattle.ilk_trail.specs.Laws.{IsTrail, is_set, lits_of};
 ghost use Rattle.ilk_watches.specs.Propagated.{ExtendsByPropagation};
 ghost use Rattle.ilk_solver.specs.Search.{HasStepAdded, IsSearch, all_clauses, new_search, with_trail};
 ghost use Rattle.ilk_solver.specs.View.{IsView};
-ghost use Rattle.ilk_solver.specs.Levels.{LevelsClosed};
+ghost use Rattle.ilk_solver.specs.Levels.{LowerLevelsAreSaturated};
 ghost use Rattle.ilk_solver.specs.Assigned.{AllSet, SomeUnset};
-ghost use Rattle.ilk_solver.specs.Learned.{IsLearned, HasOneStepMore};
+ghost use Rattle.ilk_solver.specs.Learned.{IsLearnedAssertingStep, HasOneStepMore};
 ghost use Rattle.ilk_solver.specs.Answered.{IsSolution};
 
 use crate::assigned::assignment;
@@ -21,16 +21,16 @@ use crate::word::WEIGHT_LIMIT;
 use ilk_cnf::{Assignment, Cnf, Lit};
 use ilk_learn::{Learned, learn, refute};
 use ilk_log::{Log, Step};
-use ilk_watches::{Clauses, Propagator};
+use ilk_watches::{NumberedClauses, PropagationProgress};
 use std::alloc::{AllocError, Global};
 use std::marker::Model;
 
-/// A search without the choice of its decisions. It has the clauses of the formula and of the
-/// steps, their propagation queue, the number of the formula's clauses, the steps, and the view.
+/// The state of a search: the clauses of the formula and of the steps, the progress of propagation,
+/// the steps, and the view. It doesn't choose the decisions.
 #[derive(Drop)]
-pub struct Search {
-    clauses: Clauses,
-    queue: Propagator,
+pub(crate) struct Search {
+    clauses: NumberedClauses,
+    queue: PropagationProgress,
     given: u64,
     log: Log,
     view: View,
@@ -50,14 +50,14 @@ impl Model for Search {
 }
 
 impl Search {
-    /// Creates the search over `cnf` at its start.
+    /// Creates the search for an assignment of `cnf`, with no steps and nothing assigned.
     pub fn new(alloc: Global, cnf: &Cnf) -> Result<Search, AllocError>
         ensures { IfOk result (λ s. s ≡ new_search cnf.now) }
     {
         let view = View::new(alloc, cnf.vars())?;
-        let clauses = Clauses::from_cnf(alloc, cnf)?;
+        let clauses = NumberedClauses::from_cnf(alloc, cnf)?;
         let given = clauses.count();
-        let queue = Propagator::new();
+        let queue = PropagationProgress::new();
         let log = Log::new(alloc);
         Ok(Search {
             clauses,
@@ -68,7 +68,7 @@ impl Search {
         })
     }
 
-    /// Returns the view.
+    /// Returns the trail and the weights, as a picker sees them.
     pub fn view(&self) -> &View
         ensures view { result.now ≡ self.now.view }
         ensures search { IsSearch self.now }
@@ -78,8 +78,8 @@ impl Search {
         &self.view
     }
 
-    /// Sets the literals that the clauses force, until none is left. Returns a clause that is
-    /// false, or `None` if propagation is complete. It allocates no memory.
+    /// Assigns the literals that clauses force, until none is left, and returns `None`. Returns the
+    /// number of a clause if it becomes false. Takes no memory.
     pub fn propagate(&mut self) -> Option<u64>
         ensures conflict { IfSome result
             (λ c. IsTrue
@@ -94,7 +94,7 @@ impl Search {
         self.view.propagate(&mut self.queue, &mut self.clauses)
     }
 
-    /// Opens the next level with `l`, which is unset. Propagation must be complete.
+    /// Opens the next level with the unset literal `l`. Propagation has to be complete.
     pub fn decide(&mut self, l: Lit)
         requires within { IsTrue (is_lit_over self.old.formula.vars l) }
         requires unset { is_set self.old.view.trail.entries l.var ≡ false }
@@ -106,7 +106,7 @@ impl Search {
         self.view.decide(&mut self.queue, &mut self.clauses, l);
     }
 
-    /// Removes the levels above `level`.
+    /// Removes the entries of the levels above `level`.
     pub fn back_to(&mut self, level: u64)
         requires { level ≤ level_of self.old.view.trail.entries }
         ensures entries { self.new ≡ with_trail self.old
@@ -119,13 +119,13 @@ impl Search {
         self.queue.back_to(self.view.trail());
     }
 
-    /// Adds a step. Its clause is neither false nor a unit at any level below the current one, and
-    /// may force only its first literal. Returns an error if memory runs out or if there are then
-    /// 2^32 clauses, which a weight cannot count.
+    /// Adds a step at the current level. At each lower level its clause must be neither false nor a
+    /// unit; at this one it may force only its first literal. Fails if memory runs out, or for 2^32
+    /// clauses, which a weight cannot count.
     pub fn add(self, step: Step) -> Result<Search, AllocError>
         requires within { IsTrue (is_clause_over self.formula.vars step.clause) }
         requires differ { IsTrue (has_distinct_vars step.clause) }
-        requires closed { LevelsClosed (step.clause ∷ []) self.view.trail.entries }
+        requires closed { LowerLevelsAreSaturated (step.clause ∷ []) self.view.trail.entries }
         requires addable { FirstTwoAreWatchable self.view.trail.entries step.clause }
         ensures { IfOk result (λ s. HasStepAdded self step s) }
     {
@@ -153,7 +153,7 @@ impl Search {
         })
     }
 
-    /// Returns whether every variable has a value.
+    /// Returns whether every variable has a value on the trail.
     pub fn is_complete(&self) -> bool
         ensures yes { result ≡ true → AllSet self.now.view }
         ensures no { result ≡ false → SomeUnset self.now.view }
@@ -161,7 +161,7 @@ impl Search {
         self.view.is_complete()
     }
 
-    /// Returns the current level.
+    /// Returns the current level: the number of decisions on the trail.
     pub fn level(&self) -> u64
         ensures level { result ≡ level_of self.now.view.trail.entries }
         ensures few { result ≤ self.now.formula.vars }
@@ -171,8 +171,8 @@ impl Search {
         self.view.trail().level()
     }
 
-    /// Returns the assignment on the trail. Every variable has a value, and propagation is
-    /// complete.
+    /// Returns the assignment on the trail, which satisfies the formula. Every variable must have a
+    /// value, and propagation must be complete.
     pub fn assignment(&self, alloc: Global) -> Result<Assignment, AllocError>
         requires set { AllSet self.now.view }
         requires closed { IsTrue
@@ -184,20 +184,20 @@ impl Search {
         assignment(alloc, &self.view)
     }
 
-    /// Returns the step that is learned from clause `conflict`, with its level. All literals of the
-    /// clause are false, and the current level is above 0.
+    /// Returns the step learned from clause `conflict`, and the level to go back to. All literals
+    /// of the clause must be false, and the current level above 0.
     pub fn learn(&self, alloc: Global, conflict: u64) -> Result<Learned, AllocError>
         requires conflict { IsTrue
             (is_conflict (all_clauses self.now) (lits_of self.now.view.trail.entries) conflict) }
         requires level { 0 < level_of self.now.view.trail.entries }
-        ensures { IfOk result (λ l. IsLearned self.now l.step l.level) }
+        ensures { IfOk result (λ l. IsLearnedAssertingStep self.now l.step l.level) }
     {
         let _ = self.view.vars();
         learn(alloc, &self.clauses, self.view.trail(), conflict)
     }
 
-    /// Returns a step with the empty clause. All literals of clause `conflict` are false at level
-    /// 0, the current level.
+    /// Returns the step that derives the empty clause. All literals of clause `conflict` must be
+    /// false, and the current level 0.
     pub fn refute(&self, alloc: Global, conflict: u64) -> Result<Step, AllocError>
         requires conflict { IsTrue
             (is_conflict (all_clauses self.now) (lits_of self.now.view.trail.entries) conflict) }
@@ -210,9 +210,9 @@ impl Search {
         refute(alloc, &self.clauses, self.view.trail(), conflict)
     }
 
-    /// Goes back to `level`, which is at most the level of `learned_step`, and adds its step.
+    /// Goes back to `level`, which is at most `learned.level`, and adds the learned step.
     pub fn backjump_and_add(mut self, learned: Learned, level: u64) -> Result<Search, AllocError>
-        requires learned { IsLearned self learned.step learned.level }
+        requires learned { IsLearnedAssertingStep self learned.step learned.level }
         requires level { level ≤ learned.level }
         ensures { IfOk result (λ s. HasOneStepMore self learned.step s) }
     {
@@ -221,7 +221,7 @@ impl Search {
         self.add(learned.step)
     }
 
-    /// Returns the steps.
+    /// Converts the search into the log of its steps.
     pub fn into_log(self) -> Log
         ensures { result ≡ self.log }
     {

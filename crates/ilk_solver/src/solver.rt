@@ -2,7 +2,7 @@ ghost use Rattle.std.specs.Prelude.{◌≡◌, [], IfNone, IfOk, IfSome, IsTrue}
 ghost use Rattle.ilk_watches.specs.Reasons.{is_conflict};
 ghost use Rattle.ilk_log.specs.Propagation.{is_saturated};
 ghost use Rattle.ilk_trail.specs.Laws.{lits_of};
-ghost use Rattle.ilk_solver.specs.Answered.{IsAnswer, IsSearchLog};
+ghost use Rattle.ilk_solver.specs.Answered.{IsAnswer, IsEmpoweringLogWithinBudget};
 ghost use Rattle.ilk_watches.specs.Propagated.{ExtendsByPropagation};
 ghost use Rattle.ilk_solver.specs.Search.{all_clauses, new_search, with_trail};
 
@@ -13,7 +13,7 @@ use crate::search::Search;
 use ilk_cnf::Cnf;
 use std::alloc::{AllocError, Global};
 
-/// A search without steps yet, with its picker and restart policy.
+/// A search before its first step, with its picker and restart policy.
 #[derive(Drop)]
 pub struct Solver {
     search: Search,
@@ -43,8 +43,8 @@ impl Solver {
         })
     }
 
-    /// Assigns what the clauses force until nothing is left to assign and returns `None`, or
-    /// returns the number of a false clause, counted from 0. Takes no memory.
+    /// Assigns the literals that clauses force, until none is left, and returns `None`. Returns the
+    /// number of a clause, from 0, if it becomes false. Takes no memory.
     pub fn propagate(&mut self) -> Option<u64>
         ensures conflict { IfSome result
             (λ c. IsTrue
@@ -64,15 +64,15 @@ impl Solver {
         self.search.propagate()
     }
 
-    /// Searches for an assignment that satisfies the formula, with at most `budget` steps that have
-    /// a literal. Each step is the clause learned from a conflict. Returns an assignment, that
-    /// there is none, or that the budget is spent, each with the log of the steps. A budget of 3^n
-    /// always suffices over n variables.
+    /// Searches for an assignment that satisfies the formula, and learns at most `budget` clauses
+    /// from conflicts. Returns an assignment, or that there is none, or that the budget is spent,
+    /// each with the log of the steps. A budget of 3^n always suffices over n variables.
     ///
-    /// After each such step the restart policy decides, from the number of these steps so far,
-    /// whether the search goes back to its start.
+    /// After each learned clause the restart policy decides, from their number so far, whether the
+    /// search goes back to its start.
     pub fn solve(self, budget: u64) -> Result<Outcome, AllocError>
-        ensures log { IfOk result (λ o. IsSearchLog self.search.formula budget o.log) }
+        ensures log { IfOk result (λ o.
+            IsEmpoweringLogWithinBudget self.search.formula budget o.log) }
         ensures answer { IfOk result (λ o. IsAnswer self.search.formula budget o.answer o.log) }
     {
         let Solver {

@@ -23,9 +23,9 @@ fn replay(weights: &[u32], tree: &mut [u64], from: u64)
     }
 }
 
-/// Writes `entry` to the leaf of variable `v`, and updates the nodes above it. `entry` is the word
-/// of `v` or 0.
-pub fn write_leaf(weights: &[u32], tree: &mut [u64], v: u64, entry: u64)
+/// Sets the leaf of variable `v` to `entry`, which is the word of `v` or 0, and updates the nodes
+/// above it.
+pub(crate) fn write_leaf(weights: &[u32], tree: &mut [u64], v: u64, entry: u64)
     requires from_1 { 0 < v }
     requires within { v ≤ length weights.now }
     requires entry { (entry ≡ 0) ⊎ (entry ≡ word_of weights.now v) }
@@ -42,8 +42,8 @@ pub fn write_leaf(weights: &[u32], tree: &mut [u64], v: u64, entry: u64)
     replay(weights, tree, leaf as u64 / 2);
 }
 
-/// Puts variable `v` into `tree`, unless it is already there.
-pub fn put_variable(weights: &[u32], tree: &mut [u64], v: u64)
+/// Puts variable `v` into `tree`, unless it contains `v` already.
+pub(crate) fn put_variable(weights: &[u32], tree: &mut [u64], v: u64)
     requires from_1 { 0 < v }
     requires within { v ≤ length weights.now }
     requires tree { IsTree weights.now tree.old }
@@ -60,7 +60,7 @@ pub fn put_variable(weights: &[u32], tree: &mut [u64], v: u64)
 }
 
 /// Adds 1 to the weight of variable `v`, and updates `tree` if it contains `v`.
-pub fn add_one_weight(weights: &mut [u32], tree: &mut [u64], v: u64)
+pub(crate) fn add_one_weight(weights: &mut [u32], tree: &mut [u64], v: u64)
     requires from_1 { 0 < v }
     requires within { v ≤ length weights.old }
     requires room { slice_index weights.old (v - 1) + 1 < WEIGHT_LIMIT }

@@ -7,7 +7,7 @@ ghost use Rattle.ilk_log.specs.Propagation.{is_saturated};
 ghost use Rattle.ilk_watches.specs.Reasons.{is_conflict};
 ghost use Rattle.ilk_watches.specs.Chained.{SameClauses};
 ghost use Rattle.ilk_watches.specs.Propagated.{ExtendsByPropagation};
-ghost use Rattle.ilk_watches.specs.Watched.{IsQueue};
+ghost use Rattle.ilk_watches.specs.Watched.{IsPropagationInvariant};
 ghost use Rattle.ilk_solver.specs.declared.word.TheConstants.{WEIGHT_LIMIT};
 ghost use Rattle.ilk_solver.specs.Assigned.{AllSet, SomeUnset};
 ghost use Rattle.ilk_solver.specs.Heaviest.{IsHeaviest};
@@ -19,12 +19,12 @@ use crate::tree::add_one_weight;
 use crate::word::{MOST_VARIABLES, variable};
 use ilk_cnf::Lit;
 use ilk_trail::Trail;
-use ilk_watches::{Clauses, Propagator};
+use ilk_watches::{NumberedClauses, PropagationProgress};
 use std::alloc::{AllocError, Global};
 use std::marker::Model;
 
-/// A picker's view of a search: the unset variables, and the number of steps so far that contain
-/// each variable.
+/// A picker's view of a search: the unset variables, and for each variable the number of steps that
+/// contain it.
 #[derive(Drop)]
 pub struct View {
     trail: Trail,
@@ -34,14 +34,17 @@ pub struct View {
 }
 
 impl Model for View {
-    ghost use Rattle.ilk_solver.specs.Order.{TreeFitsView};
+    ghost use Rattle.ilk_solver.specs.Order.{TreeHasAllUnsetVars};
     ghost use Rattle.ilk_solver.specs.View.{ViewLists};
 
     ghost Value = { ViewLists };
 
     ghost view = { λ v. record { trail = v.trail; weights = v.weights.items } };
 
-    ghost invariant = { λ v. TreeFitsView (record { trail = v.trail; weights = v.weights.items })
+    ghost invariant = { λ v. TreeHasAllUnsetVars (record {
+      trail = v.trail;
+      weights = v.weights.items;
+    })
         v.tree.items };
 }
 
@@ -98,8 +101,8 @@ impl View {
         self.weights[v as usize - 1] as u64
     }
 
-    /// Returns the unset variable of the greatest weight, the least one at a tie. Returns `None` if
-    /// every variable has a value.
+    /// Returns the unset variable with the greatest weight, and of these the one with the least
+    /// number. Returns `None` if every variable has a value.
     pub fn heaviest(&self) -> Option<u64>
         ensures some { IfSome result (λ v. IsHeaviest self.now v) }
         ensures none { IfNone result (AllSet self.now) }
@@ -126,11 +129,13 @@ impl View {
         self.trail.count() == self.vars()
     }
 
-    // Assigns what the clauses force until nothing is left to assign and returns `None`, or returns
-    // the number of a false clause. Takes no memory.
-    pub(crate) fn propagate(&mut self, queue: &mut Propagator, clauses: &mut Clauses) -> Option<u64>
+    pub(crate) fn propagate(
+        &mut self,
+        queue: &mut PropagationProgress,
+        clauses: &mut NumberedClauses,
+    ) -> Option<u64>
         requires vars { self.old.trail.vars ≡ clauses.old.vars }
-        requires queued { IsQueue clauses.old self.old.trail.entries queue.old.head
+        requires queued { IsPropagationInvariant clauses.old self.old.trail.entries queue.old.head
             queue.old.settled }
         ensures conflict { IfSome result
             (λ c. IsTrue (is_conflict clauses.old.clauses (lits_of self.new.trail.entries) c)) }
@@ -139,7 +144,7 @@ impl View {
         ensures entries { self.new ≡ with_trail_entries self.old self.new.trail.entries }
         ensures propagated { ExtendsByPropagation clauses.old.clauses self.old.trail.entries
             self.new.trail.entries }
-        ensures queued { IsQueue clauses.new self.new.trail.entries queue.new.head
+        ensures queued { IsPropagationInvariant clauses.new self.new.trail.entries queue.new.head
             queue.new.settled }
         ensures same { SameClauses clauses.old clauses.new }
     {
@@ -149,10 +154,14 @@ impl View {
         found
     }
 
-    // Opens the next level with `l`, after propagation has ended.
-    pub(crate) fn decide(&mut self, queue: &mut Propagator, clauses: &mut Clauses, l: Lit)
+    pub(crate) fn decide(
+        &mut self,
+        queue: &mut PropagationProgress,
+        clauses: &mut NumberedClauses,
+        l: Lit,
+    )
         requires vars { self.old.trail.vars ≡ clauses.old.vars }
-        requires queued { IsQueue clauses.old self.old.trail.entries queue.old.head
+        requires queued { IsPropagationInvariant clauses.old self.old.trail.entries queue.old.head
             queue.old.settled }
         requires within { IsTrue (is_lit_over self.old.trail.vars l) }
         requires unset { is_set self.old.trail.entries l.var ≡ false }
@@ -160,7 +169,7 @@ impl View {
             (lits_of self.old.trail.entries)) }
         ensures entries { self.new ≡ with_trail_entries self.old
             (with_decision self.old.trail.entries l) }
-        ensures queued { IsQueue clauses.new self.new.trail.entries queue.new.head
+        ensures queued { IsPropagationInvariant clauses.new self.new.trail.entries queue.new.head
             queue.new.settled }
         ensures same { SameClauses clauses.old clauses.new }
     {
@@ -169,7 +178,6 @@ impl View {
         drop_set_from_top(&self.trail, &self.weights, &mut self.tree);
     }
 
-    // Removes the levels above `level`.
     pub(crate) fn back_to(&mut self, level: u64)
         requires { level ≤ level_of self.old.trail.entries }
         ensures entries { self.new ≡ with_trail_entries self.old
@@ -182,7 +190,6 @@ impl View {
         drop_set_from_top(&self.trail, &self.weights, &mut self.tree);
     }
 
-    // Adds 1 to the weight of each variable of `clause`.
     pub(crate) fn count(&mut self, clause: &[Lit])
         requires within { IsTrue (is_clause_over self.old.trail.vars clause.now) }
         requires differ { IsTrue (has_distinct_vars clause.now) }

@@ -19,7 +19,6 @@ pub(crate) fn word(weights: &[u32], v: u64) -> u64
     weights[v as usize - 1] as u64 * WEIGHT_LIMIT + (WEIGHT_LIMIT - 1 - v)
 }
 
-// Returns the variable of `word`, or 0 if the word is 0.
 pub(crate) fn variable(word: u64) -> u64
     ensures { result ≡ variable_of word }
 {

@@ -7,7 +7,7 @@ use Rattle.ilk_base.proofs.Ranges.{range-suc}
 use Rattle.ilk_cnf.specs.Literal.{negative_lit, has_var}
 use Rattle.ilk_cnf.specs.Formula.{is_clause_over, are_clauses_over}
 use Rattle.ilk_cnf.specs.Truth.{value, is_true}
-use Rattle.ilk_cnf.specs.Extends.{ExtensionsAreExactly, PassesWithExactValues, ValuesFollowedBy}
+use Rattle.ilk_cnf.specs.Extends.{ExtensionsAreExactly, PassesAndEqualsGivenValues, AreValuesOfConsecutiveParts}
 use Rattle.ilk_cnf.proofs.Parts.{value-new, in_turn, in_words}
 use Rattle.ilk_ints.specs.Named.{one_hot_bits}
 use Rattle.ilk_ints.specs.OneOf.{exactly_one_bits, exactly_one_true, none_true}
@@ -87,7 +87,6 @@ choice-low m n = one_of-low (chosen_lits (n + 1) m) (n + m)
 pub choice-in : (m n : ℕ) → are_clauses_over (choice_part m n).vars (choice_part m n).clauses ≡ true
 choice-in m n = part-in (chosen_lits (n + 1) m) (n + m) (chosen_lits-in m (n + 1) (n + m) (omega arith) (omega arith))
 
--- New variables without clauses may have any values.
 any_values : (a : List Bool) (n m : ℕ) → length a ≡ n → ExtensionsAreExactly a (n + m) [] (λ b. length b ≡ m)
 any_values a n m size = record {
   sized = λ b h. omega (arith, length-append a b, size, h);
@@ -102,7 +101,7 @@ choice-law a m n size =
     (omega (arith, size)) (choice-low m n) refl (any_values a n m size) next)
   where
     one : (b : List Bool) → length b ≡ m → List Bool → Type 0
-    one b _ = PassesWithExactValues (exactly_one_true (map not b)) (exactly_one_bits (map not b))
+    one b _ = PassesAndEqualsGivenValues (exactly_one_true (map not b)) (exactly_one_bits (map not b))
 
     next : (b : List Bool) → (long : length b ≡ m) → ExtensionsAreExactly (a ++ b) (choice_part m n).vars (choice_part m n).clauses (one b long)
     next b long =
@@ -114,11 +113,11 @@ choice-law a m n size =
         (chosen_lits-say b a [] (n + 1) (ap (λ (k : ℕ). k + 1) size))) in
         subst
         (λ (u : List Bool). ExtensionsAreExactly (a ++ b) (choice_part m n).vars (choice_part m n).clauses
-        (PassesWithExactValues (exactly_one_true u) (exactly_one_bits u))) say
+        (PassesAndEqualsGivenValues (exactly_one_true u) (exactly_one_bits u))) say
         (one_of-law (chosen_lits (n + 1) m) (a ++ b) (n + m) here
         (chosen_lits-in m (n + 1) (n + m) (omega arith) (omega arith)))
 
-    to : (d : List Bool) → ValuesFollowedBy (λ b. length b ≡ m) one d → AreChoiceBits m d
+    to : (d : List Bool) → AreValuesOfConsecutiveParts (λ b. length b ≡ m) one d → AreChoiceBits m d
     to d h =
         let at = one-one_hot_bits (map not h.0) 0 h.4.0 in
         let long : length (map not h.0) ≡ m = length-not h.0 ∙ h.3 in
@@ -127,7 +126,7 @@ choice-law a m n size =
         let skips : h.0 ≡ map not (one_hot_bits at.0 0 m) = sym (not_not h.0) ∙ ap (map not) same in
         (at.0, omega arith, h.2 ∙ ap (λ (u : List Bool). h.0 ++ u) h.4.1 ∙ ap (λ (u : List Bool). h.0 ++ exactly_one_bits u) same ∙ ap (λ (u : List Bool). u ++ exactly_one_bits (one_hot_bits at.0 0 m)) skips)
 
-    from : (d : List Bool) → AreChoiceBits m d → ValuesFollowedBy (λ b. length b ≡ m) one d
+    from : (d : List Bool) → AreChoiceBits m d → AreValuesOfConsecutiveParts (λ b. length b ≡ m) one d
     from d h =
         let qs = one_hot_bits h.0 0 m in
         let less = h.1 in
@@ -149,7 +148,6 @@ turned true false h = refl
 turned false true h = refl
 turned false false h = absurd cc
 
--- Each variable of a choice is false exactly if its rule is chosen.
 pub chosen-at : (m : ℕ) (a : List Bool) (first r u i : ℕ) → map (is_true a) (chosen_lits first m) ≡ one_hot_bits r u m → i < m → value a (first + i) ≡ not (eqb r (u + i))
 chosen-at zero a first r u i h less = absurd (omega arith)
 chosen-at (suc m) a first r u zero h less =

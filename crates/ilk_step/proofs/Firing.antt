@@ -11,14 +11,12 @@ use Rattle.ilk_ir.specs.declared.system.Setting.{Setting}
 use Rattle.ilk_step.specs.Frame.{sets_variable}
 use Rattle.ilk_ir.proofs.Ranges.{in_ranges-length}
 
--- Returns whether each variable, from `v` on, is set or equal in both lists.
 abbrev pub kept : (ℕ → Bool) → ℕ → List ℕ → List ℕ → Bool
 kept is_set v [] [] = true
 kept is_set v [] (x ∷ xs) = false
 kept is_set v (w ∷ ws) [] = false
 kept is_set v (w ∷ ws) (x ∷ xs) = (is_set v || w == x) && kept is_set (v + 1) ws xs
 
--- Returns whether the rule's guard holds of `ws`, and `xs` has its settings.
 abbrev pub rule_met : List ℕ → List ℕ → PlainRule → Bool
 rule_met ws xs r = tree_holds ws r.guard && list_all (λ s. var_has_value xs s.var s.value) r.sets
 

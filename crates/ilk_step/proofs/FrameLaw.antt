@@ -12,10 +12,10 @@ use Rattle.ilk_ints.specs.Named.{one_hot_bits, bound_bits, bound_count}
 use Rattle.ilk_ints.proofs.BitsLaw.{same_bits-self}
 use Rattle.ilk_ints.proofs.ValuesLaw.{length-one_hot_bits}
 use Rattle.ilk_ir.specs.System.{PlainRule, in_ranges}
-use Rattle.ilk_forms.specs.declared.copy.VarLits.{VarLits}
+use Rattle.ilk_forms.specs.declared.copy.VarValueAndBoundLits.{VarValueAndBoundLits}
 use Rattle.ilk_forms.specs.Copy.{LiteralsEncode}
 use Rattle.ilk_step.specs.Choice.{chosen_lits}
-use Rattle.ilk_step.specs.Frame.{sets_variable, setter_lits, lits_to_carry_over, carry_over, frame_axiom, frame_axioms}
+use Rattle.ilk_step.specs.Frame.{sets_variable, setter_lits, lits_to_carry_over, equal_unless_any_true, frame_axiom, frame_axioms}
 use Rattle.ilk_step.proofs.Firing.{kept}
 
 pair_says : (f p q r : Bool) → ((f || (not p || (q || false))) && ((f || (p || (not q || false))) && (f || r))) ≡ (f || (cond q p (not p) && r))
@@ -25,11 +25,11 @@ pair_says false true false r = refl
 pair_says false false true r = refl
 pair_says false false false r = refl
 
-carry_over-say : (a : List Bool) (first ls ms : List Literal) → length ls ≡ length ms → satisfies a (carry_over first ls ms) ≡ (is_clause_true a first || same_bits (map (is_true a) ls) (map (is_true a) ms))
-carry_over-say a first [] [] long = sym (or-true (is_clause_true a first))
-carry_over-say a first [] (m ∷ ms) long = absurd (omega arith)
-carry_over-say a first (l ∷ ls) [] long = absurd (omega arith)
-carry_over-say a first (l ∷ ls) (m ∷ ms) long =
+equal_unless_any_true-say : (a : List Bool) (first ls ms : List Literal) → length ls ≡ length ms → satisfies a (equal_unless_any_true first ls ms) ≡ (is_clause_true a first || same_bits (map (is_true a) ls) (map (is_true a) ms))
+equal_unless_any_true-say a first [] [] long = sym (or-true (is_clause_true a first))
+equal_unless_any_true-say a first [] (m ∷ ms) long = absurd (omega arith)
+equal_unless_any_true-say a first (l ∷ ls) [] long = absurd (omega arith)
+equal_unless_any_true-say a first (l ∷ ls) (m ∷ ms) long =
     let one : is_clause_true a (first ++ negated_lit l ∷ m ∷ [])
     ≡ (is_clause_true a first || (not (is_true a l) || (is_true a m || false))) =
     list_any-append (is_true a) first (negated_lit l ∷ m ∷ [])
@@ -38,10 +38,8 @@ carry_over-say a first (l ∷ ls) (m ∷ ms) long =
     ≡ (is_clause_true a first || (is_true a l || (not (is_true a m) || false))) =
     list_any-append (is_true a) first (l ∷ negated_lit m ∷ [])
     ∙ ap (λ (p : Bool). is_clause_true a first || (is_true a l || (p || false))) (is_true-negated_lit a m) in
-    let rest = carry_over-say a first ls ms (omega arith) in
+    let rest = equal_unless_any_true-say a first ls ms (omega arith) in
     rw (one, two, rest) (pair_says (is_clause_true a first) (is_true a l) (is_true a m) (same_bits (map (is_true a) ls) (map (is_true a) ms)))
-
--- The carried literals of two columns agree exactly if the values are equal.
 
 values-differ : (j w x v : ℕ) → v ≤ w → w < v + j → (w ≡ x → ⊥) → same_bits (one_hot_bits w v j) (one_hot_bits x v j) ≡ false
 values-differ zero w x v low high ne = absurd (omega arith)
@@ -107,7 +105,7 @@ length-bound_bits (suc j) w k = ap suc (length-bound_bits j w (k + 1))
 same_length : (a : List Bool) (ls ms : List Literal) (ps qs : List Bool) → map (is_true a) ls ≡ ps → map (is_true a) ms ≡ qs → length ps ≡ length qs → length ls ≡ length ms
 same_length a ls ms ps qs one two long = sym (length-map ls (is_true a)) ∙ ap length one ∙ long ∙ sym (ap length two) ∙ length-map ms (is_true a)
 
-frame-say : (a : List Bool) (first : List Literal) (c d : VarLits) (range w x : ℕ) → w < range → x < range →
+frame-say : (a : List Bool) (first : List Literal) (c d : VarValueAndBoundLits) (range w x : ℕ) → w < range → x < range →
     map (is_true a) c.values ≡ one_hot_bits w 0 range →
     map (is_true a) c.bounds ≡ bound_bits w 1 (bound_count range) →
     map (is_true a) d.values ≡ one_hot_bits x 0 range →
@@ -117,15 +115,15 @@ frame-say a first c d range w x hw hx cv cb dv db =
     let one = lits_to_carry_over-say a c.values range w cv in
     let two = lits_to_carry_over-say a d.values range x dv in
     let n = bound_count range in
-    let values : satisfies a (carry_over first (lits_to_carry_over c.values) (lits_to_carry_over d.values)) ≡ (is_clause_true a first || eqb w x) =
-    carry_over-say a first (lits_to_carry_over c.values) (lits_to_carry_over d.values)
+    let values : satisfies a (equal_unless_any_true first (lits_to_carry_over c.values) (lits_to_carry_over d.values)) ≡ (is_clause_true a first || eqb w x) =
+    equal_unless_any_true-say a first (lits_to_carry_over c.values) (lits_to_carry_over d.values)
     (same_length a (lits_to_carry_over c.values) (lits_to_carry_over d.values) _ _ one two
     (length-carried_bits (eqb range 2) range w x))
     ∙ ap (λ (b : Bool). is_clause_true a first || b) (rw (one, two) (lits_to_carry_over-same range w x hw hx)) in
-    let bounds : satisfies a (carry_over first c.bounds d.bounds) ≡ (is_clause_true a first || same_bits (bound_bits w 1 n) (bound_bits x 1 n)) =
-    carry_over-say a first c.bounds d.bounds (same_length a c.bounds d.bounds _ _ cb db (length-bound_bits n w 1 ∙ sym (length-bound_bits n x 1))) ∙ rw (cb, db) refl in
-    list_all-append (is_clause_true a) (carry_over first (lits_to_carry_over c.values) (lits_to_carry_over d.values))
-    (carry_over first c.bounds d.bounds)
+    let bounds : satisfies a (equal_unless_any_true first c.bounds d.bounds) ≡ (is_clause_true a first || same_bits (bound_bits w 1 n) (bound_bits x 1 n)) =
+    equal_unless_any_true-say a first c.bounds d.bounds (same_length a c.bounds d.bounds _ _ cb db (length-bound_bits n w 1 ∙ sym (length-bound_bits n x 1))) ∙ rw (cb, db) refl in
+    list_all-append (is_clause_true a) (equal_unless_any_true first (lits_to_carry_over c.values) (lits_to_carry_over d.values))
+    (equal_unless_any_true first c.bounds d.bounds)
     ∙ rw (values, bounds)
     (sym
     (or-and_distrib_left (is_clause_true a first) (eqb w x)
@@ -133,7 +131,7 @@ frame-say a first c d range w x hw hx cv cb dv db =
     ∙ ap (λ (b : Bool). is_clause_true a first || b) (bounds-same range w x))
 
 pub frame_axioms-say :
-    (now next : List VarLits) (ranges ws xs : List ℕ) (a : List Bool) (rs : List PlainRule) (k v : ℕ) →
+    (now next : List VarValueAndBoundLits) (ranges ws xs : List ℕ) (a : List Bool) (rs : List PlainRule) (k v : ℕ) →
     length now ≡ length ranges → length next ≡ length ranges → in_ranges ws ranges ≡ true →
     in_ranges xs ranges ≡ true → LiteralsEncode a now ranges ws → LiteralsEncode a next ranges xs →
     satisfies a (frame_axioms rs k v now next) ≡ kept (λ u. is_clause_true a (setter_lits u k rs)) v ws xs
@@ -153,8 +151,6 @@ frame_axioms-say (c ∷ now) (d ∷ next) (r ∷ ranges) (w ∷ ws) (x ∷ xs) a
     let here = frame-say a (setter_lits v k rs) c d r w x less less_too sw.0 sw.1 sx.0 sx.1 in
     let rest = frame_axioms-say now next ranges ws xs a rs k (v + 1) (omega arith) (omega arith) parts.1 others.1 sw.2 sx.2 in
     list_all-append (is_clause_true a) (frame_axiom (setter_lits v k rs) c d) (frame_axioms rs k (v + 1) now next) ∙ rw (here, rest) refl
-
--- If one rule is chosen, the setters of a variable are true exactly if that rule sets it.
 
 setter_lits-none : (rs : List PlainRule) (a : List Bool) (v k r u : ℕ) → map (is_true a) (chosen_lits k (length rs)) ≡ one_hot_bits r u (length rs) → r < u → is_clause_true a (setter_lits v k rs) ≡ false
 setter_lits-none [] a v k r u h less = refl

@@ -9,7 +9,7 @@ use Rattle.ilk_base.proofs.Lengths.{longer}
 use Rattle.ilk_cnf.specs.Literal.{Literal, positive_lit}
 use Rattle.ilk_cnf.specs.Formula.{is_clause_over}
 use Rattle.ilk_cnf.specs.Truth.{value, is_true}
-use Rattle.ilk_cnf.specs.Extends.{ExtensionsAreExactly, PassesWithExactValues}
+use Rattle.ilk_cnf.specs.Extends.{ExtensionsAreExactly, PassesAndEqualsGivenValues}
 use Rattle.ilk_cnf.specs.Part.{FormulaPart, and_then}
 use Rattle.ilk_cnf.proofs.Literals.{is_clause_over-more, are_clauses_over-more}
 use Rattle.ilk_cnf.proofs.Parts.{value-left, is_true-left}
@@ -18,14 +18,14 @@ use Rattle.ilk_ints.specs.Named.{one_hot_bits}
 use Rattle.ilk_ir.specs.Tree.{is, tree_holds, tree_valid, value_valid, var_has_value}
 use Rattle.ilk_ir.specs.System.{PlainRule, rule_valid, sets_distinct_vars}
 use Rattle.ilk_ir.specs.declared.system.Setting.{Setting}
-use Rattle.ilk_forms.specs.declared.copy.VarLits.{VarLits}
+use Rattle.ilk_forms.specs.declared.copy.VarValueAndBoundLits.{VarValueAndBoundLits}
 use Rattle.ilk_forms.specs.Leaf.{has_lits_within_vars, ranges_of}
-use Rattle.ilk_forms.specs.Demand.{lit_or_form_part}
-use Rattle.ilk_forms.specs.Truths.{lit_or_form_bits}
+use Rattle.ilk_forms.specs.Demand.{some_lit_or_form_part}
+use Rattle.ilk_forms.specs.Truths.{some_lit_or_form_bits}
 use Rattle.ilk_forms.proofs.Reading.{Reads, reads-more, has_lits_within_vars-more}
 use Rattle.ilk_forms.proofs.DemandLaw.{PartFits, demand_of-fits, demand_of-law}
 use Rattle.ilk_step.specs.Choice.{chosen_lits}
-use Rattle.ilk_step.specs.Rules.{settings_part, rule_part, rules_part, rules_bits}
+use Rattle.ilk_step.specs.Rules.{settings_unless_skipped_part, rule_unless_skipped_part, rules_part, rules_bits}
 use Rattle.ilk_step.proofs.ChoiceLaw.{turned}
 use Rattle.ilk_step.proofs.Firing.{rule_met}
 
@@ -39,9 +39,9 @@ then-fits n p q one two =
     }
 
 pub then-law : (a e d : List Bool) (o ok : Bool) (n : ℕ) (p : FormulaPart) (q : ℕ → FormulaPart) → length a ≡ n →
-    PartFits n p → PartFits p.vars (q p.vars) → ExtensionsAreExactly a p.vars p.clauses (PassesWithExactValues o e) →
-    (length (a ++ e) ≡ p.vars → ExtensionsAreExactly (a ++ e) (q p.vars).vars (q p.vars).clauses (PassesWithExactValues ok d)) →
-    ExtensionsAreExactly a (and_then p q).vars (and_then p q).clauses (PassesWithExactValues (o && ok) (e ++ d))
+    PartFits n p → PartFits p.vars (q p.vars) → ExtensionsAreExactly a p.vars p.clauses (PassesAndEqualsGivenValues o e) →
+    (length (a ++ e) ≡ p.vars → ExtensionsAreExactly (a ++ e) (q p.vars).vars (q p.vars).clauses (PassesAndEqualsGivenValues ok d)) →
+    ExtensionsAreExactly a (and_then p q).vars (and_then p q).clauses (PassesAndEqualsGivenValues (o && ok) (e ++ d))
 then-law a e d o ok n p q size one two first next =
     if_then_if a e d o ok p.vars (q p.vars).vars p.clauses (q p.vars).clauses (rw size one.low) two.low one.inside first (λ yes. next (first.sized e (yes, refl)))
 
@@ -57,32 +57,32 @@ rule_valid-settings ranges r h = (and_parts (tree_valid ranges r.guard) (setting
 same : (n : ℕ) → n ≤ n
 same n = omega arith
 
-pub settings-fits : (sets : List Setting) (next : List VarLits) (skip : Literal) (n : ℕ) → has_lits_within_vars n next ≡ true → is_clause_over n (skip ∷ []) ≡ true → settings_valid (ranges_of next) sets ≡ true →
-    PartFits n (settings_part next skip sets n)
+pub settings-fits : (sets : List Setting) (next : List VarValueAndBoundLits) (skip : Literal) (n : ℕ) → has_lits_within_vars n next ≡ true → is_clause_over n (skip ∷ []) ≡ true → settings_valid (ranges_of next) sets ≡ true →
+    PartFits n (settings_unless_skipped_part next skip sets n)
 settings-fits [] next skip n h f k = record { low = same n; inside = refl }
 settings-fits (s ∷ sets) next skip n h f k =
     let parts = and_parts (value_valid (ranges_of next) s.var s.value) (settings_valid (ranges_of next) sets) k in
-    then-fits n (lit_or_form_part next (skip ∷ []) (is s.var s.value) n) (settings_part next skip sets) (demand_of-fits (is s.var s.value) next (skip ∷ []) true n h f parts.0) (settings-fits sets next skip n h f parts.1)
+    then-fits n (some_lit_or_form_part next (skip ∷ []) (is s.var s.value) n) (settings_unless_skipped_part next skip sets) (demand_of-fits (is s.var s.value) next (skip ∷ []) true n h f parts.0) (settings-fits sets next skip n h f parts.1)
 
-pub rule-fits : (r : PlainRule) (now next : List VarLits) (skip : Literal) (n : ℕ) → has_lits_within_vars n now ≡ true →
+pub rule-fits : (r : PlainRule) (now next : List VarValueAndBoundLits) (skip : Literal) (n : ℕ) → has_lits_within_vars n now ≡ true →
     has_lits_within_vars n next ≡ true → ranges_of next ≡ ranges_of now → is_clause_over n (skip ∷ []) ≡ true →
-    rule_valid (ranges_of now) r ≡ true → PartFits n (rule_part now next skip r n)
+    rule_valid (ranges_of now) r ≡ true → PartFits n (rule_unless_skipped_part now next skip r n)
 rule-fits r now next skip n hn hx same_ranges f k =
-    let p = lit_or_form_part now (skip ∷ []) r.guard n in
+    let p = some_lit_or_form_part now (skip ∷ []) r.guard n in
     let one = demand_of-fits r.guard now (skip ∷ []) true n hn f (rule_valid-guard (ranges_of now) r k) in
     let sets : settings_valid (ranges_of next) r.sets ≡ true = ap (λ (u : List ℕ). settings_valid u r.sets) same_ranges ∙ rule_valid-settings (ranges_of now) r k in
-    then-fits n p (settings_part next skip r.sets) one (settings-fits r.sets next skip p.vars (has_lits_within_vars-more n p.vars next one.low hx) (is_clause_over-more n p.vars (skip ∷ []) one.low f) sets)
+    then-fits n p (settings_unless_skipped_part next skip r.sets) one (settings-fits r.sets next skip p.vars (has_lits_within_vars-more n p.vars next one.low hx) (is_clause_over-more n p.vars (skip ∷ []) one.low f) sets)
 
 pub skip-in : (k n : ℕ) → 0 < k → k ≤ n → is_clause_over n (positive_lit k ∷ []) ≡ true
 skip-in k n low high = and_from _ _ (and_from _ _ (lt-ltb 0 k low) (le-leb k n high)) refl
 
-pub rules-fits : (rs : List PlainRule) (now next : List VarLits) (k n : ℕ) → has_lits_within_vars n now ≡ true →
+pub rules-fits : (rs : List PlainRule) (now next : List VarValueAndBoundLits) (k n : ℕ) → has_lits_within_vars n now ≡ true →
     has_lits_within_vars n next ≡ true → ranges_of next ≡ ranges_of now → 0 < k → k + length rs ≤ n + 1 →
     list_all (rule_valid (ranges_of now)) rs ≡ true → PartFits n (rules_part now next k rs n)
 rules-fits [] now next k n hn hx same_ranges low high valid = record { low = same n; inside = refl }
 rules-fits (r ∷ rs) now next k n hn hx same_ranges low high valid =
     let parts = and_parts (rule_valid (ranges_of now) r) (list_all (rule_valid (ranges_of now)) rs) valid in
-    let p = rule_part now next (positive_lit k) r n in
+    let p = rule_unless_skipped_part now next (positive_lit k) r n in
     let one = rule-fits r now next (positive_lit k) n hn hx same_ranges (skip-in k n low (omega arith)) parts.0 in
     let grows = one.low in
     then-fits n p (rules_part now next (k + 1) rs) one (rules-fits rs now next (k + 1) p.vars (has_lits_within_vars-more n p.vars now grows hn) (has_lits_within_vars-more n p.vars next grows hx) same_ranges (omega arith) (omega arith) parts.1)
@@ -92,41 +92,41 @@ also true h rest = refl
 also false h rest = refl
 
 pub settings-law :
-    (sets : List Setting) (next : List VarLits) (ranges xs : List ℕ) (skip : Literal) (a : List Bool) (n : ℕ) →
+    (sets : List Setting) (next : List VarValueAndBoundLits) (ranges xs : List ℕ) (skip : Literal) (a : List Bool) (n : ℕ) →
     length a ≡ n → Reads a next ranges xs → has_lits_within_vars n next ≡ true → is_clause_over n (skip ∷ []) ≡ true →
     settings_valid (ranges_of next) sets ≡ true →
-    ExtensionsAreExactly a (settings_part next skip sets n).vars (settings_part next skip sets n).clauses
-    (PassesWithExactValues (is_true a skip || list_all (λ s. var_has_value xs s.var s.value) sets) [])
+    ExtensionsAreExactly a (settings_unless_skipped_part next skip sets n).vars (settings_unless_skipped_part next skip sets n).clauses
+    (PassesAndEqualsGivenValues (is_true a skip || list_all (λ s. var_has_value xs s.var s.value) sets) [])
 settings-law [] next ranges xs skip a n size r h f k = no_more_if a n [] (is_true a skip || true) size (sym (or-true (is_true a skip)))
 settings-law (s ∷ sets) next ranges xs skip a n size r h f k =
     let parts = and_parts (value_valid (ranges_of next) s.var s.value) (settings_valid (ranges_of next) sets) k in
-    let p = lit_or_form_part next (skip ∷ []) (is s.var s.value) n in
-    let rest = settings_part next skip sets n in
+    let p = some_lit_or_form_part next (skip ∷ []) (is s.var s.value) n in
+    let rest = settings_unless_skipped_part next skip sets n in
     let x = is_true a skip in
     let here = var_has_value xs s.var s.value in
     let others = list_all (λ (t : Setting). var_has_value xs t.var t.value) sets in
     let law = settings-law sets next ranges xs skip a n size r h f parts.1 in
-    let moved : ExtensionsAreExactly (a ++ []) rest.vars rest.clauses (PassesWithExactValues (x || others) []) = subst
-    (λ (u : List Bool). ExtensionsAreExactly u rest.vars rest.clauses (PassesWithExactValues (x || others) [])) (sym (append-nil a)) law in
-    subst (λ (b : Bool). ExtensionsAreExactly a rest.vars (p.clauses ++ rest.clauses) (PassesWithExactValues b [])) (also x here others)
-    (then-law a [] [] ((x || false) || here) (x || others) n p (settings_part next skip sets) size
+    let moved : ExtensionsAreExactly (a ++ []) rest.vars rest.clauses (PassesAndEqualsGivenValues (x || others) []) = subst
+    (λ (u : List Bool). ExtensionsAreExactly u rest.vars rest.clauses (PassesAndEqualsGivenValues (x || others) [])) (sym (append-nil a)) law in
+    subst (λ (b : Bool). ExtensionsAreExactly a rest.vars (p.clauses ++ rest.clauses) (PassesAndEqualsGivenValues b [])) (also x here others)
+    (then-law a [] [] ((x || false) || here) (x || others) n p (settings_unless_skipped_part next skip sets) size
     (demand_of-fits (is s.var s.value) next (skip ∷ []) true n h f parts.0)
     (settings-fits sets next skip n h f parts.1)
     (demand_of-law (is s.var s.value) next ranges xs (skip ∷ []) true a n size r f parts.0)
     (λ _. moved))
 
 pub rule-law :
-    (r : PlainRule) (now next : List VarLits) (ws xs : List ℕ) (skip : Literal) (a : List Bool) (n : ℕ) →
+    (r : PlainRule) (now next : List VarValueAndBoundLits) (ws xs : List ℕ) (skip : Literal) (a : List Bool) (n : ℕ) →
     length a ≡ n → Reads a now (ranges_of now) ws → Reads a next (ranges_of now) xs →
     has_lits_within_vars n now ≡ true → has_lits_within_vars n next ≡ true → ranges_of next ≡ ranges_of now →
     is_clause_over n (skip ∷ []) ≡ true → rule_valid (ranges_of now) r ≡ true →
-    ExtensionsAreExactly a (rule_part now next skip r n).vars (rule_part now next skip r n).clauses
-    (PassesWithExactValues (is_true a skip || rule_met ws xs r) (lit_or_form_bits (ranges_of now) ws r.guard))
+    ExtensionsAreExactly a (rule_unless_skipped_part now next skip r n).vars (rule_unless_skipped_part now next skip r n).clauses
+    (PassesAndEqualsGivenValues (is_true a skip || rule_met ws xs r) (some_lit_or_form_bits (ranges_of now) ws r.guard))
 rule-law r now next ws xs skip a n size rn rx hn hx same_ranges f k =
-    let p = lit_or_form_part now (skip ∷ []) r.guard n in
-    let e = lit_or_form_bits (ranges_of now) ws r.guard in
+    let p = some_lit_or_form_part now (skip ∷ []) r.guard n in
+    let e = some_lit_or_form_bits (ranges_of now) ws r.guard in
     let m = p.vars in
-    let rest = settings_part next skip r.sets m in
+    let rest = settings_unless_skipped_part next skip r.sets m in
     let x = is_true a skip in
     let guard_valid = rule_valid-guard (ranges_of now) r k in
     let one = demand_of-fits r.guard now (skip ∷ []) true n hn f guard_valid in
@@ -137,19 +137,18 @@ rule-law r now next ws xs skip a n size rn rx hn hx same_ranges f k =
     let skip_in = is_clause_over-more n m (skip ∷ []) grows f in
     let skip_var : skip.var ≤ length a = rw size (leb-true _ _ (and_parts _ _ (and_parts _ _ f).0).1) in
     let old : is_true (a ++ e) skip ≡ x = is_true-left a e skip skip_var in
-    let second : length (a ++ e) ≡ m → ExtensionsAreExactly (a ++ e) rest.vars rest.clauses (PassesWithExactValues (x || met) []) = λ long.
-    subst (λ (b : Bool). ExtensionsAreExactly (a ++ e) rest.vars rest.clauses (PassesWithExactValues (b || met) [])) old
+    let second : length (a ++ e) ≡ m → ExtensionsAreExactly (a ++ e) rest.vars rest.clauses (PassesAndEqualsGivenValues (x || met) []) = λ long.
+    subst (λ (b : Bool). ExtensionsAreExactly (a ++ e) rest.vars rest.clauses (PassesAndEqualsGivenValues (b || met) [])) old
     (settings-law r.sets next (ranges_of now) xs skip (a ++ e) m long (reads-more a e next (ranges_of now) xs (longer a e) rx) next_in skip_in sets) in
-    let both = then-law a e [] ((x || false) || rule_guard) (x || met) n p (settings_part next skip r.sets)
+    let both = then-law a e [] ((x || false) || rule_guard) (x || met) n p (settings_unless_skipped_part next skip r.sets)
     size one (settings-fits r.sets next skip m next_in skip_in sets)
     (demand_of-law r.guard now (ranges_of now) ws (skip ∷ []) true a n size rn f guard_valid) second in
-    let said = subst (λ (b : Bool). ExtensionsAreExactly a rest.vars (p.clauses ++ rest.clauses) (PassesWithExactValues b (e ++ []))) (also x rule_guard met) both in
-    subst (λ (d : List Bool). ExtensionsAreExactly a rest.vars (p.clauses ++ rest.clauses) (PassesWithExactValues (x || rule_met ws xs r) d)) (append-nil e) said
+    let said = subst (λ (b : Bool). ExtensionsAreExactly a rest.vars (p.clauses ++ rest.clauses) (PassesAndEqualsGivenValues b (e ++ []))) (also x rule_guard met) both in
+    subst (λ (d : List Bool). ExtensionsAreExactly a rest.vars (p.clauses ++ rest.clauses) (PassesAndEqualsGivenValues (x || rule_met ws xs r) d)) (append-nil e) said
   where
     rule_guard : Bool
     rule_guard = tree_holds ws r.guard
 
--- Returns whether each chosen rule is met.
 abbrev pub all_met : List Bool → ℕ → List ℕ → List ℕ → List PlainRule → Bool
 all_met a k ws xs [] = true
 all_met a k ws xs (r ∷ rs) = (value a k || rule_met ws xs r) && all_met a (k + 1) ws xs rs
@@ -162,18 +161,18 @@ all_met-left (r ∷ rs) a e k ws xs h =
     rw (here, rest) refl
 
 pub rules-law :
-    (rs : List PlainRule) (now next : List VarLits) (ws xs : List ℕ) (k : ℕ) (a : List Bool) (n : ℕ) →
+    (rs : List PlainRule) (now next : List VarValueAndBoundLits) (ws xs : List ℕ) (k : ℕ) (a : List Bool) (n : ℕ) →
     length a ≡ n → Reads a now (ranges_of now) ws → Reads a next (ranges_of now) xs →
     has_lits_within_vars n now ≡ true → has_lits_within_vars n next ≡ true → ranges_of next ≡ ranges_of now → 0 < k →
     k + length rs ≤ n + 1 → list_all (rule_valid (ranges_of now)) rs ≡ true →
     ExtensionsAreExactly a (rules_part now next k rs n).vars (rules_part now next k rs n).clauses
-    (PassesWithExactValues (all_met a k ws xs rs) (rules_bits (ranges_of now) ws rs))
+    (PassesAndEqualsGivenValues (all_met a k ws xs rs) (rules_bits (ranges_of now) ws rs))
 rules-law [] now next ws xs k a n size rn rx hn hx same_ranges low high valid = no_more_if a n [] true size refl
 rules-law (r ∷ rs) now next ws xs k a n size rn rx hn hx same_ranges low high valid =
     let parts = and_parts (rule_valid (ranges_of now) r) (list_all (rule_valid (ranges_of now)) rs) valid in
-    let p = rule_part now next (positive_lit k) r n in
+    let p = rule_unless_skipped_part now next (positive_lit k) r n in
     let m = p.vars in
-    let e = lit_or_form_bits (ranges_of now) ws r.guard in
+    let e = some_lit_or_form_bits (ranges_of now) ws r.guard in
     let rest = rules_part now next (k + 1) rs m in
     let skip_in = skip-in k n low (omega arith) in
     let one = rule-fits r now next (positive_lit k) n hn hx same_ranges skip_in parts.0 in
@@ -183,9 +182,9 @@ rules-law (r ∷ rs) now next ws xs k a n size rn rx hn hx same_ranges low high 
     let fits : k + 1 + length rs ≤ m + 1 = omega arith in
     let more : 0 < k + 1 = omega arith in
     let old : all_met (a ++ e) (k + 1) ws xs rs ≡ all_met a (k + 1) ws xs rs = all_met-left rs a e (k + 1) ws xs (rw size (omega arith)) in
-    let second : length (a ++ e) ≡ m → ExtensionsAreExactly (a ++ e) rest.vars rest.clauses (PassesWithExactValues (all_met a (k + 1) ws xs rs) (rules_bits (ranges_of now) ws rs)) = λ long.
+    let second : length (a ++ e) ≡ m → ExtensionsAreExactly (a ++ e) rest.vars rest.clauses (PassesAndEqualsGivenValues (all_met a (k + 1) ws xs rs) (rules_bits (ranges_of now) ws rs)) = λ long.
     subst
-    (λ (b : Bool). ExtensionsAreExactly (a ++ e) rest.vars rest.clauses (PassesWithExactValues b (rules_bits (ranges_of now) ws rs)))
+    (λ (b : Bool). ExtensionsAreExactly (a ++ e) rest.vars rest.clauses (PassesAndEqualsGivenValues b (rules_bits (ranges_of now) ws rs)))
     old
     (rules-law rs now next ws xs (k + 1) (a ++ e) m long
     (reads-more a e now (ranges_of now) ws (longer a e) rn)

@@ -10,14 +10,14 @@ use Rattle.ilk_base.proofs.Lists.{item_at}
 use Rattle.ilk_base.proofs.Tested.{list_all-slice_get}
 use Rattle.ilk_cnf.specs.Formula.{is_clause_over}
 use Rattle.ilk_cnf.specs.Truth.{is_true, is_clause_true, satisfies}
-use Rattle.ilk_cnf.specs.Extends.{ExtensionsAreExactly, PassesWithExactValues, ValuesFollowedBy}
+use Rattle.ilk_cnf.specs.Extends.{ExtensionsAreExactly, PassesAndEqualsGivenValues, AreValuesOfConsecutiveParts}
 use Rattle.ilk_cnf.specs.Part.{FormulaPart, and_then}
 use Rattle.ilk_cnf.proofs.Parts.{in_turn, in_words}
 use Rattle.ilk_cnf.proofs.Extending.{no_more_if}
 use Rattle.ilk_ints.specs.Named.{one_hot_bits}
 use Rattle.ilk_ints.proofs.OneOfLaw.{map-left}
 use Rattle.ilk_ir.specs.System.{PlainRule, rule_valid, after_rule, in_ranges}
-use Rattle.ilk_forms.specs.declared.copy.VarLits.{VarLits}
+use Rattle.ilk_forms.specs.declared.copy.VarValueAndBoundLits.{VarValueAndBoundLits}
 use Rattle.ilk_forms.specs.Copy.{LiteralsEncode}
 use Rattle.ilk_forms.specs.Leaf.{has_lits_within_vars, ranges_of}
 use Rattle.ilk_forms.proofs.Reading.{Reads, reads, has_lits_within_vars-more}
@@ -32,7 +32,7 @@ use Rattle.ilk_step.proofs.FrameLaw.{frame_axioms-say, setter_lits-say}
 use Rattle.ilk_step.proofs.FrameSteps.{frame_axioms-in}
 use Rattle.ilk_step.proofs.RulesLaw.{then-fits, then-law, rules-fits, rules-law, one_met}
 
-pub says-left : (columns : List VarLits) (ranges ws : List ℕ) (a e : List Bool) (n : ℕ) → length a ≡ n → has_lits_within_vars n columns ≡ true → LiteralsEncode a columns ranges ws → LiteralsEncode (a ++ e) columns ranges ws
+pub says-left : (columns : List VarValueAndBoundLits) (ranges ws : List ℕ) (a e : List Bool) (n : ℕ) → length a ≡ n → has_lits_within_vars n columns ≡ true → LiteralsEncode a columns ranges ws → LiteralsEncode (a ++ e) columns ranges ws
 says-left [] ranges ws a e n size inside h = tt
 says-left (column ∷ columns) [] ws a e n size inside h = absurd h
 says-left (column ∷ columns) (range ∷ ranges) [] a e n size inside h = absurd h
@@ -44,8 +44,7 @@ says-left (column ∷ columns) (range ∷ ranges) (w ∷ ws) a e n size inside h
       says-left columns ranges ws a e n size parts.1 h.2,
     )
 
--- Two copies with the same ranges, and the values that their literals say.
-pub record Copies (a : List Bool) (n : ℕ) (now next : List VarLits) (ws xs : List ℕ) : Type 0 where
+pub record Copies (a : List Bool) (n : ℕ) (now next : List VarValueAndBoundLits) (ws xs : List ℕ) : Type 0 where
   pub size : length a ≡ n
   pub now_in : has_lits_within_vars n now ≡ true
   pub next_in : has_lits_within_vars n next ≡ true
@@ -53,7 +52,7 @@ pub record Copies (a : List Bool) (n : ℕ) (now next : List VarLits) (ws xs : L
   pub now_say : LiteralsEncode a now (ranges_of now) ws
   pub next_say : LiteralsEncode a next (ranges_of now) xs
 
-copies-left : (a e : List Bool) (n m : ℕ) (now next : List VarLits) (ws xs : List ℕ) → n ≤ m → length (a ++ e) ≡ m → Copies a n now next ws xs → Copies (a ++ e) m now next ws xs
+copies-left : (a e : List Bool) (n m : ℕ) (now next : List VarValueAndBoundLits) (ws xs : List ℕ) → n ≤ m → length (a ++ e) ≡ m → Copies a n now next ws xs → Copies (a ++ e) m now next ws xs
 copies-left a e n m now next ws xs le size c = record {
   size = size;
   now_in = has_lits_within_vars-more n m now le c.now_in;
@@ -63,18 +62,16 @@ copies-left a e n m now next ws xs le size c = record {
   next_say = says-left next (ranges_of now) xs a e n c.size c.next_in c.next_say;
 }
 
-frame_axioms-fits : (rs : List PlainRule) (now next : List VarLits) (k n : ℕ) → 0 < k → k + length rs ≤ n + 1 → has_lits_within_vars n now ≡ true → has_lits_within_vars n next ≡ true → PartFits n (frame_axioms_part rs k now next n)
+frame_axioms-fits : (rs : List PlainRule) (now next : List VarValueAndBoundLits) (k n : ℕ) → 0 < k → k + length rs ≤ n + 1 → has_lits_within_vars n now ≡ true → has_lits_within_vars n next ≡ true → PartFits n (frame_axioms_part rs k now next n)
 frame_axioms-fits rs now next k n low high h x = record { low = omega arith; inside = frame_axioms-in now next rs k 0 n low high h x }
 
--- The part that follows the choice of a rule.
-abbrev pub after_choice : List PlainRule → List VarLits → List VarLits → ℕ → ℕ → FormulaPart
+abbrev pub after_choice : List PlainRule → List VarValueAndBoundLits → List VarValueAndBoundLits → ℕ → ℕ → FormulaPart
 after_choice rs now next k m = and_then (rules_part now next k rs m) (frame_axioms_part rs k now next)
 
--- Returns whether the rule is met, and everything that it does not set is unchanged.
 abbrev pub leads : List ℕ → List ℕ → PlainRule → Bool
 leads ws xs rule = rule_met ws xs rule && kept (λ v. sets_variable v rule.sets) 0 ws xs
 
-after-fits : (rs : List PlainRule) (now next : List VarLits) (k m : ℕ) → has_lits_within_vars m now ≡ true →
+after-fits : (rs : List PlainRule) (now next : List VarValueAndBoundLits) (k m : ℕ) → has_lits_within_vars m now ≡ true →
     has_lits_within_vars m next ≡ true → ranges_of next ≡ ranges_of now → 0 < k → k + length rs ≤ m + 1 →
     list_all (rule_valid (ranges_of now)) rs ≡ true → PartFits m (after_choice rs now next k m)
 after-fits rs now next k m hn hx same low high valid =
@@ -85,14 +82,14 @@ after-fits rs now next k m hn hx same low high valid =
     then-fits m p (frame_axioms_part rs k now next) one (frame_axioms-fits rs now next k p.vars low fits (has_lits_within_vars-more m p.vars now grows hn) (has_lits_within_vars-more m p.vars next grows hx))
 
 after-law :
-    (rs : List PlainRule) (now next : List VarLits) (ws xs : List ℕ) (a : List Bool) (k m r : ℕ)
+    (rs : List PlainRule) (now next : List VarValueAndBoundLits) (ws xs : List ℕ) (a : List Bool) (k m r : ℕ)
     (rule : PlainRule) →
     Copies a m now next ws xs → 0 < k → k + length rs ≤ m + 1 →
     list_all (rule_valid (ranges_of now)) rs ≡ true → in_ranges ws (ranges_of now) ≡ true →
     in_ranges xs (ranges_of now) ≡ true →
     map (is_true a) (chosen_lits k (length rs)) ≡ one_hot_bits r 0 (length rs) → slice_get rs r ≡ Some rule →
     ExtensionsAreExactly a (after_choice rs now next k m).vars (after_choice rs now next k m).clauses
-    (PassesWithExactValues (leads ws xs rule) (rules_bits (ranges_of now) ws rs))
+    (PassesAndEqualsGivenValues (leads ws xs rule) (rules_bits (ranges_of now) ws rs))
 after-law rs now next ws xs a k m r rule c low high valid hw hx chosen at =
     let p = rules_part now next k rs m in
     let e = rules_bits (ranges_of now) ws rs in
@@ -105,16 +102,16 @@ after-law rs now next ws xs a k m r rule c low high valid hw hx chosen at =
     let rx : Reads a next (ranges_of now) xs = reads a next (ranges_of now) xs m c.size c.next_in c.next_say hx in
     let place : r ≡ 0 + r = omega arith in
     let here : map (is_true a) (chosen_lits k (length rs)) ≡ one_hot_bits (0 + r) 0 (length rs) = chosen ∙ ap (λ (i : ℕ). one_hot_bits i 0 (length rs)) place in
-    let first : ExtensionsAreExactly a p.vars p.clauses (PassesWithExactValues met e) = subst
-    (λ (b : Bool). ExtensionsAreExactly a p.vars p.clauses (PassesWithExactValues b e)) (one_met rs a k r 0 rule ws xs here at)
+    let first : ExtensionsAreExactly a p.vars p.clauses (PassesAndEqualsGivenValues met e) = subst
+    (λ (b : Bool). ExtensionsAreExactly a p.vars p.clauses (PassesAndEqualsGivenValues b e)) (one_met rs a k r 0 rule ws xs here at)
     (rules-law rs now next ws xs k a m c.size rn rx c.now_in c.next_in c.same low high valid) in
-    let second : length (a ++ e) ≡ p.vars → ExtensionsAreExactly (a ++ e) p.vars (frame_axioms rs k 0 now next) (PassesWithExactValues keeps []) = λ long.
+    let second : length (a ++ e) ≡ p.vars → ExtensionsAreExactly (a ++ e) p.vars (frame_axioms rs k 0 now next) (PassesAndEqualsGivenValues keeps []) = λ long.
     let d = copies-left a e m p.vars now next ws xs grows long c in
     let inside : is_clause_over m (chosen_lits k (length rs)) ≡ true = chosen_lits-in (length rs) k m low high in
     let size = c.size in
     let still : map (is_true (a ++ e)) (chosen_lits k (length rs)) ≡ one_hot_bits (0 + r) 0 (length rs) = map-left a e (chosen_lits k (length rs)) (rw size inside) ∙ here in
-    let now_long : length now ≡ length (ranges_of now) = sym (length-map now (λ (column : VarLits). length column.values)) in
-    let next_long : length next ≡ length (ranges_of now) = sym (length-map next (λ (column : VarLits). length column.values)) ∙ ap length c.same in
+    let now_long : length now ≡ length (ranges_of now) = sym (length-map now (λ (column : VarValueAndBoundLits). length column.values)) in
+    let next_long : length next ≡ length (ranges_of now) = sym (length-map next (λ (column : VarValueAndBoundLits). length column.values)) ∙ ap length c.same in
     let says : satisfies (a ++ e) (frame_axioms rs k 0 now next) ≡ keeps =
     frame_axioms-say now next (ranges_of now) ws xs (a ++ e) rs k 0 now_long next_long hw hx d.now_say
     d.next_say
@@ -123,9 +120,9 @@ after-law rs now next ws xs a k m r rule c low high valid hw hx chosen at =
     no_more_if (a ++ e) p.vars (frame_axioms rs k 0 now next) keeps long says in
     let both = then-law a e [] met keeps m p (frame_axioms_part rs k now next) c.size one
     (frame_axioms-fits rs now next k p.vars low fits (has_lits_within_vars-more m p.vars now grows c.now_in) (has_lits_within_vars-more m p.vars next grows c.next_in)) first second in
-    subst (λ (d : List Bool). ExtensionsAreExactly a p.vars (p.clauses ++ frame_axioms rs k 0 now next) (PassesWithExactValues (met && keeps) d)) (append-nil e) both
+    subst (λ (d : List Bool). ExtensionsAreExactly a p.vars (p.clauses ++ frame_axioms rs k 0 now next) (PassesAndEqualsGivenValues (met && keeps) d)) (append-nil e) both
 
-pub step-fits : (rules : List PlainRule) (now next : List VarLits) (n : ℕ) → has_lits_within_vars n now ≡ true →
+pub step-fits : (rules : List PlainRule) (now next : List VarValueAndBoundLits) (n : ℕ) → has_lits_within_vars n now ≡ true →
     has_lits_within_vars n next ≡ true → ranges_of next ≡ ranges_of now →
     list_all (rule_valid (ranges_of now)) rules ≡ true → PartFits n (step_part rules now next n)
 step-fits rules now next n hn hx same valid =
@@ -137,7 +134,7 @@ step-fits rules now next n hn hx same valid =
     then-fits n p (after_choice rules now next (n + 1)) first
     (after-fits rules now next (n + 1) p.vars (has_lits_within_vars-more n p.vars now more hn) (has_lits_within_vars-more n p.vars next more hx) same (omega arith) (omega (arith, grows)) valid)
 
-pub step-law : (rules : List PlainRule) (now next : List VarLits) (ws xs : List ℕ) (a : List Bool) (n : ℕ) →
+pub step-law : (rules : List PlainRule) (now next : List VarValueAndBoundLits) (ws xs : List ℕ) (a : List Bool) (n : ℕ) →
     Copies a n now next ws xs → list_all (rule_valid (ranges_of now)) rules ≡ true →
     in_ranges ws (ranges_of now) ≡ true → in_ranges xs (ranges_of now) ≡ true →
     ExtensionsAreExactly a (step_part rules now next n).vars (step_part rules now next n).clauses
@@ -167,7 +164,7 @@ step-law rules now next ws xs a n c valid hw hx =
     fits = after-fits rules now next (n + 1) p.vars (has_lits_within_vars-more n p.vars now more c.now_in) (has_lits_within_vars-more n p.vars next more c.next_in) c.same (omega arith) reach valid
 
     after : (b : List Bool) → AreChoiceBits count b → List Bool → Type 0
-    after b h = PassesWithExactValues (leads ws xs (item_at rules h.0 h.1).0) (rules_bits (ranges_of now) ws rules)
+    after b h = PassesAndEqualsGivenValues (leads ws xs (item_at rules h.0 h.1).0) (rules_bits (ranges_of now) ws rules)
 
     first : ExtensionsAreExactly a p.vars p.clauses (AreChoiceBits count)
     first = choice-law a count n c.size
@@ -179,7 +176,7 @@ step-law rules now next ws xs a n c valid hw hx =
         let chosen : map (is_true (a ++ b)) (chosen_lits (n + 1) count) ≡ one_hot_bits h.0 0 count = subst (λ (u : List Bool). map (is_true u) (chosen_lits (n + 1) count) ≡ one_hot_bits h.0 0 count) whole (choice-says a [] count h.0 n c.size) in
         after-law rules now next ws xs (a ++ b) (n + 1) p.vars h.0 (item_at rules h.0 h.1).0 (copies-left a b n p.vars now next ws xs more long c) (omega arith) reach valid hw hx chosen (item_at rules h.0 h.1).1
 
-    to : (d : List Bool) → ValuesFollowedBy (AreChoiceBits count) after d → AreStepBits (ranges_of now) rules ws xs d
+    to : (d : List Bool) → AreValuesOfConsecutiveParts (AreChoiceBits count) after d → AreStepBits (ranges_of now) rules ws xs d
     to d h =
         let r = h.3.0 in
         let item = item_at rules r h.3.1 in
@@ -187,10 +184,10 @@ step-law rules now next ws xs a n c valid hw hx =
         let fires : after_rule item.0 ws ≡ Some xs = met-after_rule item.0 ws xs (ranges_of now) hw hx parts.0 parts.1 in
         (r, ap (λ (o : Option PlainRule). option_and_then (λ rule. after_rule rule ws) o) item.1 ∙ fires, h.2 ∙ ap (λ (u : List Bool). u ++ h.1) h.3.2 ∙ ap (λ (u : List Bool). choice_bits count r ++ u) h.4.1)
 
-    from : (d : List Bool) → AreStepBits (ranges_of now) rules ws xs d → ValuesFollowedBy (AreChoiceBits count) after d
+    from : (d : List Bool) → AreStepBits (ranges_of now) rules ws xs d → AreValuesOfConsecutiveParts (AreChoiceBits count) after d
     from d h = by_case (slice_get rules h.0) refl h.1
       where
-        by_case : (o : Option PlainRule) → slice_get rules h.0 ≡ o → option_and_then (λ rule. after_rule rule ws) o ≡ Some xs → ValuesFollowedBy (AreChoiceBits count) after d
+        by_case : (o : Option PlainRule) → slice_get rules h.0 ≡ o → option_and_then (λ rule. after_rule rule ws) o ≡ Some xs → AreValuesOfConsecutiveParts (AreChoiceBits count) after d
         by_case None is fires = absurd cc
         by_case (Some rule) is fires =
             let less : h.0 < length rules = slice_get_within rules h.0 rule is in

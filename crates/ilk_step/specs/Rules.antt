@@ -1,31 +1,35 @@
--- The demands of a chosen rule: its guard in the current copy, its settings in the next.
+-- The demands of a chosen rule: its guard holds before the step, its settings after it.
 use Rattle.std.specs.Prelude.{ℕ, ◌+◌, Bool, List, [], ◌∷◌, ◌++◌}
 use Rattle.ilk_cnf.specs.Literal.{Literal, positive_lit}
 use Rattle.ilk_cnf.specs.Part.{FormulaPart, empty_part, and_then}
 use Rattle.ilk_ir.specs.Tree.{is}
 use Rattle.ilk_ir.specs.System.{PlainRule}
 use Rattle.ilk_ir.specs.declared.system.Setting.{Setting}
-use Rattle.ilk_forms.specs.declared.copy.VarLits.{VarLits}
-use Rattle.ilk_forms.specs.Demand.{lit_or_form_part}
-use Rattle.ilk_forms.specs.Truths.{lit_or_form_bits}
+use Rattle.ilk_forms.specs.declared.copy.VarValueAndBoundLits.{VarValueAndBoundLits}
+use Rattle.ilk_forms.specs.Demand.{some_lit_or_form_part}
+use Rattle.ilk_forms.specs.Truths.{some_lit_or_form_bits}
 
--- The demand for each setting, after `n` variables: `skip` is true, or the next copy has the value.
-abbrev pub settings_part : List VarLits → Literal → List Setting → ℕ → FormulaPart
-settings_part next skip [] n = empty_part n
-settings_part next skip (s ∷ ss) n =
-    and_then (lit_or_form_part next (skip ∷ []) (is s.var s.value) n) (settings_part next skip ss)
+-- The part of a formula, after `n` variables, that says: `skip` is true, or the settings hold after
+-- the step (`next`).
+abbrev pub settings_unless_skipped_part : List VarValueAndBoundLits → Literal → List Setting → ℕ → FormulaPart
+settings_unless_skipped_part next skip [] n = empty_part n
+settings_unless_skipped_part next skip (s ∷ ss) n =
+    and_then (some_lit_or_form_part next (skip ∷ []) (is s.var s.value) n) (settings_unless_skipped_part next skip ss)
 
--- The demand that `skip` is true, or the rule's guard holds in `now` and its settings are in
--- `next`.
-abbrev pub rule_part : List VarLits → List VarLits → Literal → PlainRule → ℕ → FormulaPart
-rule_part now next skip r n = and_then (lit_or_form_part now (skip ∷ []) r.guard n) (settings_part next skip r.sets)
+-- The part of a formula, after `n` variables, that says: `skip` is true, or the rule's guard holds
+-- before the step (`now`) and its settings hold after it (`next`).
+abbrev pub rule_unless_skipped_part : List VarValueAndBoundLits → List VarValueAndBoundLits → Literal → PlainRule → ℕ → FormulaPart
+rule_unless_skipped_part now next skip r n = and_then (some_lit_or_form_part now (skip ∷ []) r.guard n) (settings_unless_skipped_part next skip r.sets)
 
--- The same for each rule; the variables from `k` on say which rules are not chosen.
-abbrev pub rules_part : List VarLits → List VarLits → ℕ → List PlainRule → ℕ → FormulaPart
+-- The part of a formula, after `n` variables, that says for each rule: it is not chosen, or its
+-- guard holds before the step (`now`) and its settings hold after it (`next`). The variables that
+-- choose a rule begin at `k`.
+abbrev pub rules_part : List VarValueAndBoundLits → List VarValueAndBoundLits → ℕ → List PlainRule → ℕ → FormulaPart
 rules_part now next k [] n = empty_part n
-rules_part now next k (r ∷ rs) n = and_then (rule_part now next (positive_lit k) r n) (rules_part now next (k + 1) rs)
+rules_part now next k (r ∷ rs) n = and_then (rule_unless_skipped_part now next (positive_lit k) r n) (rules_part now next (k + 1) rs)
 
--- The values of the new variables, if the current copy has these ranges and the values `ws`.
+-- The values of the variables that `rules_part` adds, if the system has the values `ws` before the
+-- step.
 abbrev pub rules_bits : List ℕ → List ℕ → List PlainRule → List Bool
 rules_bits ranges ws [] = []
-rules_bits ranges ws (r ∷ rs) = lit_or_form_bits ranges ws r.guard ++ rules_bits ranges ws rs
+rules_bits ranges ws (r ∷ rs) = some_lit_or_form_bits ranges ws r.guard ++ rules_bits ranges ws rs

@@ -1,26 +1,29 @@
--- One step of a system, from one copy of its values to the next, by exactly one rule.
+-- One step of a system by exactly one rule.
 use Rattle.std.specs.Prelude.{ℕ, ◌+◌, ◌≡◌, Bool, List, ◌++◌, length, Option, Some, slice_get, option_and_then}
 use Rattle.ilk_cnf.specs.Part.{FormulaPart, and_then}
 use Rattle.ilk_ir.specs.System.{PlainRule, after_rule}
-use Rattle.ilk_forms.specs.declared.copy.VarLits.{VarLits}
+use Rattle.ilk_forms.specs.declared.copy.VarValueAndBoundLits.{VarValueAndBoundLits}
 use Rattle.ilk_step.specs.Choice.{choice_part, choice_bits}
 use Rattle.ilk_step.specs.Rules.{rules_part, rules_bits}
 use Rattle.ilk_step.specs.Frame.{frame_axioms_part}
 
--- The step after `n` variables: the choice of a rule, the demands of chosen rules, and the frames.
-abbrev pub step_part : List PlainRule → List VarLits → List VarLits → ℕ → FormulaPart
+-- The part of a formula that adds one step to `n` variables: the choice of a rule, the demands of
+-- the chosen rule, and the frame axioms.
+abbrev pub step_part : List PlainRule → List VarValueAndBoundLits → List VarValueAndBoundLits → ℕ → FormulaPart
 step_part rules now next n =
     and_then (choice_part (length rules) n) (λ m. and_then (rules_part now next (n + 1) rules m) (frame_axioms_part rules (n + 1) now next))
 
--- The values after rule number `r`, if its guard holds.
+-- The values after rule number `r`, from the values `ws`. It is `None` if its guard doesn't hold or
+-- there is no such rule.
 abbrev pub values_after_rule : List PlainRule → List ℕ → ℕ → Option (List ℕ)
 values_after_rule rules ws r = option_and_then (λ rule. after_rule rule ws) (slice_get rules r)
 
--- The values of the step's variables, if rule `r` is chosen and the current copy has these ranges
--- and the values `ws`.
+-- The values of the variables that `step_part` adds, if rule number `r` is chosen and the system
+-- has the values `ws` before the step.
 abbrev pub step_bits : List ℕ → List PlainRule → List ℕ → ℕ → List Bool
 step_bits ranges rules ws r = choice_bits (length rules) r ++ rules_bits ranges ws rules
 
--- Holds if `b` are the values for some rule that leads from `ws` to `xs`.
+-- Holds if `b` has the values of the variables that `step_part` adds, for some rule that leads from
+-- the values `ws` to `xs`.
 abbrev pub AreStepBits : List ℕ → List PlainRule → List ℕ → List ℕ → List Bool → Type 0
 AreStepBits ranges rules ws xs b = (r : ℕ) × (values_after_rule rules ws r ≡ Some xs) × (b ≡ step_bits ranges rules ws r)

@@ -1,14 +1,14 @@
 ghost use Rattle.std.specs.Prelude.{◌≡◌, ℕ, ◌+◌, ◌≤◌, ◌^◌, List, Bool, length, OnOk, IfOk};
 ghost use Rattle.ilk_cnf.specs.Extends.{PartExtensionsAreExactly};
 ghost use Rattle.ilk_cnf.specs.Part.{with_part};
-ghost use Rattle.ilk_step.specs.Choice.{chosen_lits, new_variables, choice_part, AreChoiceBits, Chooses};
+ghost use Rattle.ilk_step.specs.Choice.{chosen_lits, new_variables_part, choice_part, AreChoiceBits, Chooses};
 
 use ilk_cnf::{Assignment, Clause, Cnf, Lit};
 use ilk_ints::one_of;
 use std::alloc::{AllocError, Global};
 
-/// The variables that say which rule of a step is chosen: one for each of `rules` rules, from
-/// `first` on, true if its rule is not chosen.
+/// The variables that choose one of `rules` rules in a step: one for each rule, numbered from
+/// `first`. A variable is true if its rule is not chosen.
 #[derive(Clone, Copy)]
 pub struct Choice {
     pub first: u64,
@@ -17,7 +17,8 @@ pub struct Choice {
 
 fn add_variables(alloc: Global, cnf: &mut Cnf, rules: u64) -> Result<Clause, AllocError>
     ensures lits { IfOk result (λ lits. lits ≡ chosen_lits (cnf.old.vars + 1) rules) }
-    ensures made { OnOk result (cnf.new ≡ with_part cnf.old (new_variables rules cnf.old.vars)) }
+    ensures made { OnOk result (cnf.new ≡
+        with_part cnf.old (new_variables_part rules cnf.old.vars)) }
 {
     let mut chosen = Clause::new(alloc);
     for _ in 0..rules {
@@ -26,9 +27,9 @@ fn add_variables(alloc: Global, cnf: &mut Cnf, rules: u64) -> Result<Clause, All
     Ok(chosen)
 }
 
-/// Adds a variable for each of `rules` rules, true if the rule is not chosen, and demands that
-/// exactly one rule is chosen.
-pub fn add_choice(alloc: Global, cnf: &mut Cnf, rules: u64) -> Result<(), AllocError>
+/// Adds to `cnf` a variable for each of `rules` rules, true if the rule is not chosen, and clauses
+/// that exactly one rule is chosen. If memory runs out, `cnf` may have grown.
+pub(crate) fn add_rule_choice(alloc: Global, cnf: &mut Cnf, rules: u64) -> Result<(), AllocError>
     ensures made { OnOk result (cnf.new ≡ with_part cnf.old (choice_part rules cnf.old.vars)) }
     ensures law { OnOk result
         ((a : List Bool) → length a ≡ cnf.old.vars →
@@ -39,8 +40,8 @@ pub fn add_choice(alloc: Global, cnf: &mut Cnf, rules: u64) -> Result<(), AllocE
     Ok(())
 }
 
-/// Returns the number of the chosen rule. Exactly one has to be chosen, as in every assignment that
-/// satisfies the clauses of the step.
+/// Returns the number of the rule that the assignment `a` chooses by the variables `choice`. It has
+/// to choose exactly one, as every assignment does that satisfies the clauses of the step.
 pub fn chosen_rule(a: &Assignment, choice: Choice) -> u32
     requires numbered { choice.first ≤ 2 ^ 62 + 1 }
     requires one { (r : ℕ) × Chooses a.now choice.first choice.rules r }

@@ -1,12 +1,12 @@
 ghost use Rattle.std.specs.Prelude.{◌≡◌, ◌+◌, ◌≤◌, ◌<◌, ◌^◌, ◌++◌, ◌∷◌, [], length, map, OnOk, IfOk, IsTrue};
-ghost use Rattle.ilk_cnf.specs.Formula.{with_clauses, clause_unless_tautology, is_clause_over};
+ghost use Rattle.ilk_cnf.specs.Formula.{with_vars_and_clauses, clause_unless_tautology, is_clause_over};
 ghost use Rattle.ilk_cnf.specs.Part.{with_part, clauses_from_lists};
 ghost use Rattle.ilk_ir.specs.System.{plain_rule};
 ghost use Rattle.ilk_forms.specs.Leaf.{has_lits_within_vars, ranges_of};
-ghost use Rattle.ilk_step.specs.Frame.{sets_variable, setter_lits, carry_over, lits_to_carry_over, frame_axiom, frame_axioms_part};
+ghost use Rattle.ilk_step.specs.Frame.{sets_variable, setter_lits, equal_unless_any_true, lits_to_carry_over, frame_axiom, frame_axioms_part};
 
 use ilk_cnf::{Cnf, Lit, Lits};
-use ilk_forms::{CopyLits, VarLits};
+use ilk_forms::{CopyLits, VarValueAndBoundLits};
 use ilk_ir::{Rule, Setting};
 use std::alloc::{AllocError, Global};
 
@@ -16,8 +16,6 @@ fn sets_variable(v: u64, sets: &[Setting]) -> bool
     sets.iter().any(|s| u64::from(s.var) == v)
 }
 
-// Returns the literals that say that a chosen rule sets variable `v`. The variables of the rules
-// begin at `first`.
 fn setters(alloc: Global, v: u64, first: u64, rules: &[Rule]) -> Result<Lits, AllocError>
     requires from_1 { 0 < first }
     requires numbered { first + length rules.now ≤ 2 ^ 62 + 1 }
@@ -36,7 +34,7 @@ fn add_pair(alloc: Global, cnf: &mut Cnf, first: &Lits, l: Lit, m: Lit) -> Resul
     requires first { IsTrue (is_clause_over cnf.old.vars first.now) }
     requires pair { IsTrue (is_clause_over cnf.old.vars (l ∷ m ∷ [])) }
     ensures { OnOk result
-        (cnf.new ≡ with_clauses cnf.old cnf.old.vars
+        (cnf.new ≡ with_vars_and_clauses cnf.old cnf.old.vars
         (clause_unless_tautology (first.now ++ l ∷ m ∷ []))) }
 {
     let mut lits = first.copy()?;
@@ -51,16 +49,15 @@ fn add_same(alloc: Global, cnf: &mut Cnf, first: &Lits, l: Lit, m: Lit) -> Resul
     requires pair { IsTrue (is_clause_over cnf.old.vars (l ∷ m ∷ [])) }
     ensures { OnOk result
         (cnf.new
-        ≡ with_clauses cnf.old cnf.old.vars
-        (clauses_from_lists (carry_over first.now (l ∷ []) (m ∷ [])))) }
+        ≡ with_vars_and_clauses cnf.old cnf.old.vars
+        (clauses_from_lists (equal_unless_any_true first.now (l ∷ []) (m ∷ [])))) }
 {
     add_pair(alloc, cnf, first, l.negated(), m)?;
     add_pair(alloc, cnf, first, l, m.negated())?;
     Ok(())
 }
 
-// Demands that a literal of `first` is true, or `now` and `next` are equal item by item.
-fn carry_over(
+fn equal_unless_any_true(
     alloc: Global,
     cnf: &mut Cnf,
     first: &Lits,
@@ -72,8 +69,8 @@ fn carry_over(
     requires next { IsTrue (is_clause_over cnf.old.vars next.now) }
     ensures { OnOk result
         (cnf.new
-        ≡ with_clauses cnf.old cnf.old.vars
-        (clauses_from_lists (carry_over first.now now.now next.now))) }
+        ≡ with_vars_and_clauses cnf.old cnf.old.vars
+        (clauses_from_lists (equal_unless_any_true first.now now.now next.now))) }
 {
     for i in 0..now.len().min(next.len()) {
         add_same(alloc, cnf, first, now[i], next[i])?;
@@ -81,7 +78,6 @@ fn carry_over(
     Ok(())
 }
 
-// Returns the literals of a variable's values that are carried over.
 fn carried(values: &[Lit]) -> &[Lit]
     ensures { result.now ≡ lits_to_carry_over values.now }
 {
@@ -92,28 +88,27 @@ fn carried(values: &[Lit]) -> &[Lit]
     }
 }
 
-// Demands that a literal of `first` is true, or the variable keeps its value.
 fn add_frame(
     alloc: Global,
     cnf: &mut Cnf,
     first: &Lits,
-    now: &VarLits,
-    next: &VarLits,
+    now: &VarValueAndBoundLits,
+    next: &VarValueAndBoundLits,
 ) -> Result<(), AllocError>
     requires first { IsTrue (is_clause_over cnf.old.vars first.now) }
     requires columns { IsTrue (has_lits_within_vars cnf.old.vars (now.now ∷ next.now ∷ [])) }
     ensures { OnOk result
-        (cnf.new ≡ with_clauses cnf.old cnf.old.vars
+        (cnf.new ≡ with_vars_and_clauses cnf.old cnf.old.vars
         (clauses_from_lists (frame_axiom first.now now.now next.now))) }
 {
-    carry_over(
+    equal_unless_any_true(
         alloc,
         cnf,
         first,
         carried(now.values.as_slice()),
         carried(next.values.as_slice()),
     )?;
-    carry_over(
+    equal_unless_any_true(
         alloc,
         cnf,
         first,
@@ -123,9 +118,10 @@ fn add_frame(
     Ok(())
 }
 
-/// Demands that each variable is set by a chosen rule or has the same value in `next` as in `now`.
-/// The variables of the rules begin at `first`.
-pub fn add_frame_axioms(
+/// Adds to `cnf` clauses that each variable of the system is set by the chosen rule or keeps its
+/// value. `now` and `next` have the literals of its values before and after the step. The variables
+/// that choose a rule begin at `first`.
+pub(crate) fn add_frame_axioms(
     alloc: Global,
     cnf: &mut Cnf,
     now: &CopyLits,

@@ -6,10 +6,10 @@ ghost use Rattle.ilk_ir.specs.System.{plain_rule, rule_valid};
 ghost use Rattle.ilk_ir.specs.Form.{tree_of};
 ghost use Rattle.ilk_ir.specs.Tree.{is, value_valid};
 ghost use Rattle.ilk_forms.specs.Leaf.{has_lits_within_vars, ranges_of};
-ghost use Rattle.ilk_step.specs.Rules.{settings_part, rule_part, rules_part};
+ghost use Rattle.ilk_step.specs.Rules.{settings_unless_skipped_part, rule_unless_skipped_part, rules_part};
 
 use ilk_cnf::{Cnf, Lit};
-use ilk_forms::{CopyLits, demand_lit_or_form};
+use ilk_forms::{CopyLits, demand_some_lit_or_form};
 use ilk_ir::{Form, Rule, Setting};
 use std::alloc::{AllocError, Global};
 
@@ -19,7 +19,6 @@ fn set_form(s: Setting) -> Form
     Form::Is(s.var, s.value)
 }
 
-// Demands of each setting that `skip` is true or the next copy has it.
 fn add_settings(
     alloc: Global,
     cnf: &mut Cnf,
@@ -32,15 +31,15 @@ fn add_settings(
     requires valid { IsTrue
         (list_all (λ s. value_valid (ranges_of next.now) s.var s.value) sets.now) }
     ensures { OnOk result
-        (cnf.new ≡ with_part cnf.old (settings_part next.now skip sets.now cnf.old.vars)) }
+        (cnf.new ≡ with_part cnf.old (settings_unless_skipped_part next.now skip sets.now
+        cnf.old.vars)) }
 {
     for s in sets {
-        demand_lit_or_form(alloc, cnf, next, &[skip], &set_form(*s))?;
+        demand_some_lit_or_form(alloc, cnf, next, &[skip], &set_form(*s))?;
     }
     Ok(())
 }
 
-// Demands that `skip` is true, or the rule's guard holds in `now` and its settings are in `next`.
 fn add_rule(
     alloc: Global,
     cnf: &mut Cnf,
@@ -57,16 +56,17 @@ fn add_rule(
     ensures { OnOk result
         (cnf.new
         ≡ with_part cnf.old
-        (rule_part now.now next.now skip (plain_rule rule.now) cnf.old.vars)) }
+        (rule_unless_skipped_part now.now next.now skip (plain_rule rule.now) cnf.old.vars)) }
 {
-    demand_lit_or_form(alloc, cnf, now, &[skip], &rule.guard)?;
+    demand_some_lit_or_form(alloc, cnf, now, &[skip], &rule.guard)?;
     add_settings(alloc, cnf, next, skip, rule.sets.as_slice())?;
     Ok(())
 }
 
-/// Demands that the guard of a chosen rule holds in `now`, and that what it sets holds in `next`.
-/// The variables of the rules begin at `first`, and each is true if its rule is not chosen.
-pub fn add_rules(
+/// Adds to `cnf` clauses for each rule: it is not chosen, or its guard holds before the step and
+/// its settings hold after it. `now` and `next` have the literals of the system's values before and
+/// after the step. The variables that choose a rule begin at `first`.
+pub(crate) fn add_rules(
     alloc: Global,
     cnf: &mut Cnf,
     now: &CopyLits,

@@ -6,10 +6,10 @@ ghost use Rattle.ilk_ir.specs.System.{plain_rule, rule_valid, in_ranges};
 ghost use Rattle.ilk_forms.specs.Copy.{LiteralsEncode};
 ghost use Rattle.ilk_forms.specs.Leaf.{has_lits_within_vars, ranges_of};
 ghost use Rattle.ilk_step.specs.Choice.{Chooses};
-ghost use Rattle.ilk_step.specs.Size.{guards_and_settings_size, settings_count, copy_literals_count};
+ghost use Rattle.ilk_step.specs.Size.{guards_size, settings_count, copy_literals_count};
 ghost use Rattle.ilk_step.specs.Step.{step_part, step_bits, values_after_rule, AreStepBits};
 
-use crate::choice::{Choice, add_choice};
+use crate::choice::{Choice, add_rule_choice};
 use crate::frame::add_frame_axioms;
 use crate::rules::add_rules;
 use ilk_cnf::Cnf;
@@ -17,10 +17,11 @@ use ilk_forms::CopyLits;
 use ilk_ir::Rules;
 use std::alloc::{AllocError, Global};
 
-/// Adds one step from the copy `now` to the copy `next`, by exactly one of the rules. The rule's
-/// guard holds in `now`, `next` has its settings, and everything else keeps its value. Both copies
-/// have the same ranges, and the rules are valid over them. Returns the variables that say which
-/// rule is chosen. If memory runs out, `cnf` may have grown.
+/// Adds to `cnf` the clauses of one step by exactly one of `rules`, and returns the variables that
+/// choose the rule. `now` and `next` have the literals of the system's values before and after the
+/// step, with the same ranges. The rule's guard holds before it, its settings hold after it, and
+/// all other variables keep their values. The rules must be valid over the ranges. If memory runs
+/// out, `cnf` may have grown.
 pub fn add_step(
     alloc: Global,
     cnf: &mut Cnf,
@@ -60,21 +61,18 @@ pub fn add_step(
         Chooses (a ++ (step_bits (ranges_of now.now) (map plain_rule rules.now) ws r ++ c))
         (cnf.old.vars + 1) (length rules.now) r) }
 
-    // For each rule at most two variables and four clauses, and one clause more in all. For each
-    // constructor of a guard a variable and two clauses. A clause for each setting, and two for
-    // each literal of a copy.
     ensures vars { OnOk result
         (cnf.new.vars
-        ≤ cnf.old.vars + 2 * length rules.now + guards_and_settings_size
+        ≤ cnf.old.vars + 2 * length rules.now + guards_size
         (map plain_rule rules.now)) }
     ensures clauses { OnOk result
         (length cnf.new.clauses
         ≤ length cnf.old.clauses +
-        (4 * length rules.now + 1 + 2 * guards_and_settings_size (map plain_rule rules.now) +
+        (4 * length rules.now + 1 + 2 * guards_size (map plain_rule rules.now) +
         settings_count (map plain_rule rules.now) + 2 * copy_literals_count now.now)) }
 {
     let first = cnf.vars() + 1;
-    add_choice(alloc, cnf, rules.len())?;
+    add_rule_choice(alloc, cnf, rules.len())?;
     add_rules(alloc, cnf, now, next, first, rules.as_slice())?;
     add_frame_axioms(alloc, cnf, now, next, rules.as_slice(), first)?;
     Ok(Choice {

@@ -1,12 +1,11 @@
--- Lists after a change of one route, of some locks or of trains. A family is kept by any change
--- outside the parts of the state that it reads.
+-- Lists after a change of one route, of some locks or of trains.
 use Rattle.std.proofs.Common.{◌≡◌, ℕ, ◌<◌, Bool, true, false, Option, Some, None, option_map, List, inl, inr, ◌⊎◌, length, set, slice_get, refl, sym, ap, ◌∙◌, subst}
 use Rattle.std.specs.Prelude.{if◌then◌else◌}
 use Rattle.std.proofs.lemmas.Bool.{cases_eq}
 use Rattle.std.proofs.lemmas.Option.{same_Some, slice_get_within}
 use Rattle.ilk_base.proofs.Lists.{item_at, slice_get-set_other, slice_get-set_same}
 use Rattle.ilk_base.proofs.Numbered.{slice_get-map_numbered}
-use Rattle.ilk_plant.specs.Network.{has_section}
+use Rattle.ilk_plant.specs.Network.{contains_section}
 use Rattle.ilk_plant.specs.Plant.{PlantLists}
 use Rattle.ilk_plant.specs.State.{is_occupied}
 use Rattle.ilk_plant.specs.declared.state.Aspect.{Aspect}
@@ -17,7 +16,7 @@ use Rattle.ilk_plant.specs.declared.state.State.{State}
 use Rattle.ilk_plant.specs.declared.state.Train.{Train}
 use Rattle.ilk_plant.specs.declared.table.Route.{Route}
 use Rattle.ilk_routes.specs.Locks.{with_locks}
-use Rattle.ilk_model.specs.Families.{keeps_v1, keeps_v2, keeps_v3, keeps_v4, keeps_v5, keeps_v6, keeps_v7, keeps_v8, keeps_v9}
+use Rattle.ilk_model.specs.Families.{keeps_v1_consistent_counts, keeps_v2_sections_held_once, keeps_v3_locks_match_routes, keeps_v4_allocating_paths_vacant, keeps_v5_open_needs_locked, keeps_v6_route_points_set, keeps_v7_heads_have_routes, keeps_v8_bodies_have_routes, keeps_v9_protecting_boards_closed}
 use Rattle.ilk_model.specs.Hazard.{has_two_trains, is_wrong_under_train}
 use Rattle.ilk_model.proofs.RouteFrames.{ChangesRoute}
 use Rattle.ilk_strict.proofs.Reading.{RouteIn}
@@ -74,14 +73,14 @@ pub one-state : (p : PlantLists) (s : State) (q r : ℕ) (one other : Route) (it
 one-state p s q r one other its now it that e =
     (same_Some one other (sym it.known ∙ ap (slice_get p.routes) e ∙ that.known), same_Some its now (sym it.state ∙ ap (slice_get s.routes) e ∙ that.state))
 
-pub given-lock : (locks : List Hold) (xs : List ℕ) (hold : Hold) (x : ℕ) → has_section x xs ≡ true → x < length locks → slice_get (with_locks locks xs hold) x ≡ Some hold
+pub given-lock : (locks : List Hold) (xs : List ℕ) (hold : Hold) (x : ℕ) → contains_section x xs ≡ true → x < length locks → slice_get (with_locks locks xs hold) x ≡ Some hold
 given-lock locks xs hold x among within =
     let lock = item_at locks x within in
-    slice_get-map_numbered (λ y lock. if has_section y xs then hold else lock) locks x ∙ rw (lock.1, among) refl
+    slice_get-map_numbered (λ y lock. if contains_section y xs then hold else lock) locks x ∙ rw (lock.1, among) refl
 
-pub other-lock : (locks : List Hold) (xs : List ℕ) (hold : Hold) (x : ℕ) → has_section x xs ≡ false → slice_get (with_locks locks xs hold) x ≡ slice_get locks x
+pub other-lock : (locks : List Hold) (xs : List ℕ) (hold : Hold) (x : ℕ) → contains_section x xs ≡ false → slice_get (with_locks locks xs hold) x ≡ slice_get locks x
 other-lock locks xs hold x away =
-    slice_get-map_numbered (λ y lock. if has_section y xs then hold else lock) locks x ∙ kept (slice_get locks x) (has_section x xs) away
+    slice_get-map_numbered (λ y lock. if contains_section y xs then hold else lock) locks x ∙ kept (slice_get locks x) (contains_section x xs) away
   where
     kept : (o : Option Hold) (b : Bool) → b ≡ false → option_map (λ lock. if b then hold else lock) o ≡ o
     kept None b e = refl
@@ -91,58 +90,57 @@ pub same-occupied : (s t : State) → t.trains ≡ s.trains → (x : ℕ) → is
 same-occupied s t e x =
     ap (λ (trains : List Train). is_occupied (record s { trains = trains }) x) e
 
--- The parts of the state that each family reads
 module _ (p : PlantLists) (s t : State) where
-  pub v1-reads : t.routes ≡ s.routes → keeps_v1 p s ≡ true → keeps_v1 p t ≡ true
+  pub v1-reads : t.routes ≡ s.routes → keeps_v1_consistent_counts p s ≡ true → keeps_v1_consistent_counts p t ≡ true
   v1-reads routes kept =
-      let P : List RouteState → Type 0 = λ now. keeps_v1 p (record s { routes = now }) ≡ true in subst P (sym routes) kept
+      let P : List RouteState → Type 0 = λ now. keeps_v1_consistent_counts p (record s { routes = now }) ≡ true in subst P (sym routes) kept
 
-  pub v2-reads : t.routes ≡ s.routes → keeps_v2 p s ≡ true → keeps_v2 p t ≡ true
+  pub v2-reads : t.routes ≡ s.routes → keeps_v2_sections_held_once p s ≡ true → keeps_v2_sections_held_once p t ≡ true
   v2-reads routes kept =
-      let P : List RouteState → Type 0 = λ now. keeps_v2 p (record s { routes = now }) ≡ true in subst P (sym routes) kept
+      let P : List RouteState → Type 0 = λ now. keeps_v2_sections_held_once p (record s { routes = now }) ≡ true in subst P (sym routes) kept
 
-  pub v3-reads : t.routes ≡ s.routes → t.locks ≡ s.locks → keeps_v3 p s ≡ true → keeps_v3 p t ≡ true
+  pub v3-reads : t.routes ≡ s.routes → t.locks ≡ s.locks → keeps_v3_locks_match_routes p s ≡ true → keeps_v3_locks_match_routes p t ≡ true
   v3-reads routes locks kept =
-      let P : List RouteState → Type 0 = λ now. keeps_v3 p (record s { routes = now }) ≡ true in
-      let Q : List Hold → Type 0 = λ now. keeps_v3 p (record s { routes = t.routes; locks = now }) ≡ true in
+      let P : List RouteState → Type 0 = λ now. keeps_v3_locks_match_routes p (record s { routes = now }) ≡ true in
+      let Q : List Hold → Type 0 = λ now. keeps_v3_locks_match_routes p (record s { routes = t.routes; locks = now }) ≡ true in
       subst Q (sym locks) (subst P (sym routes) kept)
 
-  pub v4-reads : t.routes ≡ s.routes → t.trains ≡ s.trains → keeps_v4 p s ≡ true → keeps_v4 p t ≡ true
+  pub v4-reads : t.routes ≡ s.routes → t.trains ≡ s.trains → keeps_v4_allocating_paths_vacant p s ≡ true → keeps_v4_allocating_paths_vacant p t ≡ true
   v4-reads routes trains kept =
-      let P : List RouteState → Type 0 = λ now. keeps_v4 p (record s { routes = now }) ≡ true in
-      let Q : List Train → Type 0 = λ now. keeps_v4 p (record s { routes = t.routes; trains = now }) ≡ true in
+      let P : List RouteState → Type 0 = λ now. keeps_v4_allocating_paths_vacant p (record s { routes = now }) ≡ true in
+      let Q : List Train → Type 0 = λ now. keeps_v4_allocating_paths_vacant p (record s { routes = t.routes; trains = now }) ≡ true in
       subst Q (sym trains) (subst P (sym routes) kept)
 
-  pub v5-reads : t.routes ≡ s.routes → t.boards ≡ s.boards → t.trains ≡ s.trains → keeps_v5 p s ≡ true → keeps_v5 p t ≡ true
+  pub v5-reads : t.routes ≡ s.routes → t.boards ≡ s.boards → t.trains ≡ s.trains → keeps_v5_open_needs_locked p s ≡ true → keeps_v5_open_needs_locked p t ≡ true
   v5-reads routes boards trains kept =
-      let P : List RouteState → Type 0 = λ now. keeps_v5 p (record s { routes = now }) ≡ true in
-      let Q : List Aspect → Type 0 = λ now. keeps_v5 p (record s { routes = t.routes; boards = now }) ≡ true in
-      let R : List Train → Type 0 = λ now. keeps_v5 p (record s { routes = t.routes; boards = t.boards; trains = now }) ≡ true in
+      let P : List RouteState → Type 0 = λ now. keeps_v5_open_needs_locked p (record s { routes = now }) ≡ true in
+      let Q : List Aspect → Type 0 = λ now. keeps_v5_open_needs_locked p (record s { routes = t.routes; boards = now }) ≡ true in
+      let R : List Train → Type 0 = λ now. keeps_v5_open_needs_locked p (record s { routes = t.routes; boards = t.boards; trains = now }) ≡ true in
       subst R (sym trains) (subst Q (sym boards) (subst P (sym routes) kept))
 
-  pub v6-reads : t.routes ≡ s.routes → t.points ≡ s.points → keeps_v6 p s ≡ true → keeps_v6 p t ≡ true
+  pub v6-reads : t.routes ≡ s.routes → t.points ≡ s.points → keeps_v6_route_points_set p s ≡ true → keeps_v6_route_points_set p t ≡ true
   v6-reads routes points kept =
-      let P : List RouteState → Type 0 = λ now. keeps_v6 p (record s { routes = now }) ≡ true in
-      let Q : List PointState → Type 0 = λ now. keeps_v6 p (record s { routes = t.routes; points = now }) ≡ true in
+      let P : List RouteState → Type 0 = λ now. keeps_v6_route_points_set p (record s { routes = now }) ≡ true in
+      let Q : List PointState → Type 0 = λ now. keeps_v6_route_points_set p (record s { routes = t.routes; points = now }) ≡ true in
       subst Q (sym points) (subst P (sym routes) kept)
 
-  pub v7-reads : t.routes ≡ s.routes → t.boards ≡ s.boards → t.trains ≡ s.trains → keeps_v7 p s ≡ true → keeps_v7 p t ≡ true
+  pub v7-reads : t.routes ≡ s.routes → t.boards ≡ s.boards → t.trains ≡ s.trains → keeps_v7_heads_have_routes p s ≡ true → keeps_v7_heads_have_routes p t ≡ true
   v7-reads routes boards trains kept =
-      let P : List RouteState → Type 0 = λ now. keeps_v7 p (record s { routes = now }) ≡ true in
-      let Q : List Aspect → Type 0 = λ now. keeps_v7 p (record s { routes = t.routes; boards = now }) ≡ true in
-      let R : List Train → Type 0 = λ now. keeps_v7 p (record s { routes = t.routes; boards = t.boards; trains = now }) ≡ true in
+      let P : List RouteState → Type 0 = λ now. keeps_v7_heads_have_routes p (record s { routes = now }) ≡ true in
+      let Q : List Aspect → Type 0 = λ now. keeps_v7_heads_have_routes p (record s { routes = t.routes; boards = now }) ≡ true in
+      let R : List Train → Type 0 = λ now. keeps_v7_heads_have_routes p (record s { routes = t.routes; boards = t.boards; trains = now }) ≡ true in
       subst R (sym trains) (subst Q (sym boards) (subst P (sym routes) kept))
 
-  pub v8-reads : t.routes ≡ s.routes → t.trains ≡ s.trains → keeps_v8 p s ≡ true → keeps_v8 p t ≡ true
+  pub v8-reads : t.routes ≡ s.routes → t.trains ≡ s.trains → keeps_v8_bodies_have_routes p s ≡ true → keeps_v8_bodies_have_routes p t ≡ true
   v8-reads routes trains kept =
-      let P : List RouteState → Type 0 = λ now. keeps_v8 p (record s { routes = now }) ≡ true in
-      let Q : List Train → Type 0 = λ now. keeps_v8 p (record s { routes = t.routes; trains = now }) ≡ true in
+      let P : List RouteState → Type 0 = λ now. keeps_v8_bodies_have_routes p (record s { routes = now }) ≡ true in
+      let Q : List Train → Type 0 = λ now. keeps_v8_bodies_have_routes p (record s { routes = t.routes; trains = now }) ≡ true in
       subst Q (sym trains) (subst P (sym routes) kept)
 
-  pub v9-reads : t.routes ≡ s.routes → t.boards ≡ s.boards → keeps_v9 p s ≡ true → keeps_v9 p t ≡ true
+  pub v9-reads : t.routes ≡ s.routes → t.boards ≡ s.boards → keeps_v9_protecting_boards_closed p s ≡ true → keeps_v9_protecting_boards_closed p t ≡ true
   v9-reads routes boards kept =
-      let P : List RouteState → Type 0 = λ now. keeps_v9 p (record s { routes = now }) ≡ true in
-      let Q : List Aspect → Type 0 = λ now. keeps_v9 p (record s { routes = t.routes; boards = now }) ≡ true in
+      let P : List RouteState → Type 0 = λ now. keeps_v9_protecting_boards_closed p (record s { routes = now }) ≡ true in
+      let Q : List Aspect → Type 0 = λ now. keeps_v9_protecting_boards_closed p (record s { routes = t.routes; boards = now }) ≡ true in
       subst Q (sym boards) (subst P (sym routes) kept)
 
   pub two-reads : (x : ℕ) → t.trains ≡ s.trains → has_two_trains s x ≡ false → has_two_trains t x ≡ false

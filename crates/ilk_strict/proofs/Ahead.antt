@@ -8,8 +8,8 @@ use Rattle.std.proofs.lemmas.Option.{same_Some}
 use Rattle.ilk_base.specs.Option.{◌>>=◌, is_some_and}
 use Rattle.ilk_base.proofs.Options.{bind_some, some-and}
 use Rattle.ilk_base.proofs.Tested.{list_any-at}
-use Rattle.ilk_plant.specs.ColumnRules.{is_leg, is_listed_towards}
-use Rattle.ilk_plant.specs.Network.{neighbours_on, board_on, has_section, same_direction}
+use Rattle.ilk_plant.specs.ColumnRules.{is_leg_at_position, is_listed_towards_any}
+use Rattle.ilk_plant.specs.Network.{neighbours_on, board_on, contains_section, same_direction}
 use Rattle.ilk_plant.specs.NetworkRules.{opposite_direction}
 use Rattle.ilk_plant.specs.Once.{numbers_differ}
 use Rattle.ilk_plant.specs.Plant.{IsPlant, PlantLists, board_of, next_to}
@@ -31,23 +31,22 @@ use Rattle.ilk_routes.specs.Lies.{lie_from_position, is_detected_as_listed, is_l
 use Rattle.ilk_model.specs.Hazard.{are_adjacent_in_body, is_wrong_under_body}
 use Rattle.ilk_model.proofs.Alike.{one_lie}
 
-only-value : (o : Option ℕ) (a b : ℕ) → has_section a (option_to_list o) ≡ true → has_section b (option_to_list o) ≡ true → a ≡ b
+only-value : (o : Option ℕ) (a b : ℕ) → contains_section a (option_to_list o) ≡ true → contains_section b (option_to_list o) ≡ true → a ≡ b
 only-value None a b h g = cc
 only-value (Some y) a b h g = sym (only-one a y h) ∙ only-one b y g
 
-pub board-one : (p : PlantLists) (x m a b : ℕ) (d : Dir) → board_of p x d ≡ Some m → has_section a (next_to p x d) ≡ true → has_section b (next_to p x d) ≡ true → a ≡ b
+pub board-one : (p : PlantLists) (x m a b : ℕ) (d : Dir) → board_of p x d ≡ Some m → contains_section a (next_to p x d) ≡ true → contains_section b (next_to p x d) ≡ true → a ≡ b
 board-one p x m a b d board first second =
     let section = bind_some (slice_get p.sections x) (λ it. board_on it d) m board in
-    let one : has_section a (neighbours_on section.0 d) ≡ true = rw section.1 at first in
-    let two : has_section b (neighbours_on section.0 d) ≡ true = rw section.1 at second in
+    let one : contains_section a (neighbours_on section.0 d) ≡ true = rw section.1 at first in
+    let two : contains_section b (neighbours_on section.0 d) ≡ true = rw section.1 at second in
     of_section section.0 d section.2 one two
   where
-    of_section : (it : Section) (d : Dir) → board_on it d ≡ Some m → has_section a (neighbours_on it d) ≡ true → has_section b (neighbours_on it d) ≡ true → a ≡ b
+    of_section : (it : Section) (d : Dir) → board_on it d ≡ Some m → contains_section a (neighbours_on it d) ≡ true → contains_section b (neighbours_on it d) ≡ true → a ≡ b
     of_section (Linear down up board_down board_up) Down e h g = only-value down a b h g
     of_section (Linear down up board_down board_up) Up e h g = only-value up a b h g
     of_section (Point stem plus minus faces) d e h g = cc
 
--- The leg of a point at a position. The other leg follows.
 abbrev pub leg : ℕ → ℕ → Position → ℕ
 leg plus minus Plus = plus
 leg plus minus Minus = minus
@@ -64,7 +63,7 @@ pub is_wrong_under_body-lie_from_position : (x plus minus : ℕ) (at : Position)
 is_wrong_under_body-lie_from_position x plus minus Plus body = refl
 is_wrong_under_body-lie_from_position x plus minus Minus body = refl
 
-pub leg-is : (at : Position) (w stem plus minus : ℕ) (faces : Dir) → is_leg at w (Point stem plus minus faces) ≡ true → leg plus minus at ≡ w
+pub leg-is : (at : Position) (w stem plus minus : ℕ) (faces : Dir) → is_leg_at_position at w (Point stem plus minus faces) ≡ true → leg plus minus at ≡ w
 leg-is Plus w stem plus minus faces h = eqb-true plus w h
 leg-is Minus w stem plus minus faces h = eqb-true minus w h
 
@@ -102,22 +101,20 @@ pub leg-no_other : (stem plus minus : ℕ) (at : Position) → LegsDiffer stem p
 leg-no_other stem plus minus Plus differ e = differ.plus_minus e
 leg-no_other stem plus minus Minus differ e = differ.plus_minus (sym e)
 
-pub stem-side : (p : PlantLists) (x stem plus minus : ℕ) (faces d : Dir) (z : ℕ) → slice_get p.sections x ≡ Some (Point stem plus minus faces) → same_direction faces d ≡ false → has_section z (next_to p x d) ≡ true → stem ≡ z
+pub stem-side : (p : PlantLists) (x stem plus minus : ℕ) (faces d : Dir) (z : ℕ) → slice_get p.sections x ≡ Some (Point stem plus minus faces) → same_direction faces d ≡ false → contains_section z (next_to p x d) ≡ true → stem ≡ z
 stem-side p x stem plus minus faces d z section turned h =
-    let one : has_section z (if same_direction faces d then plus ∷ minus ∷ [] else stem ∷ []) ≡ true = rw section at h in
+    let one : contains_section z (if same_direction faces d then plus ∷ minus ∷ [] else stem ∷ []) ≡ true = rw section at h in
     only-one z stem (rw turned at one)
 
 opposite-turned : (d : Dir) → same_direction d (opposite_direction d) ≡ false
 opposite-turned Up = refl
 opposite-turned Down = refl
 
-pub stem-before : (p : PlantLists) → IsPlant p → (before x stem plus minus : ℕ) (faces d : Dir) → slice_get p.sections x ≡ Some (Point stem plus minus faces) → faces ≡ d → has_section x (next_to p before d) ≡ true → stem ≡ before
+pub stem-before : (p : PlantLists) → IsPlant p → (before x stem plus minus : ℕ) (faces d : Dir) → slice_get p.sections x ≡ Some (Point stem plus minus faces) → faces ≡ d → contains_section x (next_to p before d) ≡ true → stem ≡ before
 stem-before p plant before x stem plus minus faces d section same h =
     let turned : same_direction faces (opposite_direction d) ≡ false = rw same (opposite-turned d) in
     stem-side p x stem plus minus faces (opposite_direction d) before section turned (back-opposite p plant before x d h)
 
--- The section ahead of x is any neighbour ahead, unless x is a point that faces ahead. Then it is
--- the leg at the point's position.
 pub record LeadsToLeg (p : PlantLists) (s : State) (x : ℕ) (d : Dir) (y : ℕ) : Type 0 where
   pub stem : ℕ
   pub plus : ℕ
@@ -129,17 +126,17 @@ pub record LeadsToLeg (p : PlantLists) (s : State) (x : ℕ) (d : Dir) (y : ℕ)
   pub lies : detected_position p s x ≡ Some lie
   pub to_leg : detected_leg plus minus lie ≡ Some y
 
-pub ahead-cases : (p : PlantLists) (s : State) (x y z : ℕ) (d : Dir) → ahead p s x d ≡ Some y → has_section z (next_to p x d) ≡ true → (y ≡ z) ⊎ LeadsToLeg p s x d y
+pub ahead-cases : (p : PlantLists) (s : State) (x y z : ℕ) (d : Dir) → ahead p s x d ≡ Some y → contains_section z (next_to p x d) ≡ true → (y ≡ z) ⊎ LeadsToLeg p s x d y
 ahead-cases p s x y z d e h =
     let section = bind_some (slice_get p.sections x) (λ it. section_led_to it d (detected_position p s x)) y e in
-    let one : has_section z (neighbours_on section.0 d) ≡ true = rw section.1 at h in
+    let one : contains_section z (neighbours_on section.0 d) ≡ true = rw section.1 at h in
     of_section section.0 d section.1 section.2 one
   where
-    of_section : (it : Section) (d : Dir) → slice_get p.sections x ≡ Some it → section_led_to it d (detected_position p s x) ≡ Some y → has_section z (neighbours_on it d) ≡ true → (y ≡ z) ⊎ LeadsToLeg p s x d y
+    of_section : (it : Section) (d : Dir) → slice_get p.sections x ≡ Some it → section_led_to it d (detected_position p s x) ≡ Some y → contains_section z (neighbours_on it d) ≡ true → (y ≡ z) ⊎ LeadsToLeg p s x d y
     of_section (Linear down up board_down board_up) Down at leads h =
-        let one : has_section z (y ∷ []) ≡ true = rw leads at h in inl (only-one z y one)
+        let one : contains_section z (y ∷ []) ≡ true = rw leads at h in inl (only-one z y one)
     of_section (Linear down up board_down board_up) Up at leads h =
-        let one : has_section z (y ∷ []) ≡ true = rw leads at h in inl (only-one z y one)
+        let one : contains_section z (y ∷ []) ≡ true = rw leads at h in inl (only-one z y one)
     of_section (Point stem plus minus faces) d at leads h = elim (cases_Bool (same_direction faces d)) [
       | inl same ↦
           (let by_lie : (detected_position p s x >>= detected_leg plus minus) ≡ Some y = rw same at leads in
@@ -157,11 +154,10 @@ ahead-cases p s x y z d e h =
           }))
       | inr turned ↦
           (let to_stem : Some stem ≡ Some y = rw turned at leads in
-          let one : has_section z (stem ∷ []) ≡ true = rw turned at h in
+          let one : contains_section z (stem ∷ []) ≡ true = rw turned at h in
           inl (sym (same_Some stem y to_stem) ∙ only-one z stem one))
     ]
 
--- A point is listed towards one of some sections: the entry, and the section of its leg.
 pub record IsListedTo (p : PlantLists) (points : List Listed) (sections : List ℕ) (x : ℕ) : Type 0 where
   pub k : ℕ
   pub listed : Listed
@@ -170,13 +166,14 @@ pub record IsListedTo (p : PlantLists) (points : List Listed) (sections : List �
   pub j : ℕ
   pub w : ℕ
   pub among : slice_get sections j ≡ Some w
-  pub leads : is_some_and (slice_get p.sections x) (is_leg listed.at w) ≡ true
+  pub leads : is_some_and (slice_get p.sections x) (is_leg_at_position listed.at w) ≡ true
 
-pub listed_towards-at : (p : PlantLists) (points : List Listed) (sections : List ℕ) (x : ℕ) → is_listed_towards p points sections x ≡ true → IsListedTo p points sections x
+pub listed_towards-at : (p : PlantLists) (points : List Listed) (sections : List ℕ) (x : ℕ) → is_listed_towards_any p points sections x ≡ true → IsListedTo p points sections x
 listed_towards-at p points sections x h =
     let entry : (k : ℕ) × (listed : Listed) × (slice_get points k ≡ Some listed) × (((listed.point == x) && towards listed) ≡ true) = list_any-at (λ listed. (listed.point == x) && towards listed) points h in
     let both = and_parts (entry.1.point == x) (towards entry.1) entry.3 in
-    let leads : (j : ℕ) × (w : ℕ) × (slice_get sections j ≡ Some w) × (is_some_and (slice_get p.sections x) (is_leg entry.1.at w) ≡ true) = list_any-at (λ y. is_some_and (slice_get p.sections x) (is_leg entry.1.at y)) sections both.1 in
+    let leads : (j : ℕ) × (w : ℕ) × (slice_get sections j ≡ Some w) × (is_some_and (slice_get p.sections x) (is_leg_at_position entry.1.at w) ≡ true) = list_any-at (λ y. is_some_and (slice_get p.sections x) (is_leg_at_position entry.1.at
+    y)) sections both.1 in
     record {
       k = entry.0;
       listed = entry.1;
@@ -189,7 +186,7 @@ listed_towards-at p points sections x h =
     }
   where
     towards : Listed → Bool
-    towards listed = list_any (λ y. is_some_and (slice_get p.sections x) (is_leg listed.at y)) sections
+    towards listed = list_any (λ y. is_some_and (slice_get p.sections x) (is_leg_at_position listed.at y)) sections
 
 pub lies-listed : (p : PlantLists) (s : State) (listed : Listed) (x : ℕ) → is_detected_as_listed p s listed ≡ true → listed.point ≡ x → detected_position p s x ≡ Some (lie_from_position listed.at)
 lies-listed p s listed x h same =

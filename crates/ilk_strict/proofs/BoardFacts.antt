@@ -5,7 +5,7 @@ use Rattle.std.specs.List.{list_all}
 use Rattle.std.proofs.lemmas.Bool.{and_from, and_parts, eqb-true, eq-eqb}
 use Rattle.ilk_base.proofs.Tested.{all-pass, list_all-slice_get}
 use Rattle.ilk_base.proofs.Truth.{if-passes, passes-if}
-use Rattle.ilk_plant.specs.Network.{has_section}
+use Rattle.ilk_plant.specs.Network.{contains_section}
 use Rattle.ilk_plant.specs.Plant.{PlantLists}
 use Rattle.ilk_plant.specs.State.{is_occupied}
 use Rattle.ilk_plant.specs.declared.state.Aspect.TheVariants.{Open, Closed}
@@ -18,13 +18,12 @@ use Rattle.ilk_routes.specs.Boards.{has_aspect}
 use Rattle.ilk_routes.specs.Lies.{is_detected_as_listed}
 use Rattle.ilk_routes.specs.Modes.{same_mode}
 use Rattle.ilk_model.specs.Commanded.{is_commanded_as_listed}
-use Rattle.ilk_model.specs.Families.{is_commanded_if_allocating, keeps_v5, keeps_v6, keeps_v9, is_set_if_locked_or_occupied}
+use Rattle.ilk_model.specs.Families.{is_commanded_if_allocating, keeps_v5_open_needs_locked, keeps_v6_route_points_set, keeps_v9_protecting_boards_closed, is_set_if_locked_or_occupied}
 use Rattle.ilk_model.specs.Holding.{is_unreleased_on_path, is_locked_or_occupied, is_vacant}
 use Rattle.ilk_model.proofs.Alike.{one_mode}
 use Rattle.ilk_strict.proofs.Reading.{RouteIn, all_below-at, all_below-from, all_routes_pass_test-at, all_routes_pass_test-from, has_aspect-at, has_aspect-from, any_route_passes_test-at, any_route_passes_test-from}
 use Rattle.ilk_strict.proofs.RouteFacts.{all_vacant-at, all_vacant-from}
 
--- V5: the route for which a board is open.
 pub record IsOpenFor (p : PlantLists) (s : State) (m : ℕ) : Type 0 where
   pub r : ℕ
   pub route : Route
@@ -38,7 +37,7 @@ module _ (p : PlantLists) (s : State) where
   abbrev opens : ℕ → Route → RouteState → Bool
   opens m route now = (route.source == m) && same_mode now.mode Locked && list_all (is_vacant s) route.path
 
-  pub open-at : keeps_v5 p s ≡ true → (m : ℕ) → m < length p.boards → slice_get s.boards m ≡ Some Open → IsOpenFor p s m
+  pub open-at : keeps_v5_open_needs_locked p s ≡ true → (m : ℕ) → m < length p.boards → slice_get s.boards m ≡ Some Open → IsOpenFor p s m
   open-at kept m within shown =
       let found = any_route_passes_test-at p s (opens m) (if-passes (has_aspect s m Open) _ (all_below-at (length p.boards) _ kept m within) (has_aspect-from s m Open shown)) in
       let parts = and_parts ((found.1.source == m) && same_mode found.2.mode Locked) (list_all (is_vacant s) found.1.path) found.4 in
@@ -53,7 +52,7 @@ module _ (p : PlantLists) (s : State) where
         vacant = all_vacant-at s found.1.path parts.1;
       }
 
-  pub open-from : ((m : ℕ) → m < length p.boards → slice_get s.boards m ≡ Some Open → IsOpenFor p s m) → keeps_v5 p s ≡ true
+  pub open-from : ((m : ℕ) → m < length p.boards → slice_get s.boards m ≡ Some Open → IsOpenFor p s m) → keeps_v5_open_needs_locked p s ≡ true
   open-from each =
       all_below-from (length p.boards) _ (λ m within. passes-if (has_aspect s m Open) _ (λ shown.
       let one = each m within (has_aspect-at s m Open shown) in
@@ -68,18 +67,18 @@ module _ (p : PlantLists) (s : State) where
   abbrev points_fit : Route → RouteState → Bool
   points_fit route now = list_all (λ listed. is_commanded_if_allocating p s route now listed && is_set_if_locked_or_occupied p s route now listed) route.points
 
-  pub commanded-at : keeps_v6 p s ≡ true → (r : ℕ) (route : Route) (now : RouteState) →
+  pub commanded-at : keeps_v6_route_points_set p s ≡ true → (r : ℕ) (route : Route) (now : RouteState) →
       RouteIn p s r route now → (k : ℕ) (listed : Listed) → slice_get route.points k ≡ Some listed →
-      now.mode ≡ Allocating → has_section listed.point route.path ≡ true →
+      now.mode ≡ Allocating → contains_section listed.point route.path ≡ true →
       is_commanded_as_listed p s listed ≡ true
   commanded-at kept r route now it k listed at mode on =
       let both = and_parts (is_commanded_if_allocating p s route now listed) (is_set_if_locked_or_occupied p s route now listed)
       (list_all-slice_get
       (λ listed. is_commanded_if_allocating p s route now listed && is_set_if_locked_or_occupied p s route now listed) route.points
       k listed (all_routes_pass_test-at p s points_fit kept r route now it) at) in
-      if-passes (same_mode now.mode Allocating && has_section listed.point route.path) (is_commanded_as_listed p s listed) both.0 (and_from (same_mode now.mode Allocating) (has_section listed.point route.path) (rw mode refl) on)
+      if-passes (same_mode now.mode Allocating && contains_section listed.point route.path) (is_commanded_as_listed p s listed) both.0 (and_from (same_mode now.mode Allocating) (contains_section listed.point route.path) (rw mode refl) on)
 
-  pub lies-at : keeps_v6 p s ≡ true → (r : ℕ) (route : Route) (now : RouteState) → RouteIn p s r route now →
+  pub lies-at : keeps_v6_route_points_set p s ≡ true → (r : ℕ) (route : Route) (now : RouteState) → RouteIn p s r route now →
       (k : ℕ) (listed : Listed) → slice_get route.points k ≡ Some listed → is_locked_or_occupied now ≡ true →
       is_unreleased_on_path route now listed.point ≡ true →
       (is_commanded_as_listed p s listed ≡ true) × (is_detected_as_listed p s listed ≡ true)
@@ -96,18 +95,18 @@ module _ (p : PlantLists) (s : State) where
   pub points-from : length s.routes ≡ length p.routes →
       ((r : ℕ) (route : Route) (now : RouteState) → RouteIn p s r route now → (k : ℕ) (listed : Listed) →
       slice_get route.points k ≡ Some listed →
-      (now.mode ≡ Allocating → has_section listed.point route.path ≡ true →
+      (now.mode ≡ Allocating → contains_section listed.point route.path ≡ true →
       is_commanded_as_listed p s listed ≡ true) ×
       (is_locked_or_occupied now ≡ true → is_unreleased_on_path route now listed.point ≡ true →
       (is_commanded_as_listed p s listed ≡ true) × (is_detected_as_listed p s listed ≡ true))) →
-      keeps_v6 p s ≡ true
+      keeps_v6_route_points_set p s ≡ true
   points-from count each =
       all_routes_pass_test-from p s points_fit count (λ r route now it.
       all-pass (λ listed. is_commanded_if_allocating p s route now listed && is_set_if_locked_or_occupied p s route now listed) route.points (λ k listed at.
       let both = each r route now it k listed at in
       and_from (is_commanded_if_allocating p s route now listed) (is_set_if_locked_or_occupied p s route now listed)
-      (passes-if (same_mode now.mode Allocating && has_section listed.point route.path) (is_commanded_as_listed p s listed) (λ h.
-      let parts = and_parts (same_mode now.mode Allocating) (has_section listed.point route.path) h in
+      (passes-if (same_mode now.mode Allocating && contains_section listed.point route.path) (is_commanded_as_listed p s listed) (λ h.
+      let parts = and_parts (same_mode now.mode Allocating) (contains_section listed.point route.path) h in
       both.0 (one_mode now.mode Allocating parts.0) parts.1))
       (passes-if (is_locked_or_occupied now && is_unreleased_on_path route now listed.point) (is_commanded_as_listed p s listed && is_detected_as_listed p s listed) (λ h.
       let parts = and_parts (is_locked_or_occupied now) (is_unreleased_on_path route now listed.point) h in
@@ -117,7 +116,8 @@ module _ (p : PlantLists) (s : State) where
   abbrev is_protected : Route → RouteState → Bool
   is_protected route now = if same_mode now.mode Locked then list_all (λ m. has_aspect s m Closed) route.protecting_boards else true
 
-  pub protected-at : keeps_v9 p s ≡ true → (r : ℕ) (route : Route) (now : RouteState) → RouteIn p s r route now → now.mode ≡ Locked → (k m : ℕ) → slice_get route.protecting_boards k ≡ Some m → slice_get s.boards m ≡ Some Closed
+  pub protected-at : keeps_v9_protecting_boards_closed p s ≡ true → (r : ℕ) (route : Route) (now : RouteState) → RouteIn p s r route now → now.mode ≡ Locked → (k m : ℕ) → slice_get route.protecting_boards k ≡ Some m →
+      slice_get s.boards m ≡ Some Closed
   protected-at kept r route now it mode k m at =
       has_aspect-at s m Closed
       (list_all-slice_get (λ m. has_aspect s m Closed) route.protecting_boards k m
@@ -128,7 +128,7 @@ module _ (p : PlantLists) (s : State) where
   pub protected-from : length s.routes ≡ length p.routes →
       ((r : ℕ) (route : Route) (now : RouteState) → RouteIn p s r route now → now.mode ≡ Locked → (k m : ℕ) →
       slice_get route.protecting_boards k ≡ Some m → slice_get s.boards m ≡ Some Closed) →
-      keeps_v9 p s ≡ true
+      keeps_v9_protecting_boards_closed p s ≡ true
   protected-from count each =
       all_routes_pass_test-from p s is_protected count (λ r route now it.
       passes-if (same_mode now.mode Locked) (list_all (λ m. has_aspect s m Closed) route.protecting_boards) (λ mode.

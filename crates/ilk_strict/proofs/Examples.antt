@@ -1,10 +1,10 @@
 -- Strict safety on example plants: a strict table, and one that is strict without listed conflicts.
--- For each rule that is used, a plant that breaks it alone, with a run to a hazard or out of the
--- invariant.
+-- For each rule that is used, a plant that breaks only this rule, with a run to a hazard or out of
+-- the invariant.
 use Rattle.std.proofs.Common.{◌≡◌, ℕ, ◌<◌, Bool, true, false, not, Option, Some, None, List, [], ◌∷◌, option_map, codes, is_some, map, unwrap_or, refl}
 use Rattle.ilk_base.specs.Each.{all_below}
 use Rattle.ilk_base.proofs.Truth.{fails}
-use Rattle.ilk_plant.specs.ColumnRules.{breaks_columns, column_rules_broken}
+use Rattle.ilk_plant.specs.ColumnRules.{breaks_column_rule_at, column_rules_broken}
 use Rattle.ilk_plant.specs.Plant.{PlantLists}
 use Rattle.ilk_plant.specs.Start.{start}
 use Rattle.ilk_plant.specs.TableRules.{route_fails}
@@ -26,7 +26,7 @@ use Rattle.ilk_model.specs.declared.event.Event.TheVariants.{Mark, Allocate, Loc
 use Rattle.ilk_model.specs.declared.hazards.HazardAt.{HazardAt}
 use Rattle.ilk_model.specs.declared.hazards.HazardAt.TheVariants.{Two, Wrong}
 use Rattle.ilk_model.proofs.Examples.{station}
-use Rattle.ilk_strict.specs.IsStrict.{IsStrict, ends_at_board_or_border, path_points_are_listed}
+use Rattle.ilk_strict.specs.IsStrict.{IsStrict, ends_at_board_or_border, path_points_listed_along_path}
 use Rattle.ilk_strict.proofs.Reading.{all_below-at}
 use Rattle.ilk_strict.proofs.Strict.{strict_from_list, strict_from_rules}
 
@@ -36,7 +36,6 @@ station_is_clean = refl
 station_is_strict : IsStrict station
 station_is_strict = strict_from_list station station_is_clean
 
--- Without conflicts the station breaks column rules, but none that strictness needs.
 abbrev without_conflicts : PlantLists
 without_conflicts = record station { routes = map (λ (route : Route). record route { conflicts = [] }) station.routes }
 
@@ -45,31 +44,29 @@ kept-below n test h i less = fails (test i) (all_below-at n (λ j. not (test j))
 
 without_conflicts_is_strict : IsStrict without_conflicts
 without_conflicts_is_strict = strict_from_rules without_conflicts (record {
-  c1 = kept-below 8 (breaks_columns without_conflicts C1) refl;
+  c1 = kept-below 8 (breaks_column_rule_at without_conflicts C1) refl;
   c2 = kept-below 8 (route_fails without_conflicts (ends_at_board_or_border without_conflicts)) refl;
-  c3 = kept-below 8 (route_fails without_conflicts (path_points_are_listed without_conflicts)) refl;
-  c7 = kept-below 6 (breaks_columns without_conflicts C7) refl;
+  c3 = kept-below 8 (route_fails without_conflicts (path_points_listed_along_path without_conflicts)) refl;
+  c7 = kept-below 6 (breaks_column_rule_at without_conflicts C7) refl;
 })
 
--- Without destinations it breaks C2 at the first route, but not the part about the end of a path.
 abbrev without_destinations : PlantLists
 without_destinations = record station { routes = map (λ (route : Route). record route { destination = None }) station.routes }
 
-first_breaks_c2 : breaks_columns without_destinations C2 0 ≡ true
+first_breaks_c2 : breaks_column_rule_at without_destinations C2 0 ≡ true
 first_breaks_c2 = refl
 
 without_destinations_is_strict : IsStrict without_destinations
 without_destinations_is_strict = strict_from_rules without_destinations (record {
-  c1 = kept-below 8 (breaks_columns without_destinations C1) refl;
+  c1 = kept-below 8 (breaks_column_rule_at without_destinations C1) refl;
   c2 = kept-below 8 (route_fails without_destinations (ends_at_board_or_border without_destinations)) refl;
-  c3 = kept-below 8 (route_fails without_destinations (path_points_are_listed without_destinations)) refl;
-  c7 = kept-below 6 (breaks_columns without_destinations C7) refl;
+  c3 = kept-below 8 (route_fails without_destinations (path_points_listed_along_path without_destinations)) refl;
+  c7 = kept-below 6 (breaks_column_rule_at without_destinations C7) refl;
 })
 
 abbrev board : ℕ → Dir → Board
 board x d = record { section = x; dir = d }
 
--- A route without listed points.
 abbrev route : ℕ → List ℕ → Route
 route source path = record {
   source = source;
@@ -82,8 +79,7 @@ route source path = record {
   protecting_boards = [];
 }
 
--- A line of two sections with a board at each end, and a route each way. A run skips the events
--- that aren't enabled.
+-- A line of two sections with a board at each end, and a route each way.
 abbrev line_with_boards : PlantLists
 line_with_boards = record {
   sections = Linear None (Some 1) None (Some 0) ∷ Linear (Some 0) None (Some 1) None ∷ [];
@@ -107,8 +103,7 @@ broken_alone rule i = record { rule = rule; first = i; second = None } ∷ []
 abbrev ends_in : PlantLists → List Event → Option (Option HazardAt)
 ends_in p events = option_map (hazard p) (run p (start p) events)
 
--- C1: on a line of three sections, the route from the first omits the second. No route leads a
--- train there.
+-- C1: on a line of three sections, the path from the first omits the second.
 abbrev leaves_out : PlantLists
 leaves_out = record {
   sections =
@@ -126,8 +121,7 @@ leaves_out_breaks_c1 = refl
 leaves_out_breaks_v7 : option_map (first_broken_family leaves_out) (run leaves_out (start leaves_out) (Mark 0 ∷ Allocate 0 ∷ Lock 0 ∷ Enter 0 ∷ Head 0 ∷ [])) ≡ Some (Some 7)
 leaves_out_breaks_v7 = refl
 
--- C1: on two lines of two sections, the route from the first section of one leads to the end of the
--- other.
+-- C1: the path leads from one line of two sections to another.
 abbrev goes_elsewhere : PlantLists
 goes_elsewhere = record {
   sections =
@@ -149,7 +143,7 @@ goes_elsewhere_breaks_c1 = refl
 goes_elsewhere_is_unsafe : ends_in goes_elsewhere (Mark 0 ∷ Allocate 0 ∷ Lock 0 ∷ Enter 0 ∷ Enter 1 ∷ Head 0 ∷ []) ≡ Some (Some (Two 1))
 goes_elsewhere_is_unsafe = refl
 
--- C2: on a line of three sections, the route from the first ends at the second, which has no board.
+-- C2: on a line of three sections, the path ends at the second, which has no board.
 abbrev ends_openly : PlantLists
 ends_openly = record leaves_out { routes = route 0 (1 ∷ []) ∷ [] }
 
@@ -159,7 +153,7 @@ ends_openly_breaks_c2 = refl
 ends_openly_is_unsafe : ends_in ends_openly (Mark 0 ∷ Allocate 0 ∷ Lock 0 ∷ Enter 0 ∷ Enter 2 ∷ Head 0 ∷ Head 1 ∷ []) ≡ Some (Some (Two 2))
 ends_openly_is_unsafe = refl
 
--- C3 on the path: the route from the minus leg of a point doesn't list the point.
+-- C3: the route from the minus leg of a point doesn't list the point.
 abbrev lists_no_point : PlantLists
 lists_no_point = record {
   sections =
@@ -181,7 +175,7 @@ lists_no_point_breaks_c3 = refl
 lists_no_point_is_unsafe : ends_in lists_no_point (Mark 0 ∷ Allocate 0 ∷ Lock 0 ∷ Enter 3 ∷ Head 3 ∷ []) ≡ Some (Some (Wrong 1))
 lists_no_point_is_unsafe = refl
 
--- C7: a line of two sections with a board at only one end.
+-- C7: a line of two sections has a board at only one end.
 abbrev enters_freely : PlantLists
 enters_freely = record {
   sections = Linear None (Some 1) None None ∷ Linear (Some 0) None (Some 0) None ∷ [];

@@ -1,6 +1,6 @@
--- The next section of a train's head in a state that meets the invariant. It is the next one on the
--- path of a route that holds it. It is vacant, and if it is a point, its position is the one that
--- the route needs.
+-- The section ahead of a train's head in a state that meets the invariant. It is the next one on
+-- the path of a route that holds it, and vacant. A point there is in the position that the route
+-- needs.
 use Rattle.std.proofs.Common.{◌≡◌, ℕ, suc, ◌+◌, ◌<◌, ◌≤◌, Bool, true, false, Option, Some, None, List, [], ◌∷◌, inl, inr, ◌⊎◌, length, nat_lt, slice_get, refl, sym, ap, ◌∙◌, subst, arith}
 use Rattle.std.specs.List.{last_or}
 use Rattle.std.proofs.lemmas.Bool.{and_from, both_ways}
@@ -9,7 +9,7 @@ use Rattle.std.proofs.lemmas.Option.{same_Some, slice_get_within}
 use Rattle.ilk_base.specs.Option.{is_some_and}
 use Rattle.ilk_base.proofs.Lists.{item_at}
 use Rattle.ilk_plant.specs.ColumnRules.{has_no_board}
-use Rattle.ilk_plant.specs.Network.{has_section, same_direction}
+use Rattle.ilk_plant.specs.Network.{contains_section, same_direction}
 use Rattle.ilk_plant.specs.Plant.{IsPlant, PlantLists, board_of, next_to}
 use Rattle.ilk_plant.specs.State.{is_occupied, detected_position}
 use Rattle.ilk_plant.specs.declared.network.Board.{Board}
@@ -26,11 +26,11 @@ use Rattle.ilk_plant.specs.declared.state.Train.{Train}
 use Rattle.ilk_plant.specs.declared.table.Route.{Route}
 use Rattle.ilk_plant.proofs.Alike.{one_direction}
 use Rattle.ilk_motion.specs.Ahead.{ahead, detected_leg}
-use Rattle.ilk_motion.specs.Trains.{is_open, may_pass}
+use Rattle.ilk_motion.specs.Trains.{is_open, may_pass_board}
 use Rattle.ilk_motion.proofs.Shape.{ahead-next_to}
 use Rattle.ilk_routes.specs.Lies.{lie_from_position}
 use Rattle.ilk_model.specs.Holding.{is_locked_or_occupied, continues_without_board}
-use Rattle.ilk_strict.specs.IsStrict.{IsRouteFromBoard, IsStrict}
+use Rattle.ilk_strict.specs.IsStrict.{IsRouteWithSource, IsStrict}
 use Rattle.ilk_strict.proofs.Ahead.{LeadsToLeg, LegsDiffer, ahead-cases, board-one, leg, leg-no_other, detected_leg-lie_from_position, legs-differ, other_leg, stem-before, stem-no_leg, stem-no_other, stem-side}
 use Rattle.ilk_strict.proofs.HeldPoints.{IsSet, held-point, set-leg}
 use Rattle.ilk_strict.proofs.Reading.{RouteIn}
@@ -39,7 +39,6 @@ use Rattle.ilk_strict.proofs.RouteFacts.{idle, locked-is, rel-led}
 use Rattle.ilk_strict.proofs.Table.{route-source}
 use Rattle.ilk_strict.proofs.TrainFacts.{IsLedBy, Keeps, head-led, led-route_locked_or_occupied, runs-source}
 
--- The route on whose path y follows x in direction d.
 pub record GoesOn (p : PlantLists) (s : State) (x : ℕ) (d : Dir) (y : ℕ) : Type 0 where
   pub r : ℕ
   pub route : Route
@@ -55,8 +54,6 @@ pub record GoesOn (p : PlantLists) (s : State) (x : ℕ) (d : Dir) (y : ℕ) : T
   pub least : now.rel ≤ k
   pub seen : now.seen ≤ k
   pub vacant : (j z : ℕ) → k ≤ j → slice_get route.path j ≡ Some z → is_occupied s z ≡ false
-  -- With a board: the board is Open, and is the source of the Locked route. Without a board: the
-  -- route is Occupied, or Locked with its source Closed.
   pub board :
       ((board_of p x d ≡ Some route.source) × (now.mode ≡ Locked) × (k ≡ 0) ×
       (slice_get s.boards route.source ≡ Some Open))
@@ -73,7 +70,7 @@ open-is (Some Closed) h = cc
 more-than_none : (n : ℕ) → 0 < n → nat_lt 0 n ≡ true
 more-than_none n less = grind (arith, nat_tests)
 
-some-length : (x : ℕ) (xs : List ℕ) → has_section x xs ≡ true → 0 < length xs
+some-length : (x : ℕ) (xs : List ℕ) → contains_section x xs ≡ true → 0 < length xs
 some-length x [] h = cc
 some-length x (y ∷ xs) h = omega arith
 
@@ -83,7 +80,6 @@ leg-ahead plus minus lie to y o lies set_to goes =
     same_Some (leg plus minus to) y (sym (detected_leg-lie_from_position plus minus to) ∙ (rw same at goes))
 
 module _ (p : PlantLists) (plant : IsPlant p) (strict : IsStrict p) (s : State) (keeps : Keeps p s) where
-  -- With a board that is Open for a route.
   open-for : (x y m : ℕ) (d : Dir) → board_of p x d ≡ Some m → slice_get s.boards m ≡ Some Open → ahead p s x d ≡ Some y → (open_for : IsOpenFor p s m) → (z : ℕ) → slice_get open_for.route.path 0 ≡ Some z → GoesOn p s x d y
   open-for x y m d board shown leads open_for z first =
       let here : Board = record { section = x; dir = d } in
@@ -112,14 +108,14 @@ module _ (p : PlantLists) (plant : IsPlant p) (strict : IsStrict p) (s : State) 
         board = inl (rw source board, open_for.mode, refl, rw source shown);
       }
 
-  from-board : (x y m : ℕ) (d : Dir) → board_of p x d ≡ Some m → may_pass s (board_of p x d) ≡ true → ahead p s x d ≡ Some y → GoesOn p s x d y
+  from-board : (x y m : ℕ) (d : Dir) → board_of p x d ≡ Some m → may_pass_board s (board_of p x d) ≡ true → ahead p s x d ≡ Some y → GoesOn p s x d y
   from-board x y m d board passes leads =
       let shown = open-is (slice_get s.boards m) (rw board at passes) in
       let open_for = open-at p s keeps.v5 m (plant.boards_known x m d board) shown in
       let first = item_at open_for.route.path 0 (plant.routes_known open_for.r open_for.route open_for.it.known).path_begins in
       open-for x y m d board shown leads open_for first.0 first.1
 
-  facing-set : (r : ℕ) (route : Route) (source : Board) → IsRouteFromBoard p r route source → (before i x y z : ℕ) →
+  facing-set : (r : ℕ) (route : Route) (source : Board) → IsRouteWithSource p r route source → (before i x y z : ℕ) →
       slice_get (source.section ∷ route.path) i ≡ Some before → slice_get route.path i ≡ Some x →
       slice_get route.path (suc i) ≡ Some z → (to_leg : LeadsToLeg p s x source.dir y) →
       IsSet p s route before i x → y ≡ z
@@ -136,7 +132,7 @@ module _ (p : PlantLists) (plant : IsPlant p) (strict : IsStrict p) (s : State) 
       ]
 
   facing-next : (r : ℕ) (route : Route) (now : RouteState) → RouteIn p s r route now → (source : Board) →
-      IsRouteFromBoard p r route source → is_locked_or_occupied now ≡ true → (i x y z : ℕ) → now.rel ≤ i →
+      IsRouteWithSource p r route source → is_locked_or_occupied now ≡ true → (i x y z : ℕ) → now.rel ≤ i →
       slice_get route.path i ≡ Some x → slice_get route.path (suc i) ≡ Some z →
       LeadsToLeg p s x source.dir y → y ≡ z
   facing-next r route now it source from mode i x y z least at next to_leg =
@@ -144,12 +140,11 @@ module _ (p : PlantLists) (plant : IsPlant p) (strict : IsStrict p) (s : State) 
       let earlier = item_at (source.section ∷ route.path) i (omega (arith, within)) in
       facing-set r route source from earlier.0 i x y z earlier.1 at next to_leg (held-point p strict s keeps.v6 r route now it mode source from earlier.0 i x least earlier.1 at (rw to_leg.section refl))
 
-  -- Without a board, if a route leads the train.
   without-board : (x y : ℕ) (d : Dir) → board_of p x d ≡ None → continues_without_board p d x ≡ true → ahead p s x d ≡ Some y → IsLedBy p s d x → GoesOn p s x d y
   without-board x y d none plain leads led =
       let route = led.route in
       let source = route-source p route (plant.routes_known led.r route led.it.known) in
-      let from : IsRouteFromBoard p led.r route source.0 = record { known = led.it.known; begins = source.1 } in
+      let from : IsRouteWithSource p led.r route source.0 = record { known = led.it.known; begins = source.1 } in
       let same : source.0.dir ≡ d = runs-source p d route source.0 led.runs source.1 in
       let within = slice_get_within route.path led.i x led.at in
       let not_last : led.i + 1 ≡ length route.path → ⊥ = λ last. both_ways (continues_without_board p d x) (subst (λ (e : Dir). continues_without_board p e x ≡ false) same (strict.ends led.r route source.0 from led.i x led.at last)) plain in
@@ -181,10 +176,9 @@ module _ (p : PlantLists) (plant : IsPlant p) (strict : IsStrict p) (s : State) 
         board = inr (none, led.mode);
       }
 
--- Main lemma on heads.
 pub goes-on : (p : PlantLists) → IsPlant p → IsStrict p → (s : State) → Keeps p s →
     (i : ℕ) (train : Train) (x y : ℕ) → slice_get s.trains i ≡ Some train → last_or None train.body ≡ Some x →
-    ahead p s x train.dir ≡ Some y → may_pass s (board_of p x train.dir) ≡ true → GoesOn p s x train.dir y
+    ahead p s x train.dir ≡ Some y → may_pass_board s (board_of p x train.dir) ≡ true → GoesOn p s x train.dir y
 goes-on p plant strict s keeps i train x y at last leads passes = by_board (board_of p x train.dir) refl
   where
     by_board : (o : Option ℕ) → board_of p x train.dir ≡ o → GoesOn p s x train.dir y
@@ -196,8 +190,6 @@ goes-on p plant strict s keeps i train x y at last leads passes = by_board (boar
         (some-length y (next_to p x train.dir) (ahead-next_to p s x y train.dir leads))) in
         without-board p plant strict s keeps x y train.dir board plain leads (head-led p s keeps.v7 i train x at last plain)
 
--- The section ahead, if it is a point: its position, and that the section before it isn't on the
--- other leg.
 pub record LiesAhead (p : PlantLists) (s : State) (x y plus minus : ℕ) : Type 0 where
   pub to : Position
   pub lies : detected_position p s y ≡ Some (lie_from_position to)
@@ -207,7 +199,7 @@ pub lies-ahead : (p : PlantLists) → IsPlant p → IsStrict p → (s : State) �
     GoesOn p s x d y → (stem plus minus : ℕ) (faces : Dir) →
     slice_get p.sections y ≡ Some (Point stem plus minus faces) → LiesAhead p s x y plus minus
 lies-ahead p plant strict s keeps x y d on stem plus minus faces section =
-    let from : IsRouteFromBoard p on.r on.route on.source = record { known = on.it.known; begins = on.begins } in
+    let from : IsRouteWithSource p on.r on.route on.source = record { known = on.it.known; begins = on.begins } in
     let set_to = held-point p strict s keeps.v6 on.r on.route on.now on.it on.mode on.source from x on.k y on.least on.before on.at (rw section refl) in
     let leads_to = set-leg p s on.route x on.k y stem plus minus faces set_to section in
     let differ = legs-differ p plant y stem plus minus faces section in
@@ -219,8 +211,8 @@ lies-ahead p plant strict s keeps x y d on stem plus minus faces section =
     }
   where
     by_side : (to : Position) (w : ℕ) → leg plus minus to ≡ w → LegsDiffer stem plus minus →
-        x ≡ other_leg plus minus to → has_section y (next_to p x on.source.dir) ≡ true →
-        (x ≡ w) ⊎ (slice_get on.route.path (suc on.k) ≡ Some w) → IsRouteFromBoard p on.r on.route on.source →
+        x ≡ other_leg plus minus to → contains_section y (next_to p x on.source.dir) ≡ true →
+        (x ≡ w) ⊎ (slice_get on.route.path (suc on.k) ≡ Some w) → IsRouteWithSource p on.r on.route on.source →
         (b : Bool) → same_direction faces on.source.dir ≡ b → ⊥
     by_side to w leads_to differ other beside to_which from true facing =
         let stem_is = stem-before p plant x y stem plus minus faces on.source.dir section (one_direction faces on.source.dir facing) beside in

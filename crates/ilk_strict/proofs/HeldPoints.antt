@@ -4,7 +4,7 @@ use Rattle.std.proofs.Common.{◌≡◌, ℕ, zero, suc, ◌+◌, ◌≤◌, tru
 use Rattle.std.proofs.lemmas.Option.{same_Some}
 use Rattle.ilk_base.specs.Option.{is_some_and}
 use Rattle.ilk_base.proofs.Lists.{get-dropped, taken-before}
-use Rattle.ilk_plant.specs.ColumnRules.{is_leg}
+use Rattle.ilk_plant.specs.ColumnRules.{is_leg_at_position}
 use Rattle.ilk_plant.specs.Plant.{PlantLists, is_point_section}
 use Rattle.ilk_plant.specs.State.{detected_position}
 use Rattle.ilk_plant.specs.declared.network.Board.{Board}
@@ -16,26 +16,25 @@ use Rattle.ilk_plant.specs.declared.state.State.{State}
 use Rattle.ilk_plant.specs.declared.table.Route.{Route}
 use Rattle.ilk_routes.specs.Lies.{lie_from_position}
 use Rattle.ilk_model.specs.Commanded.{commanded_position}
-use Rattle.ilk_model.specs.Families.{keeps_v6}
+use Rattle.ilk_model.specs.Families.{keeps_v6_route_points_set}
 use Rattle.ilk_model.specs.Holding.{is_unreleased_on_path, is_locked_or_occupied}
-use Rattle.ilk_strict.specs.IsStrict.{IsRouteFromBoard, IsStrict}
+use Rattle.ilk_strict.specs.IsStrict.{IsRouteWithSource, IsStrict}
 use Rattle.ilk_strict.proofs.Ahead.{IsListedTo, leg, leg-is, lies-listed, listed_towards-at}
 use Rattle.ilk_strict.proofs.Points.{commanded-at_listed}
 use Rattle.ilk_strict.proofs.Reading.{RouteIn, kept-from}
 use Rattle.ilk_strict.proofs.BoardFacts.{lies-at}
 
--- Point x = path[i] is set to a position whose leg is the previous or the next section.
 pub record IsSet (p : PlantLists) (s : State) (route : Route) (before i x : ℕ) : Type 0 where
   pub to : Position
   pub commanded : commanded_position p s x ≡ Some to
   pub lies : detected_position p s x ≡ Some (lie_from_position to)
   pub w : ℕ
   pub towards : (before ≡ w) ⊎ (slice_get route.path (suc i) ≡ Some w)
-  pub leads : is_some_and (slice_get p.sections x) (is_leg to w) ≡ true
+  pub leads : is_some_and (slice_get p.sections x) (is_leg_at_position to w) ≡ true
 
 pub set-leg : (p : PlantLists) (s : State) (route : Route) (before i x stem plus minus : ℕ) (faces : Dir) → (set_to : IsSet p s route before i x) → slice_get p.sections x ≡ Some (Point stem plus minus faces) → leg plus minus set_to.to ≡ set_to.w
 set-leg p s route before i x stem plus minus faces set_to section =
-    let is : is_leg set_to.to set_to.w (Point stem plus minus faces) ≡ true = rw section at set_to.leads in
+    let is : is_leg_at_position set_to.to set_to.w (Point stem plus minus faces) ≡ true = rw section at set_to.leads in
     leg-is set_to.to set_to.w stem plus minus faces is
 
 before-or_next : (path : List ℕ) (i before j w : ℕ) → slice_get (before ∷ take 1 (drop (i + 1) path)) j ≡ Some w → (before ≡ w) ⊎ (slice_get path (suc i) ≡ Some w)
@@ -46,7 +45,7 @@ before-or_next path i before (suc j) w among =
     let place : i + 1 + j ≡ suc i = omega (arith, first) in
     inr (ap (slice_get path) (sym place) ∙ sym (get-dropped path (i + 1) j) ∙ taken.1)
 
-module _ (p : PlantLists) (strict : IsStrict p) (s : State) (kept : keeps_v6 p s ≡ true) (r : ℕ) (route : Route) (now : RouteState) (it : RouteIn p s r route now) (mode : is_locked_or_occupied now ≡ true) where
+module _ (p : PlantLists) (strict : IsStrict p) (s : State) (kept : keeps_v6_route_points_set p s ≡ true) (r : ℕ) (route : Route) (now : RouteState) (it : RouteIn p s r route now) (mode : is_locked_or_occupied now ≡ true) where
   listed-set : (before i x : ℕ) → now.rel ≤ i → slice_get route.path i ≡ Some x → IsListedTo p route.points (before ∷ take 1 (drop (i + 1) route.path)) x → IsSet p s route before i x
   listed-set before i x least at listed =
       let entry = listed.listed in
@@ -62,7 +61,7 @@ module _ (p : PlantLists) (strict : IsStrict p) (s : State) (kept : keeps_v6 p s
         leads = listed.leads;
       }
 
-  pub held-point : (source : Board) → IsRouteFromBoard p r route source → (before i x : ℕ) → now.rel ≤ i → slice_get (source.section ∷ route.path) i ≡ Some before → slice_get route.path i ≡ Some x → is_point_section p x ≡ true
+  pub held-point : (source : Board) → IsRouteWithSource p r route source → (before i x : ℕ) → now.rel ≤ i → slice_get (source.section ∷ route.path) i ≡ Some before → slice_get route.path i ≡ Some x → is_point_section p x ≡ true
       → IsSet p s route before i x
   held-point source from before i x least earlier at is_point =
       listed-set before i x least at (listed_towards-at p route.points (before ∷ take 1 (drop (i + 1) route.path)) x (strict.points r route source from i before x earlier at is_point))

@@ -5,7 +5,7 @@ use Rattle.std.proofs.lemmas.Option.{cond_some, option_and_then_some, same_Some}
 use Rattle.std.specs.declared.alloc.AllocError.{AllocError}
 use Rattle.ilk_base.proofs.Lists.{copied}
 use Rattle.ilk_plant.specs.Plant.{IsPlant, PlantLists}
-use Rattle.ilk_plant.specs.Start.{free_route, start}
+use Rattle.ilk_plant.specs.Start.{free_route_state, start}
 use Rattle.ilk_plant.specs.declared.state.Aspect.TheVariants.{Open, Closed}
 use Rattle.ilk_plant.specs.declared.state.Mode.TheVariants.{Free, Allocating, Locked}
 use Rattle.ilk_plant.specs.declared.state.RouteState.{RouteState}
@@ -38,15 +38,15 @@ meets-run p plant strict (event ∷ rest) s t meets e =
     let leads : next p s event ≡ Some u = ap (λ (v : State). next p v event) same ∙ after in
     meets-run p plant strict rest u t (meets-next p plant strict s u event meets leads) later))
 
-start-free : (p : PlantLists) (r : ℕ) (route : Route) (now : RouteState) → RouteIn p (start p) r route now → free_route ≡ now
-start-free p r route now it = copied (length p.routes) r free_route now it.state
+start-free : (p : PlantLists) (r : ℕ) (route : Route) (now : RouteState) → RouteIn p (start p) r route now → free_route_state ≡ now
+start-free p r route now it = copied (length p.routes) r free_route_state now it.state
 
 start-mode : (p : PlantLists) (r : ℕ) (route : Route) (now : RouteState) → RouteIn p (start p) r route now → now.mode ≡ Free
 start-mode p r route now it = ap (λ (v : RouteState). v.mode) (sym (start-free p r route now it))
 
 start-holds_none : (p : PlantLists) (r : ℕ) (route : Route) (now : RouteState) → RouteIn p (start p) r route now → is_holding_state now ≡ true → ⊥
 start-holds_none p r route now it holds =
-    let none : is_holding_state free_route ≡ true = subst (λ (v : RouteState). is_holding_state v ≡ true) (sym (start-free p r route now it)) holds in cc
+    let none : is_holding_state free_route_state ≡ true = subst (λ (v : RouteState). is_holding_state v ≡ true) (sym (start-free p r route now it)) holds in cc
 
 pub start-meets : (p : PlantLists) → Meets p (start p)
 start-meets p = meets-from p (start p) (record {

@@ -1,12 +1,11 @@
--- No event causes a derailment risk. A route holds each point under a train in the position that it
--- needs, so the point isn't thrown. A head moves only onto a point in the position that its route
--- needs.
+-- No event causes a derailment risk. A route holds each point under a train, so it isn't thrown. A
+-- head moves only onto a point in the position that its route needs.
 use Rattle.std.proofs.Common.{◌≡◌, ℕ, true, false, Option, Some, None, List, [], ◌∷◌, ◌++◌, inl, inr, remove, set, slice_get, refl, sym, ◌∙◌, ap, subst, arith}
 use Rattle.std.specs.List.{last_or}
 use Rattle.std.proofs.lemmas.Bool.{both_ways, cases_eq, false_from_ne_true}
 use Rattle.std.proofs.lemmas.Option.{same_Some, slice_get_within}
 use Rattle.ilk_base.proofs.Lists.{item_at}
-use Rattle.ilk_plant.specs.Network.{has_section, is_point}
+use Rattle.ilk_plant.specs.Network.{contains_section, is_point}
 use Rattle.ilk_plant.specs.Plant.{IsPlant, PlantLists, is_point_section, point_number}
 use Rattle.ilk_plant.specs.State.{detected_position}
 use Rattle.ilk_plant.specs.declared.network.Dir.{Dir}
@@ -24,7 +23,7 @@ use Rattle.ilk_routes.specs.Claims.{required_points}
 use Rattle.ilk_routes.specs.Lies.{lie_from_position, is_lie_at_position}
 use Rattle.ilk_model.specs.Hazard.{are_adjacent_in_body, is_wrong_under_body}
 use Rattle.ilk_model.specs.Holding.{continues_without_board}
-use Rattle.ilk_strict.specs.IsStrict.{IsRouteFromBoard, IsStrict}
+use Rattle.ilk_strict.specs.IsStrict.{IsRouteWithSource, IsStrict}
 use Rattle.ilk_strict.proofs.After.{wrong-reads}
 use Rattle.ilk_strict.proofs.Ahead.{other_leg, is_wrong_under_body-lie_from_position}
 use Rattle.ilk_model.proofs.Alike.{own_lie}
@@ -84,7 +83,7 @@ module _ (p : PlantLists) (plant : IsPlant p) (strict : IsStrict p) (s t : State
 
   point-changes : (x m : ℕ) (point new : PointState) → point_number p x ≡ Some m →
       slice_get s.points m ≡ Some point → t.points ≡ set s.points m new → t.trains ≡ s.trains →
-      ((i : ℕ) (train : Train) → slice_get s.trains i ≡ Some train → has_section x train.body ≡ true → ⊥) →
+      ((i : ℕ) (train : Train) → slice_get s.trains i ≡ Some train → contains_section x train.body ≡ true → ⊥) →
       AreRight p t
   point-changes x m point new number at points trains free z within =
       wrong-from p t z (λ stem plus minus faces section i train there.
@@ -103,12 +102,12 @@ module _ (p : PlantLists) (plant : IsPlant p) (strict : IsStrict p) (s t : State
   lies-kept : (x m : ℕ) (point : PointState) → point_number p x ≡ Some m → slice_get s.points m ≡ Some point → is_point_section p x ≡ true → (d : Dir) → IsKeptBy p s d x → is_lie_at_position point.at point.to ≡ true
   lies-kept x m point number at is_point d kept =
       let source = route-source p kept.route (plant.routes_known kept.r kept.route kept.it.known) in
-      let from : IsRouteFromBoard p kept.r kept.route source.0 = record { known = kept.it.known; begins = source.1 } in
+      let from : IsRouteWithSource p kept.r kept.route source.0 = record { known = kept.it.known; begins = source.1 } in
       let within = slice_get_within kept.route.path kept.i x kept.at in
       let before = item_at (source.0.section ∷ kept.route.path) kept.i (omega (arith, within)) in
       lies-set x m point number at kept.route before.0 kept.i (held-point p strict s keeps.v6 kept.r kept.route kept.now kept.it kept.mode source.0 from before.0 kept.i x kept.least before.1 kept.at is_point)
 
-  lies-under : (x m : ℕ) (point : PointState) → point_number p x ≡ Some m → slice_get s.points m ≡ Some point → (i : ℕ) (train : Train) → slice_get s.trains i ≡ Some train → has_section x train.body ≡ true
+  lies-under : (x m : ℕ) (point : PointState) → point_number p x ≡ Some m → slice_get s.points m ≡ Some point → (i : ℕ) (train : Train) → slice_get s.trains i ≡ Some train → contains_section x train.body ≡ true
       → is_lie_at_position point.at point.to ≡ true
   lies-under x m point number at i train there has =
       let numbered = numbered-section p x m number in
@@ -131,8 +130,7 @@ module _ (p : PlantLists) (plant : IsPlant p) (strict : IsStrict p) (s t : State
       let point = it.point in
       point-changes n it.n point (record point { at = lie_from_position point.to }) it.number it.state it.points it.trains vacant
     where
-      -- No train was on the point when it moved.
-      vacant : (i : ℕ) (train : Train) → slice_get s.trains i ≡ Some train → has_section n train.body ≡ true → ⊥
+      vacant : (i : ℕ) (train : Train) → slice_get s.trains i ≡ Some train → contains_section n train.body ≡ true → ⊥
       vacant i train at has =
           let numbered = numbered-section p n it.n it.number in
           of_section numbered.0 numbered.1 numbered.2
@@ -141,8 +139,8 @@ module _ (p : PlantLists) (plant : IsPlant p) (strict : IsStrict p) (s t : State
           of_section (Linear down up board_down board_up) section h = cc
           of_section (Point stem plus minus faces) section h =
               let lie : detected_position p s n ≡ Some Moving = lie-is p s n it.n it.point it.number it.state ∙ ap Some (moving-is it.point.at it.moved) in
-              let none : has_section n train.body ≡ false = rw lie at (no-is_wrong_under_body n stem plus minus faces section i train at) in
-              both_ways (has_section n train.body) none has
+              let none : contains_section n train.body ≡ false = rw lie at (no-is_wrong_under_body n stem plus minus faces section i train at) in
+              both_ways (contains_section n train.body) none has
 
   pub enter-keeps_right : IsEntered p s t n → AreRight p t
   enter-keeps_right it =
@@ -150,7 +148,7 @@ module _ (p : PlantLists) (plant : IsPlant p) (strict : IsStrict p) (s t : State
         | inl old ↦ no-is_wrong_under_body z stem plus minus faces section i train old
         | inr new ↦ false_from_ne_true (is_wrong_under_body z plus minus (detected_position p s z) train.body) (λ h.
             let has = is_wrong_under_body-has z plus minus (detected_position p s z) train.body h in
-            let here : n ≡ z = only-one z n (subst (λ (one : Train). has_section z one.body ≡ true) new.1 has) in
+            let here : n ≡ z = only-one z n (subst (λ (one : Train). contains_section z one.body ≡ true) new.1 has) in
             point-no_border p z stem plus minus faces it.inward section (rw here at it.borders))
       ])
 
@@ -193,11 +191,11 @@ module _ (p : PlantLists) (plant : IsPlant p) (strict : IsStrict p) (s t : State
       strayed z stem plus minus faces section (Some lie) lies h = elim (moves-or_lies lie) [
         | inl moves ↦
             (let moving : detected_position p s z ≡ Some Moving = lies ∙ ap Some moves in
-            let has : has_section z (it.train.body ++ it.y ∷ []) ≡ true = rw moving at h in
+            let has : contains_section z (it.train.body ++ it.y ∷ []) ≡ true = rw moving at h in
             elim (longer-has z it.y it.train.body has) [
               | inl old ↦
-                  (let none : has_section z it.train.body ≡ false = rw moving at (no-is_wrong_under_body z stem plus minus faces section it.i it.train it.at) in
-                  both_ways (has_section z it.train.body) none old)
+                  (let none : contains_section z it.train.body ≡ false = rw moving at (no-is_wrong_under_body z stem plus minus faces section it.i it.train it.at) in
+                  both_ways (contains_section z it.train.body) none old)
               | inr new ↦
                   (let here : slice_get p.sections it.y ≡ Some (Point stem plus minus faces) = rw new at section in
                   let right = lies-ahead p plant strict s keeps n it.y it.train.dir on stem plus minus faces here in

@@ -1,7 +1,7 @@
 -- No event brings two trains into one section: a train enters or moves only into a vacant section.
 use Rattle.std.proofs.Common.{◌≡◌, ℕ, ◌<◌, true, false, Some, inl, inr, length, slice_get, sym, ◌∙◌, ap, subst, arith}
 use Rattle.std.proofs.lemmas.Bool.{both_ways}
-use Rattle.ilk_plant.specs.Network.{has_section}
+use Rattle.ilk_plant.specs.Network.{contains_section}
 use Rattle.ilk_plant.specs.Plant.{IsPlant, PlantLists}
 use Rattle.ilk_plant.specs.State.{is_occupied}
 use Rattle.ilk_plant.specs.declared.state.State.{State}
@@ -63,10 +63,10 @@ module _ (p : PlantLists) (plant : IsPlant p) (strict : IsStrict p) (s t : State
         ]
       ])
     where
-      here : (train : Train) (x : ℕ) → train ≡ new_train_on n it.inward → has_section x train.body ≡ true → n ≡ x
-      here train x new has = only-one x n (subst (λ (one : Train). has_section x one.body ≡ true) new has)
+      here : (train : Train) (x : ℕ) → train ≡ new_train_on n it.inward → contains_section x train.body ≡ true → n ≡ x
+      here train x new has = only-one x n (subst (λ (one : Train). contains_section x one.body ≡ true) new has)
 
-      vacant-still : (i : ℕ) (train : Train) (x : ℕ) → slice_get s.trains i ≡ Some train → has_section x train.body ≡ true → n ≡ x → ⊥
+      vacant-still : (i : ℕ) (train : Train) (x : ℕ) → slice_get s.trains i ≡ Some train → contains_section x train.body ≡ true → n ≡ x → ⊥
       vacant-still i train x at has same = both_ways (is_occupied s x) (rw same at it.vacant) (occupied-from s i train x at has)
 
   pub head-keeps_apart : IsHeaded p s t n → AreApart p t
@@ -82,9 +82,9 @@ module _ (p : PlantLists) (plant : IsPlant p) (strict : IsStrict p) (s t : State
         ]
       ])
     where
-      meets : (j : ℕ) (other one : Train) (x : ℕ) → x < length p.sections → one ≡ with_new_head it.y it.train → slice_get s.trains j ≡ Some other → has_section x one.body ≡ true → has_section x other.body ≡ true → it.i ≡ j
+      meets : (j : ℕ) (other one : Train) (x : ℕ) → x < length p.sections → one ≡ with_new_head it.y it.train → slice_get s.trains j ≡ Some other → contains_section x one.body ≡ true → contains_section x other.body ≡ true → it.i ≡ j
       meets j other one x within moved old first second =
-          elim (longer-has x it.y it.train.body (subst (λ (train : Train). has_section x train.body ≡ true) moved first)) [
+          elim (longer-has x it.y it.train.body (subst (λ (train : Train). contains_section x train.body ≡ true) moved first)) [
             | inl body ↦ two-at p s x (keeps.one_train x within) it.i j it.train other it.at old body second
             | inr new ↦
                 (let on = headed-goes_on p plant strict s t keeps n it in
@@ -98,9 +98,9 @@ module _ (p : PlantLists) (plant : IsPlant p) (strict : IsStrict p) (s t : State
       let b = was j other x also second in
       two-at p s x (keeps.one_train x within) i j a.0 b.0 a.1 b.1 a.2 b.2)
     where
-      was : (i : ℕ) (one : Train) (x : ℕ) → slice_get t.trains i ≡ Some one → has_section x one.body ≡ true → (old : Train) × (slice_get s.trains i ≡ Some old) × (has_section x old.body ≡ true)
+      was : (i : ℕ) (one : Train) (x : ℕ) → slice_get t.trains i ≡ Some one → contains_section x one.body ≡ true → (old : Train) × (slice_get s.trains i ≡ Some old) × (contains_section x old.body ≡ true)
       was i one x at has = elim (tail-trains p s t n it i one at) [
-        | inl moved ↦ (it.train, ap (slice_get s.trains) moved.0 ∙ it.at, rest-has x it.train.body (subst (λ (train : Train). has_section x train.body ≡ true) moved.1 has))
+        | inl moved ↦ (it.train, ap (slice_get s.trains) moved.0 ∙ it.at, rest-has x it.train.body (subst (λ (train : Train). contains_section x train.body ≡ true) moved.1 has))
         | inr other ↦ (one, other.1, has)
       ]
 

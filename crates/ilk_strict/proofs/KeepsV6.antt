@@ -1,7 +1,6 @@
--- No event breaks V6. A listed point of an Allocating route's path is commanded to its listed
--- position. A listed point that a Locked or Occupied route holds on its path is commanded to that
--- position and is in it. An allocation commands only points whose locks were Free. A point in its
--- commanded position isn't thrown, and a moving point is in no position.
+-- No event breaks V6, about the points on the paths of routes. An allocation commands only points
+-- whose locks were Free. A point in its commanded position isn't thrown, and a moving point is in
+-- no position.
 use Rattle.std.proofs.Common.{◌≡◌, ℕ, ◌+◌, ◌<◌, ◌≤◌, true, false, Some, IsSome, List, ◌++◌, inl, inr, length, map, set, slice_get, refl, sym, ◌∙◌, ap, arith}
 use Rattle.std.proofs.lemmas.Bool.{both_ways}
 use Rattle.std.proofs.lemmas.Option.{same_Some}
@@ -9,7 +8,7 @@ use Rattle.ilk_base.proofs.Lists.{at-before, at-either, item_at}
 use Rattle.ilk_base.proofs.ListTests.{all-at}
 use Rattle.ilk_base.proofs.Options.{some-is}
 use Rattle.ilk_base.proofs.Tested.{list_all-slice_get}
-use Rattle.ilk_plant.specs.Network.{has_section}
+use Rattle.ilk_plant.specs.Network.{contains_section}
 use Rattle.ilk_plant.specs.Plant.{IsPlant, IsValidRouteOf, PlantLists, point_number}
 use Rattle.ilk_plant.specs.Shape.{HasShape}
 use Rattle.ilk_plant.specs.State.{detected_position}
@@ -28,7 +27,7 @@ use Rattle.ilk_plant.proofs.InLists.{section-at}
 use Rattle.ilk_routes.specs.Claims.{required_points}
 use Rattle.ilk_routes.specs.Lies.{is_detected_moving, lie_from_position, is_detected_as_listed, is_lie_at_position, is_entry_for_point}
 use Rattle.ilk_model.specs.Commanded.{commanded_position, is_commanded_as_listed}
-use Rattle.ilk_model.specs.Families.{keeps_v6}
+use Rattle.ilk_model.specs.Families.{keeps_v6_route_points_set}
 use Rattle.ilk_model.specs.Holding.{holds_section, is_unreleased_on_path, is_locked_or_occupied}
 use Rattle.ilk_strict.proofs.After.{after-cases, before-change, same-here, same-route, v6-reads}
 use Rattle.ilk_strict.proofs.Ahead.{lies-listed}
@@ -45,9 +44,8 @@ use Rattle.ilk_strict.proofs.RouteFacts.{allocating-holds, held-not_free, holds-
 use Rattle.ilk_strict.proofs.Table.{listed-mapped, listed-none, listed-passed, listed-position, wanted-locked}
 use Rattle.ilk_strict.proofs.TrainFacts.{Keeps}
 
--- The V6 condition for a listed point of a route.
 pub record PointFits (p : PlantLists) (s : State) (route : Route) (now : RouteState) (listed : Listed) : Type 0 where
-  pub commanded : now.mode ≡ Allocating → has_section listed.point route.path ≡ true → is_commanded_as_listed p s listed ≡ true
+  pub commanded : now.mode ≡ Allocating → contains_section listed.point route.path ≡ true → is_commanded_as_listed p s listed ≡ true
   pub lies : is_locked_or_occupied now ≡ true → is_unreleased_on_path route now listed.point ≡ true → (is_commanded_as_listed p s listed ≡ true) × (is_detected_as_listed p s listed ≡ true)
 
 module _ (p : PlantLists) (plant : IsPlant p) (s t : State) (keeps : Keeps p s) (shape : HasShape p t) (n : ℕ) where
@@ -74,11 +72,12 @@ module _ (p : PlantLists) (plant : IsPlant p) (s t : State) (keeps : Keeps p s) 
         ));
   }
 
-  from-fits : ((q : ℕ) (one : Route) (its : RouteState) → RouteIn p t q one its → (k : ℕ) (listed : Listed) → slice_get one.points k ≡ Some listed → PointFits p t one its listed) → keeps_v6 p t ≡ true
+  from-fits : ((q : ℕ) (one : Route) (its : RouteState) → RouteIn p t q one its → (k : ℕ) (listed : Listed) → slice_get one.points k ≡ Some listed → PointFits p t one its listed) → keeps_v6_route_points_set p t ≡ true
   from-fits each =
       points-from p t shape.routes (λ q one its it k listed at. let fits = each q one its it k listed at in (fits.commanded, fits.lies))
 
-  changed : (route : Route) (now new : RouteState) → ChangesRoute p s t n route now new → t.points ≡ s.points → ((k : ℕ) (listed : Listed) → slice_get route.points k ≡ Some listed → PointFits p t route new listed) → keeps_v6 p t ≡ true
+  changed : (route : Route) (now new : RouteState) → ChangesRoute p s t n route now new → t.points ≡ s.points → ((k : ℕ) (listed : Listed) → slice_get route.points k ≡ Some listed → PointFits p t route new listed) →
+      keeps_v6_route_points_set p t ≡ true
   changed route now new changes points mine =
       from-fits (λ q one its it k listed at. elim (after-cases p s t n route now new changes q one its it) [
         | inl here ↦ same-here (λ u v. (k : ℕ) (listed : Listed) → slice_get u.points k ≡ Some listed → PointFits p t u v listed) one route its new here.1 here.2 mine k listed at
@@ -91,14 +90,14 @@ module _ (p : PlantLists) (plant : IsPlant p) (s t : State) (keeps : Keeps p s) 
       lie : (x : ℕ) → detected_position p t x ≡ detected_position p s x
       lie x = lie-alike p s t x (λ m number. ap (λ (l : List PointState). slice_get l m) points)
 
-  drops : (route : Route) (now new : RouteState) → ChangesRoute p s t n route now new → t.points ≡ s.points → (new.mode ≡ Allocating → ⊥) → is_locked_or_occupied new ≡ false → keeps_v6 p t ≡ true
+  drops : (route : Route) (now new : RouteState) → ChangesRoute p s t n route now new → t.points ≡ s.points → (new.mode ≡ Allocating → ⊥) → is_locked_or_occupied new ≡ false → keeps_v6_route_points_set p t ≡ true
   drops route now new changes points unallocated none =
       changed route now new changes points (λ k listed at. record {
         commanded = λ mode on. absurd (unallocated mode);
         lies = λ mode kept. absurd (both_ways (is_locked_or_occupied new) none mode);
       })
 
-  goes_on : (route : Route) (now new : RouteState) → ChangesRoute p s t n route now new → t.points ≡ s.points → (new.mode ≡ Allocating → ⊥) → is_locked_or_occupied now ≡ true → now.rel ≤ new.rel → keeps_v6 p t ≡ true
+  goes_on : (route : Route) (now new : RouteState) → ChangesRoute p s t n route now new → t.points ≡ s.points → (new.mode ≡ Allocating → ⊥) → is_locked_or_occupied now ≡ true → now.rel ≤ new.rel → keeps_v6_route_points_set p t ≡ true
   goes_on route now new changes points unallocated mode more =
       changed route now new changes points (λ k listed at. record {
         commanded = λ allocating on. absurd (unallocated allocating);
@@ -112,11 +111,11 @@ module _ (p : PlantLists) (plant : IsPlant p) (s t : State) (keeps : Keeps p s) 
             ));
       })
 
-  pub mark-keeps_v6 : IsMarked p s t n → keeps_v6 p t ≡ true
-  mark-keeps_v6 it = let now = it.now in drops it.route now (record now { mode = Marked }) it.changes it.points (λ e. cc) refl
+  pub mark-keeps_v6_route_points_set : IsMarked p s t n → keeps_v6_route_points_set p t ≡ true
+  mark-keeps_v6_route_points_set it = let now = it.now in drops it.route now (record now { mode = Marked }) it.changes it.points (λ e. cc) refl
 
-  pub allocate-keeps_v6 : IsAllocated p s t n → keeps_v6 p t ≡ true
-  allocate-keeps_v6 it =
+  pub allocate-keeps_v6_route_points_set : IsAllocated p s t n → keeps_v6_route_points_set p t ≡ true
+  allocate-keeps_v6_route_points_set it =
       from-fits (λ q one its that k listed at. elim (after-cases p s t n it.route it.now new it.changes q one its that) [
         | inl here ↦ same-here (λ u v. (k : ℕ) (listed : Listed) → slice_get u.points k ≡ Some listed → PointFits p t u v listed) one it.route its new here.1 here.2 mine k listed at
         | inr other ↦ fits-still q one its other.1 k listed at (others q one its other.1 k listed at) (λ mode kept. lie-kept p s t (required_points it.route) it.points listed.point)
@@ -132,7 +131,6 @@ module _ (p : PlantLists) (plant : IsPlant p) (s t : State) (keeps : Keeps p s) 
       numbered route of_plant k listed at =
           some-is (point_number p listed.point) (all-at (λ one. IsSome (point_number p one.point)) route.points k listed of_plant.points_are_points at)
 
-      -- All entries of the route for one point have the same position.
       alike : (k : ℕ) (listed : Listed) → slice_get it.route.points k ≡ Some listed → (m : ℕ) →
           point_number p listed.point ≡ Some m → (j : ℕ) (one : Listed) →
           slice_get (required_points it.route) j ≡ Some one → is_entry_for_point p m one ≡ true → one.at ≡ listed.at
@@ -147,9 +145,9 @@ module _ (p : PlantLists) (plant : IsPlant p) (s t : State) (keeps : Keeps p s) 
                 let is : one ≡ listed = same_Some one listed (sym first.1 ∙ ap (slice_get it.route.points) place ∙ at) in
                 ap (λ (v : Listed). v.at) is)
             | inr second ↦
-                (let away = all-at (λ v. has_section v.point (it.route.path ++ it.route.overlap) ≡ false) it.route.protecting_points second.0 one of.protecting_points_apart second.1 in
-                let on : has_section one.point (it.route.path ++ it.route.overlap) ≡ true = rw same (listed-passed p it.route of k listed at) in
-                absurd (both_ways (has_section one.point (it.route.path ++ it.route.overlap)) away on))
+                (let away = all-at (λ v. contains_section v.point (it.route.path ++ it.route.overlap) ≡ false) it.route.protecting_points second.0 one of.protecting_points_apart second.1 in
+                let on : contains_section one.point (it.route.path ++ it.route.overlap) ≡ true = rw same (listed-passed p it.route of k listed at) in
+                absurd (both_ways (contains_section one.point (it.route.path ++ it.route.overlap)) away on))
           ]
 
       mine : (k : ℕ) (listed : Listed) → slice_get it.route.points k ≡ Some listed → PointFits p t it.route new listed
@@ -175,8 +173,8 @@ module _ (p : PlantLists) (plant : IsPlant p) (s t : State) (keeps : Keeps p s) 
           held-not_free p s keeps.v3 q one its that listed.point held (cleared s it.route it.clear listed.point (rw same at among)).0)) in
           commanded-kept p s t (required_points it.route) it.points listed.point number.0 number.1 none
 
-  pub lock-keeps_v6 : IsLocked p s t n → keeps_v6 p t ≡ true
-  lock-keeps_v6 it =
+  pub lock-keeps_v6_route_points_set : IsLocked p s t n → keeps_v6_route_points_set p t ≡ true
+  lock-keeps_v6_route_points_set it =
       let now = it.now in
       let new : RouteState = record now { mode = Locked } in
       let was = before-change p s t n it.route now new it.changes in
@@ -198,19 +196,18 @@ module _ (p : PlantLists) (plant : IsPlant p) (s t : State) (keeps : Keeps p s) 
         );
       })
 
-  pub sense-keeps_v6 : IsSensed p s t n → keeps_v6 p t ≡ true
-  sense-keeps_v6 it = let now = it.now in goes_on it.route now (record now { mode = Occupied; seen = now.seen + 1 }) it.changes it.points (λ e. cc) it.was (omega arith)
+  pub sense-keeps_v6_route_points_set : IsSensed p s t n → keeps_v6_route_points_set p t ≡ true
+  sense-keeps_v6_route_points_set it = let now = it.now in goes_on it.route now (record now { mode = Occupied; seen = now.seen + 1 }) it.changes it.points (λ e. cc) it.was (omega arith)
 
-  pub release-keeps_v6 : IsReleased p s t n → keeps_v6 p t ≡ true
-  release-keeps_v6 it = let now = it.now in goes_on it.route now (record now { rel = now.rel + 1 }) it.changes it.points (λ e. let bad : Occupied ≡ Allocating = sym it.was ∙ e in cc) (rw it.was refl) (omega arith)
+  pub release-keeps_v6_route_points_set : IsReleased p s t n → keeps_v6_route_points_set p t ≡ true
+  release-keeps_v6_route_points_set it = let now = it.now in goes_on it.route now (record now { rel = now.rel + 1 }) it.changes it.points (λ e. let bad : Occupied ≡ Allocating = sym it.was ∙ e in cc) (rw it.was refl) (omega arith)
 
-  pub finish-keeps_v6 : IsFinished p s t n → keeps_v6 p t ≡ true
-  finish-keeps_v6 it = drops it.route it.now (record { mode = Free; seen = 0; rel = 0 }) it.changes it.points (λ e. cc) refl
+  pub finish-keeps_v6_route_points_set : IsFinished p s t n → keeps_v6_route_points_set p t ≡ true
+  finish-keeps_v6_route_points_set it = drops it.route it.now (record { mode = Free; seen = 0; rel = 0 }) it.changes it.points (λ e. cc) refl
 
-  -- A point that isn't in its commanded position changes its detected position.
   point-changes : (x m : ℕ) (point new : PointState) → point_number p x ≡ Some m →
       slice_get s.points m ≡ Some point → t.points ≡ set s.points m new → t.routes ≡ s.routes →
-      new.to ≡ point.to → ((at : Position) → point.to ≡ at → point.at ≡ lie_from_position at → ⊥) → keeps_v6 p t ≡ true
+      new.to ≡ point.to → ((at : Position) → point.to ≡ at → point.at ≡ lie_from_position at → ⊥) → keeps_v6_route_points_set p t ≡ true
   point-changes x m point new number at points routes same elsewhere =
       from-fits (λ q one its it k listed there.
       let was = same-route p s t routes q one its it in
@@ -228,14 +225,14 @@ module _ (p : PlantLists) (plant : IsPlant p) (s t : State) (keeps : Keeps p s) 
           let lie : point.at ≡ lie_from_position listed.at = same_Some point.at (lie_from_position listed.at) (sym (lie-is p s x m point number at) ∙ lies-listed p s listed x both.1 here) in
           elsewhere listed.at to lie
 
-  pub throw-keeps_v6 : IsThrown p s t n → keeps_v6 p t ≡ true
-  throw-keeps_v6 it =
+  pub throw-keeps_v6_route_points_set : IsThrown p s t n → keeps_v6_route_points_set p t ≡ true
+  throw-keeps_v6_route_points_set it =
       let point = it.point in
       point-changes n it.n point (record point { at = Moving }) it.number it.state it.points it.routes refl (λ at to lie.
       let lies : is_lie_at_position point.at point.to ≡ true = rw (lie, to) (own_lie at) in both_ways (is_lie_at_position point.at point.to) it.elsewhere lies)
 
-  pub settle-keeps_v6 : IsSettled p s t n → keeps_v6 p t ≡ true
-  settle-keeps_v6 it =
+  pub settle-keeps_v6_route_points_set : IsSettled p s t n → keeps_v6_route_points_set p t ≡ true
+  settle-keeps_v6_route_points_set it =
       let point = it.point in
       point-changes n it.n point (record point { at = lie_from_position point.to }) it.number it.state it.points it.routes refl (λ at to lie.
       let still : is_detected_moving point.at ≡ false = rw lie (still_in at) in both_ways (is_detected_moving point.at) still it.moved)
@@ -244,17 +241,17 @@ module _ (p : PlantLists) (plant : IsPlant p) (s t : State) (keeps : Keeps p s) 
       still_in Plus = refl
       still_in Minus = refl
 
-  pub enter-keeps_v6 : IsEntered p s t n → keeps_v6 p t ≡ true
-  enter-keeps_v6 it = v6-reads p s t it.routes it.points keeps.v6
+  pub enter-keeps_v6_route_points_set : IsEntered p s t n → keeps_v6_route_points_set p t ≡ true
+  enter-keeps_v6_route_points_set it = v6-reads p s t it.routes it.points keeps.v6
 
-  pub head-keeps_v6 : IsHeaded p s t n → keeps_v6 p t ≡ true
-  head-keeps_v6 it = v6-reads p s t it.routes it.points keeps.v6
+  pub head-keeps_v6_route_points_set : IsHeaded p s t n → keeps_v6_route_points_set p t ≡ true
+  head-keeps_v6_route_points_set it = v6-reads p s t it.routes it.points keeps.v6
 
-  pub tail-keeps_v6 : IsTailed p s t n → keeps_v6 p t ≡ true
-  tail-keeps_v6 it = v6-reads p s t it.routes it.points keeps.v6
+  pub tail-keeps_v6_route_points_set : IsTailed p s t n → keeps_v6_route_points_set p t ≡ true
+  tail-keeps_v6_route_points_set it = v6-reads p s t it.routes it.points keeps.v6
 
-  pub leave-keeps_v6 : IsLeft p s t n → keeps_v6 p t ≡ true
-  leave-keeps_v6 it = v6-reads p s t it.routes it.points keeps.v6
+  pub leave-keeps_v6_route_points_set : IsLeft p s t n → keeps_v6_route_points_set p t ≡ true
+  leave-keeps_v6_route_points_set it = v6-reads p s t it.routes it.points keeps.v6
 
-  pub cancel-keeps_v6 : IsCancelled p s t n → keeps_v6 p t ≡ true
-  cancel-keeps_v6 it = let now = it.now in drops it.route now (record now { mode = Free }) it.changes it.points (λ e. cc) refl
+  pub cancel-keeps_v6_route_points_set : IsCancelled p s t n → keeps_v6_route_points_set p t ≡ true
+  cancel-keeps_v6_route_points_set it = let now = it.now in drops it.route now (record now { mode = Free }) it.changes it.points (λ e. cc) refl

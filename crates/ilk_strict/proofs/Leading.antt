@@ -4,7 +4,7 @@ use Rattle.std.specs.List.{last_or}
 use Rattle.std.proofs.lemmas.Bool.{and_left, both_ways, cases_eq}
 use Rattle.ilk_base.proofs.ListTests.{last-at}
 use Rattle.ilk_plant.specs.ColumnRules.{has_no_board}
-use Rattle.ilk_plant.specs.Network.{has_section}
+use Rattle.ilk_plant.specs.Network.{contains_section}
 use Rattle.ilk_plant.specs.Plant.{IsPlant, PlantLists, next_to}
 use Rattle.ilk_plant.specs.Shape.{HasShape}
 use Rattle.ilk_plant.specs.declared.network.Dir.{Dir}
@@ -16,7 +16,7 @@ use Rattle.ilk_plant.specs.declared.state.State.{State}
 use Rattle.ilk_plant.specs.declared.state.Train.{Train}
 use Rattle.ilk_plant.specs.declared.table.Route.{Route}
 use Rattle.ilk_plant.proofs.InLists.{section-from}
-use Rattle.ilk_model.specs.Families.{keeps_v7}
+use Rattle.ilk_model.specs.Families.{keeps_v7_heads_have_routes}
 use Rattle.ilk_model.specs.Holding.{is_locked_or_occupied, continues_without_board}
 use Rattle.ilk_strict.specs.IsStrict.{IsStrict}
 use Rattle.ilk_strict.proofs.After.{before-change, one-state, other-stays, same-occupied}
@@ -27,10 +27,10 @@ use Rattle.ilk_strict.proofs.TrainFacts.{IsLedBy, Keeps, head-led, heads-from, l
 pub board-not_plain : (p : PlantLists) (d : Dir) (x : ℕ) → has_no_board p d x ≡ false → continues_without_board p d x ≡ false
 board-not_plain p d x board = and_left (has_no_board p d x) (nat_lt 0 (length (next_to p x d))) board
 
-last-within : (xs : List ℕ) (x : ℕ) (o : Option ℕ) → last_or o xs ≡ Some x → (o ≡ Some x) ⊎ (has_section x xs ≡ true)
+last-within : (xs : List ℕ) (x : ℕ) (o : Option ℕ) → last_or o xs ≡ Some x → (o ≡ Some x) ⊎ (contains_section x xs ≡ true)
 last-within xs x o e = elim (last-at o xs x e) [ inl none ↦ inl none | inr found ↦ inr (section-from xs found.0 x found.1) ]
 
-pub head-within : (xs : List ℕ) (x : ℕ) → last_or None xs ≡ Some x → has_section x xs ≡ true
+pub head-within : (xs : List ℕ) (x : ℕ) → last_or None xs ≡ Some x → contains_section x xs ≡ true
 head-within xs x e = elim (last-within xs x None e) [ inl none ↦ cc | inr found ↦ found ]
 
 module _ (p : PlantLists) (plant : IsPlant p) (strict : IsStrict p) (s t : State) (keeps : Keeps p s) (shape : HasShape p t) (n : ℕ) where
@@ -63,7 +63,7 @@ module _ (p : PlantLists) (plant : IsPlant p) (strict : IsStrict p) (s t : State
       slice_get s.boards led.route.source ≡ Some Closed →
       slice_get t.boards led.route.source ≡ Some Closed) →
       ((d : Dir) (x : ℕ) → continues_without_board p d x ≡ true → (led : IsLedBy p s d x) → led.r ≡ n → IsLedBy p t d x) →
-      keeps_v7 p t ≡ true
+      keeps_v7_heads_have_routes p t ≡ true
   changed route now new changes trains stay mine =
       heads-from p t shape (λ i train x at last plain.
       let led = head-led p s keeps.v7 i train x (sym (ap (λ (l : List Train). slice_get l i) trains) ∙ at) last plain in
@@ -72,7 +72,7 @@ module _ (p : PlantLists) (plant : IsPlant p) (strict : IsStrict p) (s t : State
         | inr apart ↦ other-leads route now new changes trains train.dir x led apart (stay train.dir x led apart)
       ])
 
-  pub idle-changed : (route : Route) (now new : RouteState) → ChangesRoute p s t n route now new → t.trains ≡ s.trains → t.boards ≡ s.boards → is_locked_or_occupied now ≡ false → keeps_v7 p t ≡ true
+  pub idle-changed : (route : Route) (now new : RouteState) → ChangesRoute p s t n route now new → t.trains ≡ s.trains → t.boards ≡ s.boards → is_locked_or_occupied now ≡ false → keeps_v7_heads_have_routes p t ≡ true
   idle-changed route now new changes trains boards idle =
       changed route now new changes trains
       (λ d x led apart mode closed. ap (λ (l : List Aspect). slice_get l led.route.source) boards ∙ closed)

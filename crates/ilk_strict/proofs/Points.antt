@@ -48,7 +48,6 @@ commanded-alike p s t x same = by_number (point_number p x) refl
     by_number None e = rw e refl
     by_number (Some n) e = rw (e, same n e) refl
 
--- One point changes its detected position only.
 module _ (p : PlantLists) (s t : State) (x n : ℕ) (point new : PointState) (number : point_number p x ≡ Some n) (at : slice_get s.points n ≡ Some point) (points : t.points ≡ set s.points n new) where
   pub lies-new : detected_position p t x ≡ Some new.at
   lies-new =
@@ -70,7 +69,6 @@ module _ (p : PlantLists) (s t : State) (x n : ℕ) (point new : PointState) (nu
     | inr apart ↦ commanded-alike p s t y (other-point y apart)
   ]
 
--- Some points are commanded.
 module _ (p : PlantLists) (s t : State) (entries : List Listed) (points : t.points ≡ with_commands p s.points entries) where
   abbrev commanded : ℕ → PointState → PointState
   commanded n point = record point { to = unwrap_or (listed_position p n entries) point.to }

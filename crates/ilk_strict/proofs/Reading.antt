@@ -12,9 +12,9 @@ use Rattle.ilk_base.proofs.Options.{some-and}
 use Rattle.ilk_base.proofs.Ranges.{range-at, range_within}
 use Rattle.ilk_base.proofs.Tested.{all-pass, list_all-slice_get, list_any-at, list_any-from}
 use Rattle.ilk_base.proofs.Numbered.{enumerated, enumerated-at}
-use Rattle.ilk_plant.specs.Network.{has_section}
+use Rattle.ilk_plant.specs.Network.{contains_section}
 use Rattle.ilk_plant.specs.Plant.{PlantLists}
-use Rattle.ilk_plant.specs.State.{has_lock_state, is_occupied, same_hold}
+use Rattle.ilk_plant.specs.State.{has_lock_state, is_occupied, same_lock_state}
 use Rattle.ilk_plant.specs.declared.state.Aspect.{Aspect}
 use Rattle.ilk_plant.specs.declared.state.Hold.{Hold}
 use Rattle.ilk_plant.specs.declared.state.RouteState.{RouteState}
@@ -27,7 +27,7 @@ use Rattle.ilk_model.proofs.Alike.{one_aspect, one_hold, own_aspect, own_hold}
 
 pub has_lock_state-at : (s : State) (x : ℕ) (hold : Hold) → has_lock_state s x hold ≡ true → slice_get s.locks x ≡ Some hold
 has_lock_state-at s x hold h =
-    let found = some-and (slice_get s.locks x) (λ lock. same_hold lock hold) h in
+    let found = some-and (slice_get s.locks x) (λ lock. same_lock_state lock hold) h in
     found.1 ∙ ap Some (one_hold found.0 hold found.2)
 
 pub has_lock_state-from : (s : State) (x : ℕ) (hold : Hold) → slice_get s.locks x ≡ Some hold → has_lock_state s x hold ≡ true
@@ -41,11 +41,11 @@ has_aspect-at s m aspect h =
 pub has_aspect-from : (s : State) (m : ℕ) (aspect : Aspect) → slice_get s.boards m ≡ Some aspect → has_aspect s m aspect ≡ true
 has_aspect-from s m aspect at = rw at (own_aspect aspect)
 
-pub occupied-at : (s : State) (x : ℕ) → is_occupied s x ≡ true → (i : ℕ) × (train : Train) × (slice_get s.trains i ≡ Some train) × (has_section x train.body ≡ true)
-occupied-at s x h = list_any-at (λ train. has_section x train.body) s.trains h
+pub occupied-at : (s : State) (x : ℕ) → is_occupied s x ≡ true → (i : ℕ) × (train : Train) × (slice_get s.trains i ≡ Some train) × (contains_section x train.body ≡ true)
+occupied-at s x h = list_any-at (λ train. contains_section x train.body) s.trains h
 
-pub occupied-from : (s : State) (i : ℕ) (train : Train) (x : ℕ) → slice_get s.trains i ≡ Some train → has_section x train.body ≡ true → is_occupied s x ≡ true
-occupied-from s i train x at has = list_any-from (λ one. has_section x one.body) s.trains i train at has
+pub occupied-from : (s : State) (i : ℕ) (train : Train) (x : ℕ) → slice_get s.trains i ≡ Some train → contains_section x train.body ≡ true → is_occupied s x ≡ true
+occupied-from s i train x at has = list_any-from (λ one. contains_section x one.body) s.trains i train at has
 
 pub all_below-at : (n : ℕ) (test : ℕ → Bool) → all_below n test ≡ true → (i : ℕ) → i < n → test i ≡ true
 all_below-at n test h i less = list_all-slice_get test (range_with_len 0 n) i i h (range-at n i less)

@@ -8,7 +8,7 @@ use Rattle.std.proofs.lemmas.Option.{same_Some, slice_get_within}
 use Rattle.ilk_base.specs.Each.{all_below}
 use Rattle.ilk_base.proofs.Tested.{all-pass, list_all-slice_get}
 use Rattle.ilk_base.proofs.Truth.{either, fails, if-passes, passes-if}
-use Rattle.ilk_plant.specs.Network.{has_section}
+use Rattle.ilk_plant.specs.Network.{contains_section}
 use Rattle.ilk_plant.specs.Plant.{PlantLists}
 use Rattle.ilk_plant.specs.State.{has_lock_state, is_occupied}
 use Rattle.ilk_plant.specs.declared.state.Hold.TheVariants.{Free as FreeLock, Locked as LockedLock, Used as UsedLock}
@@ -19,7 +19,7 @@ use Rattle.ilk_plant.specs.declared.table.Route.{Route}
 use Rattle.ilk_plant.proofs.InLists.{section-at, section-from}
 use Rattle.ilk_routes.specs.Claims.{sections_outside_path}
 use Rattle.ilk_routes.specs.Modes.{same_mode}
-use Rattle.ilk_model.specs.Families.{has_required_locks, keeps_v1, keeps_v2, keeps_v3, keeps_v4, path_section_lock}
+use Rattle.ilk_model.specs.Families.{has_required_locks, keeps_v1_consistent_counts, keeps_v2_sections_held_once, keeps_v3_locks_match_routes, keeps_v4_allocating_paths_vacant, path_section_lock}
 use Rattle.ilk_model.specs.Holding.{all_path_indices_pass_test, holds_section, is_holding_state, is_unreleased_on_path, is_locked_or_occupied, is_vacant, route_holds}
 use Rattle.ilk_model.proofs.Alike.{one_mode}
 use Rattle.ilk_strict.proofs.Reading.{RouteIn, all_below-at, all_below-from, all_path_indices_pass_test-at, all_path_indices_pass_test-from, all_routes_pass_test-at, all_routes_pass_test-from, has_lock_state-at, has_lock_state-from, kept-at, kept-from, passes-at, passes-from}
@@ -51,18 +51,19 @@ locked-holds now h = or_right (same_mode now.mode Allocating) (is_locked_or_occu
 
 pub holds-path : (route : Route) (now : RouteState) (i x : ℕ) → is_holding_state now ≡ true → now.rel ≤ i → slice_get route.path i ≡ Some x → holds_section x route now ≡ true
 holds-path route now i x holds least at =
-    and_from (is_holding_state now) (has_section x (sections_outside_path route) || is_unreleased_on_path route now x) holds
-    (or_right (has_section x (sections_outside_path route)) (is_unreleased_on_path route now x) (kept-from route now i x least at))
+    and_from (is_holding_state now) (contains_section x (sections_outside_path route) || is_unreleased_on_path route now x) holds
+    (or_right (contains_section x (sections_outside_path route)) (is_unreleased_on_path route now x) (kept-from route now i x least at))
 
-pub holds-beside : (route : Route) (now : RouteState) (x : ℕ) → is_holding_state now ≡ true → has_section x (sections_outside_path route) ≡ true → holds_section x route now ≡ true
+pub holds-beside : (route : Route) (now : RouteState) (x : ℕ) → is_holding_state now ≡ true → contains_section x (sections_outside_path route) ≡ true → holds_section x route now ≡ true
 holds-beside route now x holds beside =
-    and_from (is_holding_state now) (has_section x (sections_outside_path route) || is_unreleased_on_path route now x) holds (or_left (has_section x (sections_outside_path route)) (is_unreleased_on_path route now x) beside)
+    and_from (is_holding_state now) (contains_section x (sections_outside_path route) || is_unreleased_on_path route now x) holds (or_left (contains_section x (sections_outside_path route)) (is_unreleased_on_path route now x) beside)
 
-pub holds-cases : (route : Route) (now : RouteState) (x : ℕ) → holds_section x route now ≡ true → (is_holding_state now ≡ true) × ((has_section x (sections_outside_path route) ≡ true) ⊎ ((i : ℕ) × (now.rel ≤ i) × (slice_get route.path i ≡ Some x)))
+pub holds-cases : (route : Route) (now : RouteState) (x : ℕ) → holds_section x route now ≡ true → (is_holding_state now ≡ true) × ((contains_section x (sections_outside_path route) ≡ true) ⊎ ((i : ℕ) × (now.rel ≤ i) ×
+    (slice_get route.path i ≡ Some x)))
 holds-cases route now x h =
-    let parts = and_parts (is_holding_state now) (has_section x (sections_outside_path route) || is_unreleased_on_path route now x) h in (
+    let parts = and_parts (is_holding_state now) (contains_section x (sections_outside_path route) || is_unreleased_on_path route now x) h in (
       parts.0,
-      elim (either (has_section x (sections_outside_path route)) (is_unreleased_on_path route now x) parts.1) [
+      elim (either (contains_section x (sections_outside_path route)) (is_unreleased_on_path route now x) parts.1) [
         | inl beside ↦ inl beside
         | inr kept ↦ inr (kept-at route now x kept)
       ],
@@ -85,13 +86,13 @@ counts-in_use route now busy behind within =
     rw busy (and_from (nat_lt now.rel now.seen) (nat_le now.seen (length route.path)) first second)
 
 module _ (p : PlantLists) (s : State) where
-  pub idle : keeps_v1 p s ≡ true → (r : ℕ) (route : Route) (now : RouteState) → RouteIn p s r route now → same_mode now.mode Occupied ≡ false → (now.seen ≡ 0) × (now.rel ≡ 0)
+  pub idle : keeps_v1_consistent_counts p s ≡ true → (r : ℕ) (route : Route) (now : RouteState) → RouteIn p s r route now → same_mode now.mode Occupied ≡ false → (now.seen ≡ 0) × (now.rel ≡ 0)
   idle kept r route now it mode =
       let here : (now.seen == 0 && now.rel == 0) ≡ true = rw mode at (all_routes_pass_test-at p s counts_right kept r route now it) in
       let parts = and_parts (now.seen == 0) (now.rel == 0) here in
       (eqb-true now.seen 0 parts.0, eqb-true now.rel 0 parts.1)
 
-  pub in_use : keeps_v1 p s ≡ true → (r : ℕ) (route : Route) (now : RouteState) → RouteIn p s r route now → same_mode now.mode Occupied ≡ true → (now.rel < now.seen) × (now.seen ≤ length route.path)
+  pub in_use : keeps_v1_consistent_counts p s ≡ true → (r : ℕ) (route : Route) (now : RouteState) → RouteIn p s r route now → same_mode now.mode Occupied ≡ true → (now.rel < now.seen) × (now.seen ≤ length route.path)
   in_use kept r route now it mode =
       let here : (nat_lt now.rel now.seen && nat_le now.seen (length route.path)) ≡ true = rw mode at (all_routes_pass_test-at p s counts_right kept r route now it) in
       let parts = and_parts (nat_lt now.rel now.seen) (nat_le now.seen (length route.path)) here in
@@ -99,20 +100,19 @@ module _ (p : PlantLists) (s : State) where
       let second : nat_le now.seen (length route.path) ≡ true = parts.1 in
       (grind (arith, nat_tests), grind (arith, nat_tests))
 
-  -- At most `seen` sections are released.
-  pub rel-seen : keeps_v1 p s ≡ true → (r : ℕ) (route : Route) (now : RouteState) → RouteIn p s r route now → now.rel ≤ now.seen
+  pub rel-seen : keeps_v1_consistent_counts p s ≡ true → (r : ℕ) (route : Route) (now : RouteState) → RouteIn p s r route now → now.rel ≤ now.seen
   rel-seen kept r route now it = elim (cases_Bool (same_mode now.mode Occupied)) [
     | inl busy ↦ (let counts = in_use kept r route now it busy in let less = counts.0 in omega (arith, less))
     | inr away ↦ (let counts = idle kept r route now it away in let none = counts.1 in omega (arith, none))
   ]
 
-  pub rel-led : keeps_v1 p s ≡ true → (r : ℕ) (route : Route) (now : RouteState) → RouteIn p s r route now → (i : ℕ) → now.seen ≤ i + 1 → now.rel ≤ i
+  pub rel-led : keeps_v1_consistent_counts p s ≡ true → (r : ℕ) (route : Route) (now : RouteState) → RouteIn p s r route now → (i : ℕ) → now.seen ≤ i + 1 → now.rel ≤ i
   rel-led kept r route now it i few = elim (cases_Bool (same_mode now.mode Occupied)) [
     | inl busy ↦ (let counts = in_use kept r route now it busy in let less = counts.0 in omega (arith, less, few))
     | inr away ↦ (let counts = idle kept r route now it away in let none = counts.1 in omega (arith, none))
   ]
 
-  pub alone : keeps_v2 p s ≡ true → (r : ℕ) (route : Route) (now : RouteState) → RouteIn p s r route now →
+  pub alone : keeps_v2_sections_held_once p s ≡ true → (r : ℕ) (route : Route) (now : RouteState) → RouteIn p s r route now →
       (q : ℕ) (other : Route) (its : RouteState) → RouteIn p s q other its → (x : ℕ) → x < length p.sections →
       holds_section x route now ≡ true → holds_section x other its ≡ true → r ≡ q
   alone kept r route now it q other its that x within here there =
@@ -131,7 +131,7 @@ module _ (p : PlantLists) (s : State) where
       (q : ℕ) (other : Route) (its : RouteState) → RouteIn p s q other its → (x : ℕ) →
       x < length p.sections → holds_section x route now ≡ true → holds_section x other its ≡ true → r ≡ q)
       →
-      keeps_v2 p s ≡ true
+      keeps_v2_sections_held_once p s ≡ true
   alone-from each =
       all_below-from (length p.routes) (λ a. all_below (length p.routes) (λ b. a == b || all_below (length p.sections) (λ y. not (route_holds p s a y && route_holds p s b y)))) (λ r less.
       all_below-from (length p.routes) (λ b. r == b || all_below (length p.sections) (λ y. not (route_holds p s r y && route_holds p s b y))) (λ q fewer. pair r q))
@@ -152,7 +152,7 @@ module _ (p : PlantLists) (s : State) where
             both_ways (r == q) differ (eq-eqb r q same))))
       ]
 
-  pub lock-path : keeps_v3 p s ≡ true → (r : ℕ) (route : Route) (now : RouteState) → RouteIn p s r route now → is_holding_state now ≡ true → (i x : ℕ) → now.rel ≤ i → slice_get route.path i ≡ Some x
+  pub lock-path : keeps_v3_locks_match_routes p s ≡ true → (r : ℕ) (route : Route) (now : RouteState) → RouteIn p s r route now → is_holding_state now ≡ true → (i x : ℕ) → now.rel ≤ i → slice_get route.path i ≡ Some x
       → slice_get s.locks x ≡ Some (path_section_lock now i)
   lock-path kept r route now it holds i x least at =
       let locks : has_required_locks s route now
@@ -166,7 +166,8 @@ module _ (p : PlantLists) (s : State) where
       counted : (a b : Bool) → a ≡ true → (not a || b) ≡ true → b ≡ true
       counted a b e h = rw e at h
 
-  pub lock-beside : keeps_v3 p s ≡ true → (r : ℕ) (route : Route) (now : RouteState) → RouteIn p s r route now → is_holding_state now ≡ true → (x : ℕ) → has_section x (sections_outside_path route) ≡ true → slice_get s.locks x ≡ Some LockedLock
+  pub lock-beside : keeps_v3_locks_match_routes p s ≡ true → (r : ℕ) (route : Route) (now : RouteState) → RouteIn p s r route now → is_holding_state now ≡ true → (x : ℕ) → contains_section x (sections_outside_path route) ≡ true →
+      slice_get s.locks x ≡ Some LockedLock
   lock-beside kept r route now it holds x beside =
       let locks : has_required_locks s route now
       ≡ true = if-passes (is_holding_state now) (has_required_locks s route now) (all_routes_pass_test-at p s (λ route now. if is_holding_state now then has_required_locks s route now else true) kept r route now it)
@@ -179,9 +180,9 @@ module _ (p : PlantLists) (s : State) where
       ((r : ℕ) (route : Route) (now : RouteState) → RouteIn p s r route now → is_holding_state now ≡ true →
       ((i x : ℕ) → now.rel ≤ i → slice_get route.path i ≡ Some x →
       slice_get s.locks x ≡ Some (path_section_lock now i)) ×
-      ((x : ℕ) → has_section x (sections_outside_path route) ≡ true →
+      ((x : ℕ) → contains_section x (sections_outside_path route) ≡ true →
       slice_get s.locks x ≡ Some LockedLock)) →
-      keeps_v3 p s ≡ true
+      keeps_v3_locks_match_routes p s ≡ true
   locks-from count each =
       all_routes_pass_test-from p s (λ route now. if is_holding_state now then has_required_locks s route now else true) count (λ r route now it.
       passes-if (is_holding_state now) (has_required_locks s route now) (λ holds.
@@ -197,7 +198,7 @@ module _ (p : PlantLists) (s : State) where
         | inr test ↦ (rw test refl)
       ]
 
-  pub held-not_free : keeps_v3 p s ≡ true → (r : ℕ) (route : Route) (now : RouteState) → RouteIn p s r route now → (x : ℕ) → holds_section x route now ≡ true → slice_get s.locks x ≡ Some FreeLock → ⊥
+  pub held-not_free : keeps_v3_locks_match_routes p s ≡ true → (r : ℕ) (route : Route) (now : RouteState) → RouteIn p s r route now → (x : ℕ) → holds_section x route now ≡ true → slice_get s.locks x ≡ Some FreeLock → ⊥
   held-not_free kept r route now it x held free =
       let cases = holds-cases route now x held in
       elim cases.1 [
@@ -209,7 +210,7 @@ module _ (p : PlantLists) (s : State) where
       used-or_locked true e = cc
       used-or_locked false e = cc
 
-  pub vacant-path : keeps_v4 p s ≡ true → (r : ℕ) (route : Route) (now : RouteState) → RouteIn p s r route now → now.mode ≡ Allocating → (i x : ℕ) → slice_get route.path i ≡ Some x → is_occupied s x ≡ false
+  pub vacant-path : keeps_v4_allocating_paths_vacant p s ≡ true → (r : ℕ) (route : Route) (now : RouteState) → RouteIn p s r route now → now.mode ≡ Allocating → (i x : ℕ) → slice_get route.path i ≡ Some x → is_occupied s x ≡ false
   vacant-path kept r route now it mode i x at =
       all_vacant-at s route.path
       (if-passes (same_mode now.mode Allocating) (list_all (is_vacant s) route.path)
@@ -217,7 +218,8 @@ module _ (p : PlantLists) (s : State) where
       (λ route now. if same_mode now.mode Allocating then list_all (is_vacant s) route.path
       else true) kept r route now it) (rw mode refl)) i x at
 
-  pub vacant-from : length s.routes ≡ length p.routes → ((r : ℕ) (route : Route) (now : RouteState) → RouteIn p s r route now → now.mode ≡ Allocating → (i x : ℕ) → slice_get route.path i ≡ Some x → is_occupied s x ≡ false) → keeps_v4 p s ≡ true
+  pub vacant-from : length s.routes ≡ length p.routes → ((r : ℕ) (route : Route) (now : RouteState) → RouteIn p s r route now → now.mode ≡ Allocating → (i x : ℕ) → slice_get route.path i ≡ Some x → is_occupied s x ≡ false) →
+      keeps_v4_allocating_paths_vacant p s ≡ true
   vacant-from count each =
       all_routes_pass_test-from p s (λ route now. if same_mode now.mode Allocating then list_all (is_vacant s) route.path else true) count (λ r route now it.
       passes-if (same_mode now.mode Allocating) (list_all (is_vacant s) route.path) (λ mode. all_vacant-from s route.path (each r route now it (one_mode now.mode Allocating mode))))

@@ -9,9 +9,9 @@ use Rattle.ilk_base.proofs.Lists.{at-before, at-either, at-past, item_at, map-at
 use Rattle.ilk_base.proofs.ListTests.{all-at}
 use Rattle.ilk_base.proofs.Options.{or_cases}
 use Rattle.ilk_base.proofs.Truth.{either}
-use Rattle.ilk_plant.specs.Network.{has_section}
+use Rattle.ilk_plant.specs.Network.{contains_section}
 use Rattle.ilk_plant.specs.Plant.{IsValidRouteOf, PlantLists}
-use Rattle.ilk_plant.specs.TableRules.{protecting_points_of, sections_locked_for, sections_of}
+use Rattle.ilk_plant.specs.TableRules.{protecting_points_of, sections_locked_for, path_and_overlap_of}
 use Rattle.ilk_plant.specs.declared.network.Board.{Board}
 use Rattle.ilk_plant.specs.declared.network.Position.{Position}
 use Rattle.ilk_plant.specs.declared.table.Listed.{Listed}
@@ -32,17 +32,18 @@ module _ (p : PlantLists) (route : Route) (of : IsValidRouteOf p route) where
   path-once i j x here there =
       numbers_differ-places (route.path ++ route.overlap) of.sections_once i j x (at-before route.path route.overlap i x here) (at-before route.path route.overlap j x there)
 
-  pub path-apart : (i x : ℕ) → slice_get route.path i ≡ Some x → has_section x (sections_outside_path route) ≡ true → ⊥
+  pub path-apart : (i x : ℕ) → slice_get route.path i ≡ Some x → contains_section x (sections_outside_path route) ≡ true → ⊥
   path-apart i x here beside =
-      let cases : (has_section x route.overlap || has_section x (protecting_points_of route)) ≡ true = sym (list_any-append (λ y. y == x) route.overlap (protecting_points_of route)) ∙ beside in
-      elim (either (has_section x route.overlap) (has_section x (protecting_points_of route)) cases) [
+      let cases : (contains_section x route.overlap || contains_section x (protecting_points_of route)) ≡ true = sym (list_any-append (λ y. y == x) route.overlap (protecting_points_of route)) ∙ beside in
+      elim (either (contains_section x route.overlap) (contains_section x (protecting_points_of route)) cases) [
         | inl overlap ↦ once-apart route.path route.overlap x of.sections_once (section-from route.path i x here) overlap
         | inr protecting ↦
             (let found = section-at x (protecting_points_of route) protecting in
             let listed = map-at (λ (one : Listed). one.point) route.protecting_points found.0 x found.1 in
-            let away : has_section listed.0.point (route.path ++ route.overlap) ≡ false = all-at (λ one. has_section one.point (route.path ++ route.overlap) ≡ false) route.protecting_points found.0 listed.0 of.protecting_points_apart listed.1 in
-            let on : has_section x (route.path ++ route.overlap) ≡ true = section-from (route.path ++ route.overlap) i x (at-before route.path route.overlap i x here) in
-            both_ways (has_section x (route.path ++ route.overlap)) (rw listed.2 at away) on)
+            let away : contains_section listed.0.point (route.path ++ route.overlap) ≡ false = all-at (λ one. contains_section one.point (route.path ++ route.overlap) ≡ false) route.protecting_points found.0 listed.0
+            of.protecting_points_apart listed.1 in
+            let on : contains_section x (route.path ++ route.overlap) ≡ true = section-from (route.path ++ route.overlap) i x (at-before route.path route.overlap i x here) in
+            both_ways (contains_section x (route.path ++ route.overlap)) (rw listed.2 at away) on)
       ]
 
   pub path-section : (i x : ℕ) → slice_get route.path i ≡ Some x → x < length p.sections
@@ -51,37 +52,38 @@ module _ (p : PlantLists) (route : Route) (of : IsValidRouteOf p route) where
   pub route-source : (source : Board) × (slice_get p.boards route.source ≡ Some source)
   route-source = item_at p.boards route.source of.source
 
-  pub listed-passed : (k : ℕ) (listed : Listed) → slice_get route.points k ≡ Some listed → has_section listed.point (sections_of route) ≡ true
-  listed-passed k listed here = all-at (λ one. has_section one.point (route.path ++ route.overlap) ≡ true) route.points k listed of.points_passed here
+  pub listed-passed : (k : ℕ) (listed : Listed) → slice_get route.points k ≡ Some listed → contains_section listed.point (path_and_overlap_of route) ≡ true
+  listed-passed k listed here = all-at (λ one. contains_section one.point (route.path ++ route.overlap) ≡ true) route.points k listed of.points_passed here
 
-  pub wanted-locked : (k : ℕ) (listed : Listed) → slice_get (required_points route) k ≡ Some listed → has_section listed.point (sections_locked_for route) ≡ true
+  pub wanted-locked : (k : ℕ) (listed : Listed) → slice_get (required_points route) k ≡ Some listed → contains_section listed.point (sections_locked_for route) ≡ true
   wanted-locked k listed here = elim (at-either route.points route.protecting_points k listed here) [
-    | inl first ↦ list_any-append (λ y. y == listed.point) (sections_of route) (protecting_points_of route)
-        ∙ or_left (has_section listed.point (sections_of route))
-        (has_section listed.point (protecting_points_of route)) (listed-passed first.0 listed first.1)
-    | inr second ↦ list_any-append (λ y. y == listed.point) (sections_of route) (protecting_points_of route)
-        ∙ or_right (has_section listed.point (sections_of route))
-        (has_section listed.point (protecting_points_of route))
+    | inl first ↦ list_any-append (λ y. y == listed.point) (path_and_overlap_of route) (protecting_points_of route)
+        ∙ or_left (contains_section listed.point (path_and_overlap_of route))
+        (contains_section listed.point (protecting_points_of route)) (listed-passed first.0 listed first.1)
+    | inr second ↦ list_any-append (λ y. y == listed.point) (path_and_overlap_of route) (protecting_points_of route)
+        ∙ or_right (contains_section listed.point (path_and_overlap_of route))
+        (contains_section listed.point (protecting_points_of route))
         (section-from (protecting_points_of route) second.0 listed.point
         (listed-mapped route.protecting_points second.0 listed second.1))
   ]
 
-pub path-locked_for : (route : Route) (i x : ℕ) → slice_get route.path i ≡ Some x → has_section x (sections_locked_for route) ≡ true
+pub path-locked_for : (route : Route) (i x : ℕ) → slice_get route.path i ≡ Some x → contains_section x (sections_locked_for route) ≡ true
 path-locked_for route i x here =
-    section-from (sections_locked_for route) i x (at-before (sections_of route) (protecting_points_of route) i x (at-before route.path route.overlap i x here))
+    section-from (sections_locked_for route) i x (at-before (path_and_overlap_of route) (protecting_points_of route) i x (at-before route.path route.overlap i x here))
 
-pub beside-locked_for : (route : Route) (x : ℕ) → has_section x (sections_outside_path route) ≡ true → has_section x (sections_locked_for route) ≡ true
+pub beside-locked_for : (route : Route) (x : ℕ) → contains_section x (sections_outside_path route) ≡ true → contains_section x (sections_locked_for route) ≡ true
 beside-locked_for route x beside =
     let found = section-at x (sections_outside_path route) beside in
     elim (at-either route.overlap (protecting_points_of route) found.0 x found.1) [
-      | inl overlap ↦ section-from (sections_locked_for route) (length route.path + overlap.0) x (at-before (sections_of route) (protecting_points_of route) (length route.path + overlap.0) x (at-past route.path route.overlap overlap.0 x overlap.1))
-      | inr protecting ↦ section-from (sections_locked_for route) (length (sections_of route) + protecting.0) x (at-past (sections_of route) (protecting_points_of route) protecting.0 x protecting.1)
+      | inl overlap ↦ section-from (sections_locked_for route) (length route.path + overlap.0) x (at-before (path_and_overlap_of route) (protecting_points_of route) (length route.path + overlap.0) x (at-past route.path route.overlap
+          overlap.0 x overlap.1))
+      | inr protecting ↦ section-from (sections_locked_for route) (length (path_and_overlap_of route) + protecting.0) x (at-past (path_and_overlap_of route) (protecting_points_of route) protecting.0 x protecting.1)
     ]
 
-pub locked_for-cases : (route : Route) (x : ℕ) → has_section x (sections_locked_for route) ≡ true → ((i : ℕ) × (slice_get route.path i ≡ Some x)) ⊎ (has_section x (sections_outside_path route) ≡ true)
+pub locked_for-cases : (route : Route) (x : ℕ) → contains_section x (sections_locked_for route) ≡ true → ((i : ℕ) × (slice_get route.path i ≡ Some x)) ⊎ (contains_section x (sections_outside_path route) ≡ true)
 locked_for-cases route x h =
     let found = section-at x (sections_locked_for route) h in
-    elim (at-either (sections_of route) (protecting_points_of route) found.0 x found.1) [
+    elim (at-either (path_and_overlap_of route) (protecting_points_of route) found.0 x found.1) [
       | inl of_route ↦ elim (at-either route.path route.overlap of_route.0 x of_route.1) [
         | inl path ↦ inl (path.0, path.1)
         | inr overlap ↦ inr (section-from (sections_outside_path route) overlap.0 x (at-before route.overlap (protecting_points_of route) overlap.0 x overlap.1))
@@ -89,7 +91,6 @@ locked_for-cases route x h =
       | inr protecting ↦ inr (section-from (sections_outside_path route) (length route.overlap + protecting.0) x (at-past route.overlap (protecting_points_of route) protecting.0 x protecting.1))
     ]
 
--- The effective position of a point is one that an entry lists.
 counts-at : (p : PlantLists) (n : ℕ) (entries : List Listed) (to : Position) → listed_position p n entries ≡ Some to → (j : ℕ) × (one : Listed) × (slice_get entries j ≡ Some one) × (is_entry_for_point p n one ≡ true) × (one.at ≡ to)
 counts-at p n [] to e = cc
 counts-at p n (one ∷ rest) to e =

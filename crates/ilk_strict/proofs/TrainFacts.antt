@@ -11,9 +11,9 @@ use Rattle.ilk_base.proofs.Ranges.{range-at, range_within}
 use Rattle.ilk_base.proofs.Tested.{all-pass, count-one, few-from_places, list_all-slice_get, list_any-none, none-pass, find-none-at, find-none-from}
 use Rattle.ilk_base.proofs.Truth.{either, if-passes, passes-if}
 use Rattle.ilk_base.proofs.Options.{mapped-None}
-use Rattle.ilk_plant.specs.Network.{has_section}
+use Rattle.ilk_plant.specs.Network.{contains_section}
 use Rattle.ilk_plant.specs.Plant.{PlantLists}
-use Rattle.ilk_plant.specs.Shape.{HasShape, train_body_is_valid}
+use Rattle.ilk_plant.specs.Shape.{HasShape, has_nonempty_connected_body}
 use Rattle.ilk_plant.specs.State.{is_occupied, detected_position}
 use Rattle.ilk_plant.specs.declared.network.Board.{Board}
 use Rattle.ilk_plant.specs.declared.network.Dir.{Dir}
@@ -29,7 +29,7 @@ use Rattle.ilk_plant.proofs.Alike.{one_direction, own_direction}
 use Rattle.ilk_plant.proofs.Shapes.{body-last}
 use Rattle.ilk_routes.specs.Boards.{has_aspect}
 use Rattle.ilk_routes.specs.Modes.{same_mode}
-use Rattle.ilk_model.specs.Families.{is_unreleased_on_some_route, head_is_led_by_route, keeps_v1, keeps_v2, keeps_v3, keeps_v4, keeps_v5, keeps_v6, keeps_v7, keeps_v8, keeps_v9}
+use Rattle.ilk_model.specs.Families.{is_unreleased_on_some_route, head_is_led_by_route, keeps_v1_consistent_counts, keeps_v2_sections_held_once, keeps_v3_locks_match_routes, keeps_v4_allocating_paths_vacant, keeps_v5_open_needs_locked, keeps_v6_route_points_set, keeps_v7_heads_have_routes, keeps_v8_bodies_have_routes, keeps_v9_protecting_boards_closed}
 use Rattle.ilk_model.specs.Hazard.{is_section_hazardous, has_two_trains, is_wrong_under_train, is_wrong_under_body}
 use Rattle.ilk_model.specs.Holding.{is_unreleased_on_path, is_locked_or_occupied, continues_without_board, is_vacant, route_runs_in_direction, any_path_index_passes_test}
 use Rattle.ilk_model.specs.Meets.{Meets}
@@ -43,7 +43,6 @@ runs-source p d route source h at = one_direction source.dir d (rw at at h)
 pub runs-from : (p : PlantLists) (d : Dir) (route : Route) (source : Board) → slice_get p.boards route.source ≡ Some source → source.dir ≡ d → route_runs_in_direction p d route ≡ true
 runs-from p d route source at same = rw (at, same) (own_direction d)
 
--- The route that leads a train's head at x = path[i] in direction d.
 pub record IsLedBy (p : PlantLists) (s : State) (d : Dir) (x : ℕ) : Type 0 where
   pub r : ℕ
   pub route : Route
@@ -60,7 +59,6 @@ pub led-route_locked_or_occupied : (s : State) (route : Route) (now : RouteState
 led-route_locked_or_occupied s route now (inl e) = occupied-is now e
 led-route_locked_or_occupied s route now (inr e) = locked-is now e.0
 
--- The route that keeps x = path[i] for trains in direction d.
 pub record IsKeptBy (p : PlantLists) (s : State) (d : Dir) (x : ℕ) : Type 0 where
   pub r : ℕ
   pub route : Route
@@ -134,7 +132,7 @@ module _ (p : PlantLists) (s : State) where
       all_of : may_lead led.route led.now ≡ true → nat_le led.now.seen (led.i + 1) ≡ true → list_all (is_vacant s) (drop (led.i + 1) led.route.path) ≡ true → leads d x led.route led.now led.i x ≡ true
       all_of mode seen vacant = and_from _ _ (and_from _ _ (and_from _ _ (and_from _ _ (eq-eqb x x refl) led.runs) mode) seen) vacant
 
-  pub head-led : keeps_v7 p s ≡ true → (i : ℕ) (train : Train) (x : ℕ) → slice_get s.trains i ≡ Some train → last_or None train.body ≡ Some x → continues_without_board p train.dir x ≡ true → IsLedBy p s train.dir x
+  pub head-led : keeps_v7_heads_have_routes p s ≡ true → (i : ℕ) (train : Train) (x : ℕ) → slice_get s.trains i ≡ Some train → last_or None train.body ≡ Some x → continues_without_board p train.dir x ≡ true → IsLedBy p s train.dir x
   head-led kept i train x at last plain =
       let here : (if continues_without_board p train.dir x then head_is_led_by_route p s train.dir x else true) ≡ true = rw last at
       (list_all-slice_get
@@ -143,10 +141,11 @@ module _ (p : PlantLists) (s : State) where
       kept at) in
       led-at train.dir x (if-passes (continues_without_board p train.dir x) (head_is_led_by_route p s train.dir x) here plain)
 
-  pub heads-from : HasShape p s → ((i : ℕ) (train : Train) (x : ℕ) → slice_get s.trains i ≡ Some train → last_or None train.body ≡ Some x → continues_without_board p train.dir x ≡ true → IsLedBy p s train.dir x) → keeps_v7 p s ≡ true
+  pub heads-from : HasShape p s → ((i : ℕ) (train : Train) (x : ℕ) → slice_get s.trains i ≡ Some train → last_or None train.body ≡ Some x → continues_without_board p train.dir x ≡ true → IsLedBy p s train.dir x) →
+      keeps_v7_heads_have_routes p s ≡ true
   heads-from shape each =
       all-pass (λ train. is_some_and (last_or None train.body) (λ x. if continues_without_board p train.dir x then head_is_led_by_route p s train.dir x else true)) s.trains (λ i train at.
-      let last = body-last p train (list_all-slice_get (train_body_is_valid p) s.trains i train shape.bodies at) in
+      let last = body-last p train (list_all-slice_get (has_nonempty_connected_body p) s.trains i train shape.bodies at) in
       rw last.1 (passes-if (continues_without_board p train.dir last.0) (head_is_led_by_route p s train.dir last.0) (λ plain. led-from train.dir last.0 (each i train last.0 at last.1 plain))))
 
   abbrev keeps_for : Dir → ℕ → Route → RouteState → Bool
@@ -181,26 +180,26 @@ module _ (p : PlantLists) (s : State) where
   abbrev is_kept_if_plain : Dir → ℕ → Bool
   is_kept_if_plain d x = if continues_without_board p d x then is_unreleased_on_some_route p s d x else true
 
-  pub body-kept : keeps_v8 p s ≡ true → (i : ℕ) (train : Train) → slice_get s.trains i ≡ Some train → (k x : ℕ) → slice_get train.body k ≡ Some x → continues_without_board p train.dir x ≡ true → IsKeptBy p s train.dir x
+  pub body-kept : keeps_v8_bodies_have_routes p s ≡ true → (i : ℕ) (train : Train) → slice_get s.trains i ≡ Some train → (k x : ℕ) → slice_get train.body k ≡ Some x → continues_without_board p train.dir x ≡ true → IsKeptBy p s train.dir x
   body-kept kept i train at k x place plain =
       let body = list_all-slice_get (λ train. list_all (is_kept_if_plain train.dir) train.body) s.trains i train kept at in
       kept_for-at train.dir x (if-passes (continues_without_board p train.dir x) (is_unreleased_on_some_route p s train.dir x) (list_all-slice_get (is_kept_if_plain train.dir) train.body k x body place) plain)
 
-  pub bodies-from : ((i : ℕ) (train : Train) → slice_get s.trains i ≡ Some train → (k x : ℕ) → slice_get train.body k ≡ Some x → continues_without_board p train.dir x ≡ true → IsKeptBy p s train.dir x) → keeps_v8 p s ≡ true
+  pub bodies-from : ((i : ℕ) (train : Train) → slice_get s.trains i ≡ Some train → (k x : ℕ) → slice_get train.body k ≡ Some x → continues_without_board p train.dir x ≡ true → IsKeptBy p s train.dir x) → keeps_v8_bodies_have_routes p s ≡ true
   bodies-from each =
       all-pass (λ train. list_all (is_kept_if_plain train.dir) train.body) s.trains (λ i train at.
       all-pass (is_kept_if_plain train.dir) train.body (λ k x place.
       passes-if (continues_without_board p train.dir x) (is_unreleased_on_some_route p s train.dir x) (λ plain. kept_for-from train.dir x (each i train at k x place plain))))
 
-  pub two-at : (x : ℕ) → has_two_trains s x ≡ false → (i j : ℕ) (one other : Train) → slice_get s.trains i ≡ Some one → slice_get s.trains j ≡ Some other → has_section x one.body ≡ true → has_section x other.body ≡ true → i ≡ j
+  pub two-at : (x : ℕ) → has_two_trains s x ≡ false → (i j : ℕ) (one other : Train) → slice_get s.trains i ≡ Some one → slice_get s.trains j ≡ Some other → contains_section x one.body ≡ true → contains_section x other.body ≡ true → i ≡ j
   two-at x none i j one other at also first second =
-      let few : count_by (λ train. has_section x train.body) s.trains ≤ 1 = grind (arith, nat_tests) in
-      count-one (λ train. has_section x train.body) s.trains few i j one other at also first second
+      let few : count_by (λ train. contains_section x train.body) s.trains ≤ 1 = grind (arith, nat_tests) in
+      count-one (λ train. contains_section x train.body) s.trains few i j one other at also first second
 
-  pub two-from : (x : ℕ) → ((i j : ℕ) (one other : Train) → slice_get s.trains i ≡ Some one → slice_get s.trains j ≡ Some other → has_section x one.body ≡ true → has_section x other.body ≡ true → i ≡ j) → has_two_trains s x ≡ false
+  pub two-from : (x : ℕ) → ((i j : ℕ) (one other : Train) → slice_get s.trains i ≡ Some one → slice_get s.trains j ≡ Some other → contains_section x one.body ≡ true → contains_section x other.body ≡ true → i ≡ j) → has_two_trains s x ≡ false
   two-from x each =
-      let few = few-from_places (λ train. has_section x train.body) s.trains each in
-      not_more (count_by (λ train. has_section x train.body) s.trains) few
+      let few = few-from_places (λ train. contains_section x train.body) s.trains each in
+      not_more (count_by (λ train. contains_section x train.body) s.trains) few
     where
       not_more : (n : ℕ) → n ≤ 1 → nat_lt 1 n ≡ false
       not_more n few = grind (arith, nat_tests)
@@ -225,18 +224,17 @@ module _ (p : PlantLists) (s : State) where
       by_section (Some (Point stem plus minus faces)) e =
           rw e (none-pass (λ train. is_wrong_under_body x plus minus (detected_position p s x) train.body) s.trains (each stem plus minus faces e))
 
--- A state that meets the invariant, part by part.
 pub record Keeps (p : PlantLists) (s : State) : Type 0 where
   pub shape : HasShape p s
-  pub v1 : keeps_v1 p s ≡ true
-  pub v2 : keeps_v2 p s ≡ true
-  pub v3 : keeps_v3 p s ≡ true
-  pub v4 : keeps_v4 p s ≡ true
-  pub v5 : keeps_v5 p s ≡ true
-  pub v6 : keeps_v6 p s ≡ true
-  pub v7 : keeps_v7 p s ≡ true
-  pub v8 : keeps_v8 p s ≡ true
-  pub v9 : keeps_v9 p s ≡ true
+  pub v1 : keeps_v1_consistent_counts p s ≡ true
+  pub v2 : keeps_v2_sections_held_once p s ≡ true
+  pub v3 : keeps_v3_locks_match_routes p s ≡ true
+  pub v4 : keeps_v4_allocating_paths_vacant p s ≡ true
+  pub v5 : keeps_v5_open_needs_locked p s ≡ true
+  pub v6 : keeps_v6_route_points_set p s ≡ true
+  pub v7 : keeps_v7_heads_have_routes p s ≡ true
+  pub v8 : keeps_v8_bodies_have_routes p s ≡ true
+  pub v9 : keeps_v9_protecting_boards_closed p s ≡ true
   pub one_train : (x : ℕ) → x < length p.sections → has_two_trains s x ≡ false
   pub right_point : (x : ℕ) → x < length p.sections → is_wrong_under_train p s x ≡ false
 
@@ -244,15 +242,15 @@ pub keeps-of : (p : PlantLists) (s : State) → Meets p s → Keeps p s
 keeps-of p s meets =
     let none = mapped-None _ (find (is_section_hazardous p s) (range_with_len 0 (length p.sections))) meets.no_hazard in
     let calm : (x : ℕ) → x < length p.sections → is_section_hazardous p s x ≡ false = λ x within. find-none-at (is_section_hazardous p s) (range_with_len 0 (length p.sections)) x x none (range-at (length p.sections) x within) in
-    let one = and_parts (keeps_v1 p s) _ meets.families_kept in
-    let two = and_parts (keeps_v2 p s) _ one.1 in
-    let three = and_parts (keeps_v3 p s) _ two.1 in
-    let four = and_parts (keeps_v4 p s) _ three.1 in
-    let five = and_parts (keeps_v5 p s) _ four.1 in
-    let six = and_parts (keeps_v6 p s) _ five.1 in
-    let seven = and_parts (keeps_v7 p s) _ six.1 in
-    let eight = and_parts (keeps_v8 p s) _ seven.1 in
-    let nine = and_parts (keeps_v9 p s) _ eight.1 in
+    let one = and_parts (keeps_v1_consistent_counts p s) _ meets.families_kept in
+    let two = and_parts (keeps_v2_sections_held_once p s) _ one.1 in
+    let three = and_parts (keeps_v3_locks_match_routes p s) _ two.1 in
+    let four = and_parts (keeps_v4_allocating_paths_vacant p s) _ three.1 in
+    let five = and_parts (keeps_v5_open_needs_locked p s) _ four.1 in
+    let six = and_parts (keeps_v6_route_points_set p s) _ five.1 in
+    let seven = and_parts (keeps_v7_heads_have_routes p s) _ six.1 in
+    let eight = and_parts (keeps_v8_bodies_have_routes p s) _ seven.1 in
+    let nine = and_parts (keeps_v9_protecting_boards_closed p s) _ eight.1 in
     record {
       shape = meets.shape;
       v1 = one.0;

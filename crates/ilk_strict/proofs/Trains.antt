@@ -3,7 +3,7 @@ use Rattle.std.proofs.Common.{◌≡◌, ℕ, zero, suc, ◌<◌, ◌≤◌, tru
 use Rattle.std.specs.List.{last_or}
 use Rattle.std.proofs.lemmas.Bool.{both_ways, eqb-true, false_from_ne_true}
 use Rattle.ilk_base.proofs.Lists.{slice_get-push_cases}
-use Rattle.ilk_plant.specs.Network.{has_section}
+use Rattle.ilk_plant.specs.Network.{contains_section}
 use Rattle.ilk_plant.specs.Plant.{PlantLists}
 use Rattle.ilk_plant.specs.State.{is_occupied}
 use Rattle.ilk_plant.specs.declared.state.State.{State}
@@ -75,7 +75,7 @@ pub leave-trains : (p : PlantLists) (s t : State) (x : ℕ) → (it : IsLeft p s
 leave-trains p s t x it j train at =
     removed-at s.trains it.i j train (sym (ap (λ (trains : List Train). slice_get trains j) it.trains) ∙ at)
 
-pub longer-has : (z y : ℕ) (body : List ℕ) → has_section z (body ++ y ∷ []) ≡ true → (has_section z body ≡ true) ⊎ (z ≡ y)
+pub longer-has : (z y : ℕ) (body : List ℕ) → contains_section z (body ++ y ∷ []) ≡ true → (contains_section z body ≡ true) ⊎ (z ≡ y)
 longer-has z y body h =
     let found = section-at z (body ++ y ∷ []) h in
     elim (slice_get-push_cases body y z found.0 found.1) [
@@ -83,19 +83,19 @@ longer-has z y body h =
       | inr new ↦ inr (sym new.1)
     ]
 
-vacant-if : (s t : State) (z : ℕ) → is_occupied s z ≡ false → ((i : ℕ) (train : Train) → slice_get t.trains i ≡ Some train → has_section z train.body ≡ true → is_occupied s z ≡ true) → is_occupied t z ≡ false
+vacant-if : (s t : State) (z : ℕ) → is_occupied s z ≡ false → ((i : ℕ) (train : Train) → slice_get t.trains i ≡ Some train → contains_section z train.body ≡ true → is_occupied s z ≡ true) → is_occupied t z ≡ false
 vacant-if s t z vacant each =
     false_from_ne_true (is_occupied t z) (λ occupied. let found = occupied-at t z occupied in both_ways (is_occupied s z) vacant (each found.0 found.1 found.2 found.3))
 
 pub enter-vacant : (p : PlantLists) (s t : State) (x : ℕ) → IsEntered p s t x → (z : ℕ) → is_occupied s z ≡ false → (z ≡ x → ⊥) → is_occupied t z ≡ false
 enter-vacant p s t x it z vacant apart = vacant-if s t z vacant (λ i train at has. elim (enter-trains p s t x it i train at) [
   | inl old ↦ occupied-from s i train z old has
-  | inr new ↦ absurd (apart (sym (only-one z x (subst (λ (one : Train). has_section z one.body ≡ true) new.1 has))))
+  | inr new ↦ absurd (apart (sym (only-one z x (subst (λ (one : Train). contains_section z one.body ≡ true) new.1 has))))
 ])
 
 pub head-vacant : (p : PlantLists) (s t : State) (x : ℕ) → (it : IsHeaded p s t x) → (z : ℕ) → is_occupied s z ≡ false → (z ≡ it.y → ⊥) → is_occupied t z ≡ false
 head-vacant p s t x it z vacant apart = vacant-if s t z vacant (λ i train at has. elim (head-trains p s t x it i train at) [
-  | inl moved ↦ elim (longer-has z it.y it.train.body (subst (λ (one : Train). has_section z one.body ≡ true) moved.1 has)) [
+  | inl moved ↦ elim (longer-has z it.y it.train.body (subst (λ (one : Train). contains_section z one.body ≡ true) moved.1 has)) [
     | inl old ↦ occupied-from s it.i it.train z it.at old
     | inr new ↦ absurd (apart new)
   ]
@@ -104,7 +104,7 @@ head-vacant p s t x it z vacant apart = vacant-if s t z vacant (λ i train at ha
 
 pub tail-vacant : (p : PlantLists) (s t : State) (x : ℕ) → IsTailed p s t x → (z : ℕ) → is_occupied s z ≡ false → is_occupied t z ≡ false
 tail-vacant p s t x it z vacant = vacant-if s t z vacant (λ i train at has. elim (tail-trains p s t x it i train at) [
-  | inl moved ↦ occupied-from s it.i it.train z it.at (rest-has z it.train.body (subst (λ (one : Train). has_section z one.body ≡ true) moved.1 has))
+  | inl moved ↦ occupied-from s it.i it.train z it.at (rest-has z it.train.body (subst (λ (one : Train). contains_section z one.body ≡ true) moved.1 has))
   | inr other ↦ occupied-from s i train z other.1 has
 ])
 

@@ -12,8 +12,9 @@ ghost use Rattle.ilk_strict.specs.IsStrict.{IsStrict, KeepsPathRules};
 use ilk_plant::Plant;
 
 /// A table is strict if it keeps C1, C7, the part of C2 about the end of a path, and the part of C3
-/// about the path. It may break C4, C5, C6 and C8. It may also break the other parts of C2
-/// (destinations, boards inside a path) and of C3 (overlaps). Proof only; no run-time effect.
+/// about the path. A path then ends at a board or at the track's end. The table may break C4, C5,
+/// C6 and C8, and the other parts of C2 (destinations, boards inside a path) and of C3 (overlaps).
+/// Proof only; no run-time effect.
 #[tactic(auto, using(crate::proofs::Strict::strict_from_rules))]
 pub fn path_rules_imply_strict(plant: &Plant)
     requires { KeepsPathRules plant.now }
@@ -27,9 +28,9 @@ pub fn clean_is_strict(plant: &Plant)
     ensures { IsStrict plant.now }
 {}
 
-/// For a strict table, the initial state meets the invariant, and an event leads from a state that
-/// meets it only to states that meet it. So every run from the start, of any length, ends in a
-/// state that meets the invariant. Proof only; no run-time effect.
+/// A plant with a strict table is safe. The initial state meets the invariant, and each event keeps
+/// it. So every run from the initial state, of any length, ends in a state that meets the
+/// invariant. Proof only; no run-time effect.
 pub fn strict_is_safe(plant: &Plant)
     requires { IsStrict plant.now }
     ensures start { Meets plant.now (start plant.now) }
@@ -41,8 +42,9 @@ pub fn strict_is_safe(plant: &Plant)
     plant.prove_is_plant();
 }
 
-/// A table that keeps C1, C7 and these parts of C2 and C3 is safe. Every run from the start, of any
-/// length, ends in a state that meets the invariant. Proof only; no run-time effect.
+/// A plant is safe if its table keeps C1, C7, the part of C2 about the end of a path, and the part
+/// of C3 about the path. Every run from the initial state, of any length, then ends in a state that
+/// meets the invariant. Proof only; no run-time effect.
 pub fn path_rules_imply_safe(plant: &Plant)
     requires { KeepsPathRules plant.now }
     ensures { (events : List Event) (t : State) → run plant.now (start plant.now) events ≡ Some t

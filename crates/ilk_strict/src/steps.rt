@@ -8,7 +8,7 @@ use ilk_model::{Event, apply, start};
 use ilk_plant::{Plant, State};
 use std::alloc::{AllocError, Global};
 
-/// Returns the initial state. It meets the invariant.
+/// Returns the initial state of `plant`, which meets the invariant. Fails only if memory runs out.
 #[tactic(auto, using(crate::proofs::Invariant::begun_meets))]
 pub fn begin(alloc: Global, plant: &Plant) -> Result<State, AllocError>
     ensures start { IfOk result (λ s. s ≡ start plant.now) }

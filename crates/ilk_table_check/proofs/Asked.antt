@@ -13,7 +13,7 @@ use Rattle.ilk_plant.specs.Plant.{PlantLists}
 use Rattle.ilk_plant.specs.declared.broken.Broken.{Broken}
 use Rattle.ilk_plant.specs.declared.broken.Rule.{Rule}
 use Rattle.ilk_plant.specs.declared.table.Route.{Route}
-use Rattle.ilk_table_check.specs.Columns.{all_conflict_flags, any_later_unlisted, any_other_unlisted, conflict_flags, is_conflict_flagged, broken_pairs_with_first}
+use Rattle.ilk_table_check.specs.Columns.{listed_conflict_matrix, leaves_later_route_unlisted, leaves_other_route_unlisted, conflict_flags, conflict_flag_or_false, broken_pairs_with_first}
 use Rattle.ilk_table_check.proofs.Flagged.{lists_as_conflict-flagged, row-flagged}
 
 none_pass : (test : ℕ → Bool) (a n : ℕ) → ((j : ℕ) → j < a + n → test j ≡ false) → filter test (range_with_len a n) ≡ []
@@ -25,10 +25,9 @@ pub adds_none : (rule : Rule) (n i : ℕ) (test : ℕ → Bool) (found : List Br
 adds_none rule n i test found none =
     rw (none_pass test 0 n (λ j below. none j (omega (arith, below)))) (sym (append-nil found))
 
--- C5: each route that route i lists lists it.
 pub none_alone : (p : PlantLists) (listed : List (List Bool)) (conflicts : List ℕ) (i : ℕ) (route : Route) →
-    listed ≡ all_conflict_flags p → conflicts ≡ route.conflicts → i < length p.routes →
-    slice_get p.routes i ≡ Some route → list_any (λ j. not (is_conflict_flagged listed j i)) conflicts ≡ false →
+    listed ≡ listed_conflict_matrix p → conflicts ≡ route.conflicts → i < length p.routes →
+    slice_get p.routes i ≡ Some route → list_any (λ j. not (conflict_flag_or_false listed j i)) conflicts ≡ false →
     (j : ℕ) → j < length p.routes → lists_conflict_one_way p i j ≡ false
 none_alone p listed conflicts i route is own first at none j second =
     rw at (by_test (list_any (λ r. r == j) route.conflicts) refl)
@@ -38,9 +37,9 @@ none_alone p listed conflicts i route is own first at none j second =
     by_test true e =
         let found = list_any-at (λ r. r == j) route.conflicts e in
         let same : found.1 ≡ j = grind (arith, nat_tests, found.3) in
-        let each : list_any (λ r. not (is_conflict_flagged listed r i)) route.conflicts ≡ false = ap (list_any (λ r. not (is_conflict_flagged listed r i))) (sym own) ∙ none in
-        let back : not (is_conflict_flagged listed found.1 i) ≡ false = list_any-none (λ r. not (is_conflict_flagged listed r i)) route.conflicts found.0 found.1 each found.2 in
-        ap not (sym (lists_as_conflict-flagged p listed j i is second first)) ∙ ap (λ r. not (is_conflict_flagged listed r i)) (sym same) ∙ back
+        let each : list_any (λ r. not (conflict_flag_or_false listed r i)) route.conflicts ≡ false = ap (list_any (λ r. not (conflict_flag_or_false listed r i))) (sym own) ∙ none in
+        let back : not (conflict_flag_or_false listed found.1 i) ≡ false = list_any-none (λ r. not (conflict_flag_or_false listed r i)) route.conflicts found.0 found.1 each found.2 in
+        ap not (sym (lists_as_conflict-flagged p listed j i is second first)) ∙ ap (λ r. not (conflict_flag_or_false listed r i)) (sym same) ∙ back
 
 neither : (b c : Bool) → c ≡ false → (b && c) ≡ false
 neither true c unset = unset
@@ -60,8 +59,7 @@ listed_before p i j second earlier set =
     let flags = conflict_flags p i in
     list_any-none not (take i flags) j (lists_as_conflict p i j) set (get-taken flags i j earlier ∙ own_flag p i j second)
 
--- C6: route i lists each later route.
-pub none_unlisted : (p : PlantLists) (listed : List (List Bool)) (i : ℕ) → listed ≡ all_conflict_flags p → i < length p.routes → any_later_unlisted listed i ≡ false → (j : ℕ) → j < length p.routes → shares_without_conflict p i j ≡ false
+pub none_unlisted : (p : PlantLists) (listed : List (List Bool)) (i : ℕ) → listed ≡ listed_conflict_matrix p → i < length p.routes → leaves_later_route_unlisted listed i ≡ false → (j : ℕ) → j < length p.routes → shares_without_conflict p i j ≡ false
 none_unlisted p listed i is first none j second =
     by_test (nat_lt i j) refl
   where
@@ -81,20 +79,18 @@ none_kept p i j route at bare =
     by_route None = refl
     by_route (Some other) = ap (list_any (λ m. m == other.source)) bare
 
--- C8: route i has no protecting board or lists each other route, and its own source is none of its
--- boards.
 pub none_protected : (p : PlantLists) (listed : List (List Bool)) (i : ℕ) (route : Route) →
-    listed ≡ all_conflict_flags p → i < length p.routes → slice_get p.routes i ≡ Some route →
+    listed ≡ listed_conflict_matrix p → i < length p.routes → slice_get p.routes i ≡ Some route →
     (list_any (λ m. m == route.source) route.protecting_boards
-    || (nat_lt 0 (length route.protecting_boards) && any_other_unlisted listed i)) ≡ false → (j : ℕ) →
+    || (nat_lt 0 (length route.protecting_boards) && leaves_other_route_unlisted listed i)) ≡ false → (j : ℕ) →
     j < length p.routes → protects_without_conflict p i j ≡ false
 none_protected p listed i route is first at none j second =
     by_boards route.protecting_boards refl
   where
-    parts : (list_any (λ m. m == route.source) route.protecting_boards ≡ false) × ((nat_lt 0 (length route.protecting_boards) && any_other_unlisted listed i) ≡ false)
-    parts = or_parts (list_any (λ m. m == route.source) route.protecting_boards) (nat_lt 0 (length route.protecting_boards) && any_other_unlisted listed i) none
+    parts : (list_any (λ m. m == route.source) route.protecting_boards ≡ false) × ((nat_lt 0 (length route.protecting_boards) && leaves_other_route_unlisted listed i) ≡ false)
+    parts = or_parts (list_any (λ m. m == route.source) route.protecting_boards) (nat_lt 0 (length route.protecting_boards) && leaves_other_route_unlisted listed i) none
 
-    by_place : (b c : Bool) → nat_lt i j ≡ b → nat_lt j i ≡ c → any_other_unlisted listed i ≡ false → protects_without_conflict p i j ≡ false
+    by_place : (b c : Bool) → nat_lt i j ≡ b → nat_lt j i ≡ c → leaves_other_route_unlisted listed i ≡ false → protects_without_conflict p i j ≡ false
     by_place true c later e set =
         let flags = or_parts (list_any not (take i (conflict_flags p i)))
         (list_any not (drop (i + 1) (conflict_flags p i)))
@@ -120,4 +116,4 @@ none_protected p listed i route is first at none j second =
     by_boards [] bare = ap (λ b. b && not (lists_as_conflict p i j)) (none_kept p i j route at bare)
     by_boards (m ∷ more) some =
         let here : nat_lt 0 (length route.protecting_boards) ≡ true = rw some (grind (arith, nat_tests)) in
-        by_place (nat_lt i j) (nat_lt j i) refl refl (ap (λ b. b && any_other_unlisted listed i) (sym here) ∙ parts.1)
+        by_place (nat_lt i j) (nat_lt j i) refl refl (ap (λ b. b && leaves_other_route_unlisted listed i) (sym here) ∙ parts.1)

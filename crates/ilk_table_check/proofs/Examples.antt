@@ -39,14 +39,12 @@ at rule i = record { rule = rule; first = i; second = None }
 at_pair : Rule → ℕ → ℕ → Broken
 at_pair rule i j = record { rule = rule; first = i; second = Some j }
 
--- Two sections with a board each, and a route over each.
 line : NetDraft
 line = record { sections = linear (codes "a") None (Some (codes "b")) None (Some (codes "m1")) ∷ linear (codes "b") (Some (codes "a")) None (Some (codes "m2")) None ∷ [] }
 
 line_table : TableDraft
 line_table = record { routes = route (codes "r1") (codes "m1") None (codes "b" ∷ []) [] [] ∷ route (codes "r2") (codes "m2") None (codes "a" ∷ []) [] [] ∷ [] }
 
--- The line without boards and routes.
 bare_line : NetDraft
 bare_line = record { sections = linear (codes "a") None (Some (codes "b")) None None ∷ linear (codes "b") (Some (codes "a")) None None None ∷ [] }
 
@@ -123,12 +121,10 @@ station-columns : column_rules_broken (plant_from_drafts station (station_table 
 unfolding station station_table linear route plus minus first_conflicts
 station-columns = refl
 
--- A point at the wrong position.
 station-wrong_leg : column_rules_broken (plant_from_drafts station (station_table (minus (codes "p1")) first_conflicts)) ≡ at C3 0 ∷ []
 unfolding station station_table linear route plus minus first_conflicts at
 station-wrong_leg = refl
 
--- A route that lists no conflict.
 station-alone : column_rules_broken (plant_from_drafts station (station_table (plus (codes "p1")) [])) ≡ at_pair C5 1 0 ∷ at_pair C5 4 0 ∷ at_pair C5 6 0 ∷ at_pair C5 7 0 ∷ at_pair C6 0 1 ∷ at_pair C6 0 4 ∷ at_pair C6 0 6 ∷ at_pair C6 0 7 ∷ []
 unfolding station station_table linear route plus minus at_pair
 station-alone = refl
@@ -170,17 +166,14 @@ station-protecting_boards :
 unfolding station station_table protected_table linear route plus minus first_conflicts at
 station-protecting_boards = refl
 
--- A route that shares its protecting point with unlisted routes.
 station-shared_point : column_rules_broken (plant_from_drafts station (protected_table (minus (codes "p2")) [])) ≡ at_pair C6 0 2 ∷ at_pair C6 0 3 ∷ at_pair C6 0 5 ∷ []
 unfolding station station_table protected_table linear route plus minus first_conflicts at_pair
 station-shared_point = refl
 
--- A route whose protecting board is the source of an unlisted route.
 station-closed_board : column_rules_broken (plant_from_drafts station (protected_table [] (codes "m3" ∷ []))) ≡ at_pair C8 0 2 ∷ []
 unfolding station station_table protected_table linear route plus minus first_conflicts at_pair
 station-closed_board = refl
 
--- Everything wrong with a route on a line.
 wrong_table : TableDraft
 wrong_table = record { routes = route (codes "r1") (codes "m1") None (codes "b" ∷ []) [] [] ∷ route (codes "r1") (codes "m3") (Some (codes "m4")) (codes "a" ∷ codes "c" ∷ codes "a" ∷ []) [] [] ∷ [] }
 

@@ -6,7 +6,7 @@ use Rattle.std.proofs.lemmas.List.Folds.{list_any-append}
 use Rattle.std.proofs.lemmas.List.FromFn.{get_or-map-range_with_len}
 use Rattle.ilk_base.proofs.Lists.{item_at}
 use Rattle.ilk_plant.specs.ColumnRules.{share_locked_section}
-use Rattle.ilk_plant.specs.Network.{has_section}
+use Rattle.ilk_plant.specs.Network.{contains_section}
 use Rattle.ilk_plant.specs.Plant.{IsValidRouteOf, PlantLists}
 use Rattle.ilk_plant.specs.TableRules.{protecting_points_of, sections_locked_for}
 use Rattle.ilk_plant.specs.declared.table.Route.{Route}
@@ -16,7 +16,7 @@ flagged : (flags : List Bool) (test : ℕ → Bool) (n : ℕ) (xs : List ℕ) �
 flagged flags test n [] same each = refl
 flagged flags test n (x ∷ xs) same each = rw (same x each.0, flagged flags test n xs same each.1) refl
 
-flags-own : (p : PlantLists) (i x : ℕ) (route : Route) → slice_get p.routes i ≡ Some route → x < length p.sections → get_or (locked_flags p i) x false ≡ has_section x (sections_locked_for route)
+flags-own : (p : PlantLists) (i x : ℕ) (route : Route) → slice_get p.routes i ≡ Some route → x < length p.sections → get_or (locked_flags p i) x false ≡ contains_section x (sections_locked_for route)
 flags-own p i x route at below =
     get_or-map-range_with_len _ 0 (length p.sections) x x false below (omega arith) ∙ rw at refl
 
@@ -27,7 +27,7 @@ pub share-flagged : (p : PlantLists) (flags : List Bool) (i j : ℕ) (other : Ro
     ≡ share_locked_section p i j
 share-flagged p flags i j other own within at known =
     let found : (route : Route) × (slice_get p.routes i ≡ Some route) = item_at p.routes i within in
-    let test : ℕ → Bool = λ x. has_section x (sections_locked_for found.0) in
+    let test : ℕ → Bool = λ x. contains_section x (sections_locked_for found.0) in
     let same : (x : ℕ) → x < length p.sections → get_or flags x false ≡ test x = λ x below. rw own (flags-own p i x found.0 found.1 below) in
     let path = flagged flags test (length p.sections) other.path same (recursion_from_All (λ x. x < length p.sections) other.path known.path) in
     let overlap = flagged flags test (length p.sections) other.overlap same (recursion_from_All (λ x. x < length p.sections) other.overlap known.overlap) in

@@ -1,20 +1,20 @@
 ghost use Rattle.std.specs.Prelude.{ℕ, ◌≡◌, ◌&&◌, ◌||◌, ◌+◌, ◌<◌, drop, false, length, nat_lt, not, take};
 ghost use Rattle.std.specs.List.{list_any};
-ghost use Rattle.ilk_plant.specs.ColumnRules.{breaks_columns_at_pair};
-ghost use Rattle.ilk_table_check.specs.Columns.{all_conflict_flags, any_later_unlisted, any_other_unlisted, is_conflict_flagged};
+ghost use Rattle.ilk_plant.specs.ColumnRules.{breaks_column_rule_at_pair};
+ghost use Rattle.ilk_table_check.specs.Columns.{listed_conflict_matrix, leaves_later_route_unlisted, leaves_other_route_unlisted, conflict_flag_or_false};
 ghost use Rattle.ilk_base.specs.Numbers.{has_number};
 
-use crate::conflicts::is_conflict_flagged;
+use crate::conflicts::conflict_flag_or_false;
 use crate::flags::Flags;
 use crate::pairs::is_protecting_board;
 use ilk_plant::{Plant, Route, Row, Rule};
 
 fn any_alone(listed: &Row<Flags>, conflicts: &[u32], i: u32) -> bool
-    ensures { result ≡ list_any (λ j. not (is_conflict_flagged listed.now j i)) conflicts.now }
+    ensures { result ≡ list_any (λ j. not (conflict_flag_or_false listed.now j i)) conflicts.now }
 {
     conflicts
         .iter()
-        .any(|j| !is_conflict_flagged(listed, *j, i))
+        .any(|j| !conflict_flag_or_false(listed, *j, i))
 }
 
 fn any_unset_after(flags: &Flags, i: u32) -> bool
@@ -27,9 +27,8 @@ fn any_unset_after(flags: &Flags, i: u32) -> bool
         .any(|flag| !*flag)
 }
 
-// Returns whether route `i` leaves some later route unlisted.
-fn any_later_unlisted(listed: &Row<Flags>, i: u32) -> bool
-    ensures { result ≡ any_later_unlisted listed.now i }
+fn leaves_later_route_unlisted(listed: &Row<Flags>, i: u32) -> bool
+    ensures { result ≡ leaves_later_route_unlisted listed.now i }
 {
     match listed.as_slice().get(i as usize) {
         Some(flags) => any_unset_after(flags, i),
@@ -49,9 +48,8 @@ fn any_other_unset(flags: &Flags, i: u32) -> bool
     any_unset_before(flags, i) || any_unset_after(flags, i)
 }
 
-// Returns whether route `i` leaves some other route unlisted.
-fn any_other_unlisted(listed: &Row<Flags>, i: u32) -> bool
-    ensures { result ≡ any_other_unlisted listed.now i }
+fn leaves_other_route_unlisted(listed: &Row<Flags>, i: u32) -> bool
+    ensures { result ≡ leaves_other_route_unlisted listed.now i }
 {
     match listed.as_slice().get(i as usize) {
         Some(flags) => any_other_unset(flags, i),
@@ -59,32 +57,35 @@ fn any_other_unlisted(listed: &Row<Flags>, i: u32) -> bool
     }
 }
 
-// Returns whether some protecting board of route `i` may be the source of an unlisted route. This
-// needs its own source to be a protecting board, or some other route to be unlisted.
+// Returns whether some protecting board of route `i` may be the source of a route that it doesn't
+// list.
 fn may_protect_unlisted(listed: &Row<Flags>, route: &Route, i: u32) -> bool
     ensures { result ≡ (has_number route.now.source route.now.protecting_boards
-        || (nat_lt 0 (length route.now.protecting_boards) && any_other_unlisted listed.now i)) }
+        || (nat_lt 0 (length route.now.protecting_boards) && leaves_other_route_unlisted listed.now
+        i)) }
 {
     is_protecting_board(route, route.source)
-        || (route.protecting_boards.len() > 0 && any_other_unlisted(listed, i))
+        || (route.protecting_boards.len() > 0 && leaves_other_route_unlisted(listed, i))
 }
 
-/// Returns whether a rule of two locations has to be checked at the pairs that begin with route
-/// `i`. If not, the rule is violated at none of them. `listed` has the conflicts of all routes.
-///
-/// C5 is checked only if route `i` lists a route that doesn't list it. C6 is checked only if route
-/// `i` leaves a later route unlisted. C8 is checked only if route `i` has protecting boards and
-/// leaves another route unlisted, or its own source is one of them.
-pub fn needs_pair_check(plant: &Plant, listed: &Row<Flags>, rule: Rule, i: u32) -> bool
+/// Returns whether `rule` (C5, C6 or C8) may be violated at a pair of routes that begins with route
+/// `i`. If `false`, it is violated at no such pair, and none has to be checked. `listed` is the
+/// table of all routes' conflicts.
+pub(crate) fn may_break_with_first_route(
+    plant: &Plant,
+    listed: &Row<Flags>,
+    rule: Rule,
+    i: u32,
+) -> bool
     requires first { i < length plant.now.routes }
-    requires listed { listed.now ≡ all_conflict_flags plant.now }
+    requires listed { listed.now ≡ listed_conflict_matrix plant.now }
     ensures { result ≡ false → (j : ℕ) → j < length plant.now.routes →
-        breaks_columns_at_pair plant.now rule i j ≡ false }
+        breaks_column_rule_at_pair plant.now rule i j ≡ false }
 {
     let route = plant.route(i);
     match rule {
         Rule::C5 => any_alone(listed, route.conflicts.as_slice(), i),
-        Rule::C6 => any_later_unlisted(listed, i),
+        Rule::C6 => leaves_later_route_unlisted(listed, i),
         Rule::C8 => may_protect_unlisted(listed, route, i),
         _ => true,
     }

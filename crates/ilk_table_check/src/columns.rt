@@ -1,16 +1,17 @@
 ghost use Rattle.std.specs.Prelude.{◌≡◌, ◌<◌, ◌++◌, IfOk, OnOk, length};
 ghost use Rattle.ilk_plant.specs.Broken.{broken_below, broken_at_pairs, place_kind_of};
-ghost use Rattle.ilk_plant.specs.TableRules.{count_in_plant};
-ghost use Rattle.ilk_plant.specs.ColumnRules.{breaks_columns, breaks_columns_at_pair, broken_for_column_rule, column_rules_broken, is_border_without_board};
+ghost use Rattle.ilk_plant.specs.TableRules.{place_count_in_plant};
+ghost use Rattle.ilk_plant.specs.ColumnRules.{breaks_column_rule_at, breaks_column_rule_at_pair, broken_for_column_rule, column_rules_broken, is_border_without_board};
 ghost use Rattle.ilk_plant.specs.declared.broken.Rule.TheVariants.{C7};
-ghost use Rattle.ilk_table_check.specs.Columns.{all_conflict_flags, broken_pairs_with_first};
+ghost use Rattle.ilk_table_check.specs.Columns.{listed_conflict_matrix, broken_pairs_with_first};
 
-use crate::asking::needs_pair_check;
-use crate::conflicts::all_conflict_flags;
+use crate::asking::may_break_with_first_route;
+use crate::conflicts::listed_conflict_matrix;
 use crate::flags::Flags;
-use crate::pairs::{breaks_at_pair, locked_flags_if_needed};
+use crate::pairs::{breaks_at_pair, locked_flags_if_rule_needs};
 use crate::ways::{
-    overlap_is_connected, path_ends_at_first_board, path_is_connected, route_points_are_listed,
+    overlap_is_connected, path_and_overlap_points_listed, path_continues_from_source,
+    path_destination_is_first_board,
 };
 use ilk_plant::{Broken, PlaceKind, Plant, Row, Rule, push_broken_if};
 use std::alloc::{AllocError, Global};
@@ -36,9 +37,8 @@ fn is_border_without_board(plant: &Plant, x: u32) -> bool
     }
 }
 
-// Returns the number of locations of a kind.
 fn count(plant: &Plant, places: PlaceKind) -> u32
-    ensures { result ≡ count_in_plant plant.now places }
+    ensures { result ≡ place_count_in_plant plant.now places }
 {
     match places {
         PlaceKind::Sections => plant.sections(),
@@ -48,13 +48,13 @@ fn count(plant: &Plant, places: PlaceKind) -> u32
 }
 
 fn breaks(plant: &Plant, rule: Rule, i: u32) -> bool
-    requires { i < count_in_plant plant.now (place_kind_of rule) }
-    ensures { result ≡ breaks_columns plant.now rule i }
+    requires { i < place_count_in_plant plant.now (place_kind_of rule) }
+    ensures { result ≡ breaks_column_rule_at plant.now rule i }
 {
     match rule {
-        Rule::C1 => !path_is_connected(plant, plant.route(i)),
-        Rule::C2 => !path_ends_at_first_board(plant, plant.route(i)),
-        Rule::C3 => !route_points_are_listed(plant, plant.route(i)),
+        Rule::C1 => !path_continues_from_source(plant, plant.route(i)),
+        Rule::C2 => !path_destination_is_first_board(plant, plant.route(i)),
+        Rule::C3 => !path_and_overlap_points_listed(plant, plant.route(i)),
         Rule::C4 => !overlap_is_connected(plant, plant.route(i)),
         Rule::C7 => is_border_without_board(plant, i),
         _ => false,
@@ -63,8 +63,8 @@ fn breaks(plant: &Plant, rule: Rule, i: u32) -> bool
 
 fn push_places(found: &mut Row<Broken>, plant: &Plant, rule: Rule) -> Result<(), AllocError>
     ensures { OnOk result (found.new ≡ found.old
-        ++ broken_below rule (count_in_plant plant.now (place_kind_of rule))
-        (breaks_columns plant.now rule)) }
+        ++ broken_below rule (place_count_in_plant plant.now (place_kind_of rule))
+        (breaks_column_rule_at plant.now rule)) }
 {
     for i in 0..count(plant, rule.places()) {
         let entry = Broken {
@@ -77,7 +77,6 @@ fn push_places(found: &mut Row<Broken>, plant: &Plant, rule: Rule) -> Result<(),
     Ok(())
 }
 
-// Adds the pairs that begin with route `i` and violate a rule of two locations.
 fn push_pairs_of(
     alloc: Global,
     found: &mut Row<Broken>,
@@ -87,17 +86,17 @@ fn push_pairs_of(
     i: u32,
 ) -> Result<(), AllocError>
     requires first { i < length plant.now.routes }
-    requires listed { listed.now ≡ all_conflict_flags plant.now }
+    requires listed { listed.now ≡ listed_conflict_matrix plant.now }
     ensures { OnOk result
         (found.new
         ≡ found.old
         ++ broken_pairs_with_first rule (length plant.now.routes) i
-        (breaks_columns_at_pair plant.now rule i)) }
+        (breaks_column_rule_at_pair plant.now rule i)) }
 {
-    if !needs_pair_check(plant, listed, rule, i) {
+    if !may_break_with_first_route(plant, listed, rule, i) {
         return Ok(());
     }
-    let locked = locked_flags_if_needed(alloc, plant, rule, i)?;
+    let locked = locked_flags_if_rule_needs(alloc, plant, rule, i)?;
     for j in 0..plant.routes() {
         let entry = Broken {
             rule,
@@ -120,12 +119,12 @@ fn push_pairs(
     listed: &Row<Flags>,
     rule: Rule,
 ) -> Result<(), AllocError>
-    requires { listed.now ≡ all_conflict_flags plant.now }
+    requires { listed.now ≡ listed_conflict_matrix plant.now }
     ensures { OnOk result
         (found.new
         ≡ found.old
         ++ broken_at_pairs rule (length plant.now.routes)
-        (breaks_columns_at_pair plant.now rule)) }
+        (breaks_column_rule_at_pair plant.now rule)) }
 {
     for i in 0..plant.routes() {
         push_pairs_of(alloc, found, plant, listed, rule, i)?;
@@ -140,7 +139,7 @@ fn push_rule(
     listed: &Row<Flags>,
     rule: Rule,
 ) -> Result<(), AllocError>
-    requires { listed.now ≡ all_conflict_flags plant.now }
+    requires { listed.now ≡ listed_conflict_matrix plant.now }
     ensures { OnOk result (found.new ≡ found.old ++ broken_for_column_rule plant.now rule) }
 {
     match rule.places() {
@@ -149,12 +148,12 @@ fn push_rule(
     }
 }
 
-/// Returns every violated rule of the columns, C1 to C8, ordered by rule, first location and second
-/// location. Fails only if memory runs out.
+/// Returns every violated rule of the columns, C1 to C8, with its one or two locations. They are
+/// ordered by rule, first location and second location. Fails only if memory runs out.
 pub fn check_columns(alloc: Global, plant: &Plant) -> Result<Row<Broken>, AllocError>
     ensures { IfOk result (λ found. found ≡ column_rules_broken plant.now) }
 {
-    let listed = all_conflict_flags(alloc, plant)?;
+    let listed = listed_conflict_matrix(alloc, plant)?;
     let mut found = Row::new(alloc);
     for rule in &COLUMN_RULES {
         push_rule(alloc, &mut found, plant, &listed, *rule)?;
@@ -162,10 +161,10 @@ pub fn check_columns(alloc: Global, plant: &Plant) -> Result<Row<Broken>, AllocE
     Ok(found)
 }
 
-/// Returns the borders without a board in their inward direction (C7), in the order of the
-/// sections. This is the only rule of the columns that depends on the network alone. Fails only if
+/// Returns every violation of C7: the borders without a board in their inward direction, in the
+/// order of sections. No other rule of the columns depends on the network alone. Fails only if
 /// memory runs out.
-pub fn check_borders(alloc: Global, plant: &Plant) -> Result<Row<Broken>, AllocError>
+pub fn borders_without_inward_board(alloc: Global, plant: &Plant) -> Result<Row<Broken>, AllocError>
     ensures { IfOk result (λ found. found ≡ broken_for_column_rule plant.now C7) }
 {
     let mut found = Row::new(alloc);

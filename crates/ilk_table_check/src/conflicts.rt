@@ -1,6 +1,6 @@
 ghost use Rattle.std.specs.Prelude.{◌≡◌, ◌<◌, IfOk, length};
 ghost use Rattle.ilk_plant.specs.ColumnRules.{lists_as_conflict};
-ghost use Rattle.ilk_table_check.specs.Columns.{all_conflict_flags, conflict_flags, is_conflict_flagged};
+ghost use Rattle.ilk_table_check.specs.Columns.{listed_conflict_matrix, conflict_flags, conflict_flag_or_false};
 
 use crate::flags::Flags;
 use ilk_plant::{Plant, Row};
@@ -14,9 +14,10 @@ fn conflict_flags(alloc: Global, plant: &Plant, i: u32) -> Result<Flags, AllocEr
     Ok(flags)
 }
 
-/// Returns, for each pair of routes, whether the first lists the second as a conflict.
-pub fn all_conflict_flags(alloc: Global, plant: &Plant) -> Result<Row<Flags>, AllocError>
-    ensures { IfOk result (λ made. made ≡ all_conflict_flags plant.now) }
+/// Returns a table: whether the row's route lists the column's route as a conflict. Fails only if
+/// memory runs out.
+pub(crate) fn listed_conflict_matrix(alloc: Global, plant: &Plant) -> Result<Row<Flags>, AllocError>
+    ensures { IfOk result (λ made. made ≡ listed_conflict_matrix plant.now) }
 {
     let mut made = Row::new(alloc);
     for i in 0..plant.routes() {
@@ -25,9 +26,9 @@ pub fn all_conflict_flags(alloc: Global, plant: &Plant) -> Result<Row<Flags>, Al
     Ok(made)
 }
 
-/// Returns flag `j` of row `i`, `false` if there is none.
-pub fn is_conflict_flagged(listed: &Row<Flags>, i: u32, j: u32) -> bool
-    ensures { result ≡ is_conflict_flagged listed.now i j }
+/// Returns entry `j` of row `i` of the table `listed`. Returns `false` if there is none.
+pub(crate) fn conflict_flag_or_false(listed: &Row<Flags>, i: u32, j: u32) -> bool
+    ensures { result ≡ conflict_flag_or_false listed.now i j }
 {
     match listed.as_slice().get(i as usize) {
         Some(flags) => flags.at(j),
@@ -35,13 +36,13 @@ pub fn is_conflict_flagged(listed: &Row<Flags>, i: u32, j: u32) -> bool
     }
 }
 
-/// Returns whether route `i` lists route `j` as a conflict. `listed` has the conflicts of all
-/// routes; only the contract uses `_plant`.
-pub fn lists_as_conflict(_plant: &Plant, listed: &Row<Flags>, i: u32, j: u32) -> bool
+/// Returns whether route `i` lists route `j` as a conflict. `listed` is the table of all routes'
+/// conflicts; only the contract uses `_plant`.
+pub(crate) fn lists_as_conflict(_plant: &Plant, listed: &Row<Flags>, i: u32, j: u32) -> bool
     requires first { i < length _plant.now.routes }
     requires second { j < length _plant.now.routes }
-    requires listed { listed.now ≡ all_conflict_flags _plant.now }
+    requires listed { listed.now ≡ listed_conflict_matrix _plant.now }
     ensures { result ≡ lists_as_conflict _plant.now i j }
 {
-    is_conflict_flagged(listed, i, j)
+    conflict_flag_or_false(listed, i, j)
 }

@@ -1,14 +1,14 @@
 ghost use Rattle.std.specs.Prelude.{ℕ, ◌≡◌, ◌==◌, ◌||◌, ◌<◌, IfOk, false, length, map, slice_index_or};
-ghost use Rattle.ilk_plant.specs.Network.{has_section};
+ghost use Rattle.ilk_plant.specs.Network.{contains_section};
 ghost use Rattle.ilk_base.specs.Numbers.{has_number};
 
 use ilk_plant::Listed;
 use std::alloc::{AllocError, Global};
 use std::marker::Model;
 
-/// A flag for each number below a count.
+/// A list of flags, one for each number below a count.
 #[derive(Drop)]
-pub struct Flags {
+pub(crate) struct Flags {
     flags: Vec<bool>,
 }
 
@@ -21,7 +21,7 @@ impl Model for Flags {
 }
 
 impl Flags {
-    /// Creates `count` flags, none of which is set.
+    /// Creates `count` flags, none of which is set. Fails only if memory runs out.
     pub fn new(alloc: Global, count: u32) -> Result<Flags, AllocError>
         ensures count { IfOk result (λ flags. length flags ≡ count) }
         ensures flags { IfOk result
@@ -32,7 +32,7 @@ impl Flags {
         })
     }
 
-    /// Creates `count` flags, with those of `numbers` set.
+    /// Creates `count` flags, and sets those of `numbers`. Fails only if memory runs out.
     pub fn from_numbers(alloc: Global, count: u32, numbers: &[u32]) -> Result<Flags, AllocError>
         ensures count { IfOk result (λ flags. length flags ≡ count) }
         ensures flags { IfOk result
@@ -51,7 +51,7 @@ impl Flags {
         self.flags.as_slice()
     }
 
-    /// Returns flag `x`, `false` if there is none.
+    /// Returns the flag of number `x`. Returns `false` if there is none.
     pub fn at(&self, x: u32) -> bool
         ensures { result ≡ slice_index_or self.now x false }
     {
@@ -71,7 +71,7 @@ impl Flags {
         }
     }
 
-    /// Sets the flags of these numbers.
+    /// Sets the flags of `numbers`.
     pub fn set_numbers(&mut self, numbers: &[u32])
         ensures count { length self.new ≡ length self.old }
         ensures flags { (y : ℕ) → y < length self.old →
@@ -83,14 +83,14 @@ impl Flags {
         }
     }
 
-    /// Sets the flags of the sections of these points.
+    /// Sets the flag of each listed point's section.
     pub fn set_points(&mut self, points: &[Listed])
         ensures count { length self.new ≡ length self.old }
         ensures flags { (y : ℕ) → y < length self.old →
             slice_index_or self.new y false
             ≡
             (slice_index_or self.old y false
-            || has_section y (map (λ listed. listed.point) points.now)) }
+            || contains_section y (map (λ listed. listed.point) points.now)) }
     {
         for listed in points {
             self.set(listed.point);

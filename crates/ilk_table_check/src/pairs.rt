@@ -1,9 +1,9 @@
 ghost use Rattle.std.specs.Prelude.{◌≡◌, ◌||◌, ◌<◌, IfOk, false, length, map, slice_index_or};
 ghost use Rattle.std.specs.List.{list_any};
 ghost use Rattle.ilk_plant.specs.TableRules.{protecting_points_of};
-ghost use Rattle.ilk_plant.specs.ColumnRules.{breaks_columns_at_pair, closes_source_of, share_locked_section};
+ghost use Rattle.ilk_plant.specs.ColumnRules.{breaks_column_rule_at_pair, closes_source_of, share_locked_section};
 ghost use Rattle.ilk_plant.specs.declared.broken.Rule.TheVariants.{C6};
-ghost use Rattle.ilk_table_check.specs.Columns.{all_conflict_flags, locked_flags};
+ghost use Rattle.ilk_table_check.specs.Columns.{listed_conflict_matrix, locked_flags};
 ghost use Rattle.ilk_base.specs.Numbers.{has_number};
 
 use crate::conflicts::lists_as_conflict;
@@ -12,7 +12,6 @@ use ilk_base::has_number;
 use ilk_plant::{Listed, Plant, Route, Row, Rule};
 use std::alloc::{AllocError, Global};
 
-// Returns, for each section, whether it is in route `i`'s path, overlap or protecting points.
 fn locked_flags(alloc: Global, plant: &Plant, i: u32) -> Result<Flags, AllocError>
     requires { i < length plant.now.routes }
     ensures { IfOk result (λ locked. locked ≡ locked_flags plant.now i) }
@@ -41,7 +40,6 @@ fn any_point_flagged(flags: &Flags, points: &[Listed]) -> bool
         .any(|x| flags.at(x))
 }
 
-// Returns whether some section of a route's path, overlap or protecting points has its flag.
 fn any_of_route_flagged(flags: &Flags, route: &Route) -> bool
     ensures { result ≡ ((list_any (λ x. slice_index_or flags.now x false) route.now.path
         || list_any (λ x. slice_index_or flags.now x false) route.now.overlap)
@@ -52,8 +50,6 @@ fn any_of_route_flagged(flags: &Flags, route: &Route) -> bool
         || any_point_flagged(flags, route.protecting_points.as_slice())
 }
 
-// Returns whether routes `i` and `j` share a section of path, overlap or protecting points.
-// `locked` has those of route `i`.
 fn share_locked_section(plant: &Plant, locked: &Flags, i: u32, j: u32) -> bool
     requires first { i < length plant.now.routes }
     requires second { j < length plant.now.routes }
@@ -64,14 +60,13 @@ fn share_locked_section(plant: &Plant, locked: &Flags, i: u32, j: u32) -> bool
     any_of_route_flagged(locked, other)
 }
 
-/// Returns whether board `m` is a protecting board of the route.
-pub fn is_protecting_board(route: &Route, m: u32) -> bool
+/// Returns whether board `m` is a protecting board of `route`.
+pub(crate) fn is_protecting_board(route: &Route, m: u32) -> bool
     ensures { result ≡ has_number m route.now.protecting_boards }
 {
     has_number(route.protecting_boards.as_slice(), m)
 }
 
-// Returns whether the source of route `j` is a protecting board of route `i`.
 fn closes_source_of(plant: &Plant, i: u32, j: u32) -> bool
     requires first { i < length plant.now.routes }
     requires second { j < length plant.now.routes }
@@ -80,9 +75,10 @@ fn closes_source_of(plant: &Plant, i: u32, j: u32) -> bool
     is_protecting_board(plant.route(i), plant.route(j).source)
 }
 
-/// Returns whether a rule is violated at the pair of routes `i` and `j`. `listed` has the conflicts
-/// of all routes. `locked` has the sections locked for route `i`; only C6 uses it.
-pub fn breaks_at_pair(
+/// Returns whether `rule` is violated at the pair of routes `i` and `j`. `listed` is the table of
+/// all routes' conflicts. `locked` has a flag for each section locked for route `i`; only C6 uses
+/// it.
+pub(crate) fn breaks_at_pair(
     plant: &Plant,
     listed: &Row<Flags>,
     locked: &Flags,
@@ -92,9 +88,9 @@ pub fn breaks_at_pair(
 ) -> bool
     requires first { i < length plant.now.routes }
     requires second { j < length plant.now.routes }
-    requires listed { listed.now ≡ all_conflict_flags plant.now }
+    requires listed { listed.now ≡ listed_conflict_matrix plant.now }
     requires locked { rule ≡ C6 → locked.now ≡ locked_flags plant.now i }
-    ensures { result ≡ breaks_columns_at_pair plant.now rule i j }
+    ensures { result ≡ breaks_column_rule_at_pair plant.now rule i j }
 {
     match rule {
         Rule::C5 => lists_as_conflict(plant, listed, i, j)
@@ -107,8 +103,9 @@ pub fn breaks_at_pair(
     }
 }
 
-/// Returns the sections locked for route `i`, if the rule needs them.
-pub fn locked_flags_if_needed(
+/// Returns a flag for each section: whether it is locked for route `i`. If `rule` isn't C6, no
+/// flags are needed and none are returned. Fails only if memory runs out.
+pub(crate) fn locked_flags_if_rule_needs(
     alloc: Global,
     plant: &Plant,
     rule: Rule,

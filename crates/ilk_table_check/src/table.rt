@@ -1,10 +1,10 @@
 ghost use Rattle.std.specs.Prelude.{◌≡◌, ◌==◌, ◌&&◌, ◌<◌, ◌++◌, IfOk, OnOk, not};
 ghost use Rattle.std.specs.List.{list_all};
 ghost use Rattle.ilk_plant.specs.Broken.{broken_below, place_kind_of};
-ghost use Rattle.ilk_plant.specs.Network.{has_section};
+ghost use Rattle.ilk_plant.specs.Network.{contains_section};
 ghost use Rattle.ilk_plant.specs.Limits.{WithinLimits};
 ghost use Rattle.ilk_plant.specs.Plant.{is_point_section};
-ghost use Rattle.ilk_plant.specs.TableRules.{breaks_table, count_in_plant, has_conflicts_once, has_destination_or_none, has_points_once, has_protecting_boards_once, has_protecting_points_once, has_sections_once, is_board, is_other_route, is_section, points_of, protecting_points_of, plant_table_rules_broken, sections_of, table_rules_broken};
+ghost use Rattle.ilk_plant.specs.TableRules.{breaks_table_rule_at, place_count_in_plant, conflicts_are_other_routes_once, destination_is_board_or_none, lists_passed_points_once, has_nonsource_protecting_boards_once, has_outside_protecting_points_once, has_sections_once, is_board, is_other_route, is_section, points_of, protecting_points_of, plant_table_rules_broken, path_and_overlap_of, table_rules_broken};
 ghost use Rattle.ilk_base.specs.Numbers.{has_number};
 
 use crate::twice::none_twice;
@@ -63,14 +63,16 @@ fn has_sections_once(plant: &NumberedNetAndTable, route: &Route) -> bool
 }
 
 fn is_point_of(plant: &NumberedNetAndTable, route: &Route, x: u32) -> bool
-    ensures { result ≡ (is_point_section plant.now x && has_section x (sections_of route.now)) }
+    ensures { result ≡ (is_point_section plant.now x && contains_section x
+        (path_and_overlap_of route.now)) }
 {
     plant.is_point_section(x) && is_among_both(x, route.path.as_slice(), route.overlap.as_slice())
 }
 
 fn are_points_of(plant: &NumberedNetAndTable, route: &Route) -> bool
     ensures { result
-        ≡ list_all (λ x. is_point_section plant.now x && has_section x (sections_of route.now))
+        ≡ list_all (λ x. is_point_section plant.now x && contains_section x
+        (path_and_overlap_of route.now))
         (points_of route.now) }
 {
     let points = route.points.as_slice();
@@ -81,14 +83,14 @@ fn are_points_of(plant: &NumberedNetAndTable, route: &Route) -> bool
 }
 
 // Returns whether each listed point is a point section of path or overlap, and is listed once.
-fn has_points_once(plant: &NumberedNetAndTable, route: &Route) -> bool
-    ensures { result ≡ has_points_once plant.now route.now }
+fn lists_passed_points_once(plant: &NumberedNetAndTable, route: &Route) -> bool
+    ensures { result ≡ lists_passed_points_once plant.now route.now }
 {
     are_points_of(plant, route) && none_twice(route.points.as_slice())
 }
 
-fn has_destination_or_none(plant: &NumberedNetAndTable, destination: Option<u32>) -> bool
-    ensures { result ≡ has_destination_or_none plant.now destination }
+fn destination_is_board_or_none(plant: &NumberedNetAndTable, destination: Option<u32>) -> bool
+    ensures { result ≡ destination_is_board_or_none plant.now destination }
 {
     match destination {
         Some(m) => plant.is_board(m),
@@ -107,15 +109,16 @@ fn are_other_routes(plant: &NumberedNetAndTable, i: u32, routes: &Row<u32>) -> b
 
 // Returns whether each conflict of route `i` is another route, and is listed once.
 #[tactic(auto, using(crate::proofs::Once::differ_by_number))]
-fn has_conflicts_once(plant: &NumberedNetAndTable, i: u32, route: &Route) -> bool
-    ensures { result ≡ has_conflicts_once plant.now i route.now }
+fn conflicts_are_other_routes_once(plant: &NumberedNetAndTable, i: u32, route: &Route) -> bool
+    ensures { result ≡ conflicts_are_other_routes_once plant.now i route.now }
 {
     are_other_routes(plant, i, &route.conflicts) && none_twice(route.conflicts.as_slice())
 }
 
 fn is_point_apart(plant: &NumberedNetAndTable, route: &Route, x: u32) -> bool
     ensures { result
-        ≡ (is_point_section plant.now x && not (has_section x (sections_of route.now))) }
+        ≡ (is_point_section plant.now x && not (contains_section x
+        (path_and_overlap_of route.now))) }
 {
     plant.is_point_section(x) && !is_among_both(x, route.path.as_slice(), route.overlap.as_slice())
 }
@@ -123,7 +126,8 @@ fn is_point_apart(plant: &NumberedNetAndTable, route: &Route, x: u32) -> bool
 fn are_points_apart(plant: &NumberedNetAndTable, route: &Route) -> bool
     ensures { result
         ≡ list_all
-        (λ x. is_point_section plant.now x && not (has_section x (sections_of route.now)))
+        (λ x. is_point_section plant.now x && not (contains_section x
+        (path_and_overlap_of route.now)))
         (protecting_points_of route.now) }
 {
     let points = route.protecting_points.as_slice();
@@ -135,8 +139,8 @@ fn are_points_apart(plant: &NumberedNetAndTable, route: &Route) -> bool
 
 // Returns whether each protecting point is a point section in neither path nor overlap, and is
 // listed once.
-fn has_protecting_points_once(plant: &NumberedNetAndTable, route: &Route) -> bool
-    ensures { result ≡ has_protecting_points_once plant.now route.now }
+fn has_outside_protecting_points_once(plant: &NumberedNetAndTable, route: &Route) -> bool
+    ensures { result ≡ has_outside_protecting_points_once plant.now route.now }
 {
     are_points_apart(plant, route) && none_twice(route.protecting_points.as_slice())
 }
@@ -160,25 +164,25 @@ fn are_other_boards(plant: &NumberedNetAndTable, route: &Route) -> bool
 
 // Returns whether each protecting board is a board other than the source, and is listed once.
 #[tactic(auto, using(crate::proofs::Once::differ_by_number))]
-fn has_protecting_boards_once(plant: &NumberedNetAndTable, route: &Route) -> bool
-    ensures { result ≡ has_protecting_boards_once plant.now route.now }
+fn has_nonsource_protecting_boards_once(plant: &NumberedNetAndTable, route: &Route) -> bool
+    ensures { result ≡ has_nonsource_protecting_boards_once plant.now route.now }
 {
     are_other_boards(plant, route) && none_twice(route.protecting_boards.as_slice())
 }
 
-fn breaks_table(plant: &NumberedNetAndTable, rule: Rule, i: u32) -> bool
-    requires { i < count_in_plant plant.now (place_kind_of rule) }
-    ensures { result ≡ breaks_table plant.now rule i }
+fn breaks_table_rule_at(plant: &NumberedNetAndTable, rule: Rule, i: u32) -> bool
+    requires { i < place_count_in_plant plant.now (place_kind_of rule) }
+    ensures { result ≡ breaks_table_rule_at plant.now rule i }
 {
     match rule {
         Rule::R1 => plant.repeats_earlier_name(i),
         Rule::R2 => !plant.is_board(plant.route(i).source),
         Rule::R3 => !has_sections_once(plant, plant.route(i)),
-        Rule::R4 => !has_points_once(plant, plant.route(i)),
-        Rule::R5 => !has_destination_or_none(plant, plant.route(i).destination),
-        Rule::R6 => !has_conflicts_once(plant, i, plant.route(i)),
-        Rule::R7 => !has_protecting_points_once(plant, plant.route(i)),
-        Rule::R8 => !has_protecting_boards_once(plant, plant.route(i)),
+        Rule::R4 => !lists_passed_points_once(plant, plant.route(i)),
+        Rule::R5 => !destination_is_board_or_none(plant, plant.route(i).destination),
+        Rule::R6 => !conflicts_are_other_routes_once(plant, i, plant.route(i)),
+        Rule::R7 => !has_outside_protecting_points_once(plant, plant.route(i)),
+        Rule::R8 => !has_nonsource_protecting_boards_once(plant, plant.route(i)),
         _ => false,
     }
 }
@@ -189,8 +193,8 @@ fn push_rule(
     rule: Rule,
 ) -> Result<(), AllocError>
     ensures { OnOk result (found.new ≡ found.old
-        ++ broken_below rule (count_in_plant plant.now (place_kind_of rule))
-        (breaks_table plant.now rule)) }
+        ++ broken_below rule (place_count_in_plant plant.now (place_kind_of rule))
+        (breaks_table_rule_at plant.now rule)) }
 {
     for i in 0..plant.count(rule.places()) {
         let entry = Broken {
@@ -198,14 +202,14 @@ fn push_rule(
             first: i,
             second: None,
         };
-        push_broken_if(found, breaks_table(plant, rule, i), entry)?;
+        push_broken_if(found, breaks_table_rule_at(plant, rule, i), entry)?;
     }
     Ok(())
 }
 
-/// Returns every violated rule of the table, R1 to R8, ordered by rule and route. A name refers to
-/// the first section, board or route that has it. Network and table must be within the limits.
-/// Fails only if memory runs out.
+/// Returns every violated rule of the table, R1 to R8, with its route, ordered by rule and route. A
+/// name refers to the first section, board or route that has it. Network and table must be within
+/// the limits. Fails only if memory runs out.
 pub fn check_table(
     alloc: Global,
     net: &NetDraft,
@@ -218,7 +222,8 @@ pub fn check_table(
     check_numbered_table(alloc, &plant)
 }
 
-/// Returns the same as `check_table`, for drafts that are numbered already.
+/// Returns every violated rule of the table, as `check_table` does, for drafts that are numbered
+/// already. Fails only if memory runs out.
 pub fn check_numbered_table(
     alloc: Global,
     plant: &NumberedNetAndTable,

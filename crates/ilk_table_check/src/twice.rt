@@ -1,20 +1,19 @@
-//! Duplicates in the lists of a route.
 ghost use Rattle.std.specs.Prelude.{◌≡◌, ℕ, map};
 ghost use Rattle.ilk_base.specs.Numbers.{has_number};
 ghost use Rattle.ilk_plant.specs.Once.{numbers_differ};
 
 use ilk_plant::Listed;
 
-/// An item of a route's list. It names a section, board or route by its number.
-pub trait NamesNumber: Copy {
+/// An item of a route's list, which names a section, board or route by its number.
+pub(crate) trait NumberedListItem: Copy {
     ghost number_of: { Self → ℕ };
 
-    /// Returns the number.
+    /// Returns the number of the named section, board or route.
     fn number(self) -> u32
         ensures { result ≡ number_of self };
 }
 
-impl NamesNumber for u32 {
+impl NumberedListItem for u32 {
     ghost number_of = { λ n. n };
 
     fn number(self) -> u32 {
@@ -22,7 +21,7 @@ impl NamesNumber for u32 {
     }
 }
 
-impl NamesNumber for Listed {
+impl NumberedListItem for Listed {
     ghost number_of = { λ listed. listed.point };
 
     fn number(self) -> u32 {
@@ -30,15 +29,15 @@ impl NamesNumber for Listed {
     }
 }
 
-/// Returns whether one of the items names number `n`.
-pub fn any_names<T: NamesNumber>(items: &[T], n: u32) -> bool
+/// Returns whether one of the items has number `n`.
+pub(crate) fn any_names<T: NumberedListItem>(items: &[T], n: u32) -> bool
     ensures { result ≡ has_number n (map T.number_of items.now) }
 {
     items.iter().map(|item| item.number()).any(|m| m == n)
 }
 
-/// Returns whether the items name no number twice.
-pub fn none_twice<T: NamesNumber>(items: &[T]) -> bool
+/// Returns whether no two items have the same number.
+pub(crate) fn none_twice<T: NumberedListItem>(items: &[T]) -> bool
     ensures { result ≡ numbers_differ (map T.number_of items.now) }
 {
     for (i, item) in items.iter().enumerate() {

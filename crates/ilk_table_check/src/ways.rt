@@ -1,14 +1,14 @@
 ghost use Rattle.std.specs.Prelude.{◌≡◌, ◌==◌, slice_get, take, ◌∷◌, ◌||◌, not};
 ghost use Rattle.std.specs.List.{list_all, list_any};
 ghost use Rattle.std.specs.Option.{option_copied};
-ghost use Rattle.ilk_plant.specs.Network.{has_section, last_of};
+ghost use Rattle.ilk_plant.specs.Network.{contains_section, last_of};
 ghost use Rattle.ilk_base.specs.Option.{is_some_and};
 ghost use Rattle.ilk_plant.specs.TableRules.{points_of};
 ghost use Rattle.ilk_plant.specs.Plant.{is_point_section};
-ghost use Rattle.ilk_plant.specs.ColumnRules.{has_no_board, ends_at_first_board, is_leg, is_listed_towards, overlap_is_connected, path_ends_at_first_board, path_is_connected, route_points_are_listed, points_lead_along, ends_at_destination};
+ghost use Rattle.ilk_plant.specs.ColumnRules.{has_no_board, destination_is_first_board, is_leg_at_position, is_listed_towards_any, overlap_is_connected, path_destination_is_first_board, path_continues_from_source, path_and_overlap_points_listed, points_listed_along_sections, ends_at_destination_or_border};
 
 use crate::twice::any_names;
-use ilk_plant::{Board, Dir, Listed, Plant, Position, Route, Row, Section, is_leg};
+use ilk_plant::{Board, Dir, Listed, Plant, Position, Route, Row, Section, is_leg_at_position};
 
 fn section_at(plant: &Plant, x: u32) -> Option<&Section>
     ensures { option_copied result ≡ slice_get plant.now.sections x }
@@ -30,9 +30,10 @@ fn source_of(plant: &Plant, route: &Route) -> Option<Board>
     }
 }
 
-/// Returns whether the path starts next to the source's section and is connected.
-pub fn path_is_connected(plant: &Plant, route: &Route) -> bool
-    ensures { result ≡ path_is_connected plant.now route.now }
+/// Returns whether each path section is next to the one before, in the route's direction. The first
+/// must be next to the source's section.
+pub(crate) fn path_continues_from_source(plant: &Plant, route: &Route) -> bool
+    ensures { result ≡ path_continues_from_source plant.now route.now }
 {
     match source_of(plant, route) {
         Some(source) => plant.is_connected_chain(source.dir, source.section, route.path.as_slice()),
@@ -49,9 +50,8 @@ fn has_no_board(plant: &Plant, d: Dir, x: u32) -> bool
     }
 }
 
-// Returns whether a path in direction `d` that ends at section `x` has this destination.
 fn ends_path(plant: &Plant, d: Dir, destination: Option<u32>, x: u32) -> bool
-    ensures { result ≡ ends_at_destination plant.now d destination x }
+    ensures { result ≡ ends_at_destination_or_border plant.now d destination x }
 {
     match (destination, section_at(plant, x)) {
         (Some(m), Some(section)) => section.board_on(d) == Some(m),
@@ -67,10 +67,13 @@ fn have_no_board(plant: &Plant, d: Dir, sections: &[u32]) -> bool
     sections.iter().all(|x| has_no_board(plant, d, *x))
 }
 
-// Returns whether a path in direction `d` has no board before its last section, and ends at the
-// destination.
-fn ends_at_first_board(plant: &Plant, d: Dir, destination: Option<u32>, path: &Row<u32>) -> bool
-    ensures { result ≡ ends_at_first_board plant.now d destination path.now }
+fn destination_is_first_board(
+    plant: &Plant,
+    d: Dir,
+    destination: Option<u32>,
+    path: &Row<u32>,
+) -> bool
+    ensures { result ≡ destination_is_first_board plant.now d destination path.now }
 {
     match path.as_slice() {
         [before @ .., last] => {
@@ -80,13 +83,19 @@ fn ends_at_first_board(plant: &Plant, d: Dir, destination: Option<u32>, path: &R
     }
 }
 
-/// Returns whether only the last path section may have a board in the route's direction, and the
-/// path ends at the destination.
-pub fn path_ends_at_first_board(plant: &Plant, route: &Route) -> bool
-    ensures { result ≡ path_ends_at_first_board plant.now route.now }
+/// Returns whether no path section before the last has a board in the route's direction, and the
+/// last has the destination. Without a destination, the last section must have no neighbour in that
+/// direction.
+pub(crate) fn path_destination_is_first_board(plant: &Plant, route: &Route) -> bool
+    ensures { result ≡ path_destination_is_first_board plant.now route.now }
 {
     match source_of(plant, route) {
-        Some(source) => ends_at_first_board(plant, source.dir, route.destination, &route.path),
+        Some(source) => destination_is_first_board(
+            plant,
+            source.dir,
+            route.destination,
+            &route.path,
+        ),
         None => false,
     }
 }
@@ -100,24 +109,26 @@ fn is_point_section(plant: &Plant, x: u32) -> bool
     }
 }
 
-// Returns whether the leg of section `x` at position `at` is the section before it or the first
-// after it.
 fn leads_along(plant: &Plant, x: u32, at: Position, before: u32, rest: &[u32]) -> bool
     ensures { result
-        ≡ list_any (λ y. is_some_and (slice_get plant.now.sections x) (is_leg at y))
+        ≡ list_any (λ y. is_some_and (slice_get plant.now.sections x) (is_leg_at_position at y))
         (before ∷ take 1 rest.now) }
 {
-    is_leg(plant, x, at, before)
+    is_leg_at_position(plant, x, at, before)
         || match rest {
-            [after, ..] => is_leg(plant, x, at, *after),
+            [after, ..] => is_leg_at_position(plant, x, at, *after),
             [] => false,
         }
 }
 
-// Returns whether section `x` is listed at a position whose leg is the section before it or the
-// first after it.
-fn is_listed_towards(plant: &Plant, points: &Row<Listed>, before: u32, rest: &[u32], x: u32) -> bool
-    ensures { result ≡ is_listed_towards plant.now points.now (before ∷ take 1 rest.now) x }
+fn is_listed_towards_any(
+    plant: &Plant,
+    points: &Row<Listed>,
+    before: u32,
+    rest: &[u32],
+    x: u32,
+) -> bool
+    ensures { result ≡ is_listed_towards_any plant.now points.now (before ∷ take 1 rest.now) x }
 {
     points.as_slice().iter().any(|listed| listed.point == x
         && leads_along(plant, x, listed.at, before, rest))
@@ -127,13 +138,18 @@ fn leads_through(plant: &Plant, points: &Row<Listed>, before: u32, rest: &[u32],
     ensures { result
         ≡
         (not (is_point_section plant.now x)
-        || is_listed_towards plant.now points.now (before ∷ take 1 rest.now) x) }
+        || is_listed_towards_any plant.now points.now (before ∷ take 1 rest.now) x) }
 {
-    !is_point_section(plant, x) || is_listed_towards(plant, points, before, rest, x)
+    !is_point_section(plant, x) || is_listed_towards_any(plant, points, before, rest, x)
 }
 
-fn points_lead_along(plant: &Plant, points: &Row<Listed>, start: u32, path: &Row<u32>) -> bool
-    ensures { result ≡ points_lead_along plant.now points.now start path.now }
+fn points_listed_along_sections(
+    plant: &Plant,
+    points: &Row<Listed>,
+    start: u32,
+    path: &Row<u32>,
+) -> bool
+    ensures { result ≡ points_listed_along_sections plant.now points.now start path.now }
 {
     let path = path.as_slice();
     let mut before = start;
@@ -147,7 +163,8 @@ fn points_lead_along(plant: &Plant, points: &Row<Listed>, start: u32, path: &Row
 }
 
 fn is_listed_if_point(plant: &Plant, route: &Route, x: u32) -> bool
-    ensures { result ≡ (not (is_point_section plant.now x) || has_section x (points_of route.now)) }
+    ensures { result ≡ (not (is_point_section plant.now x) || contains_section x
+        (points_of route.now)) }
 {
     !is_point_section(plant, x) || any_names(route.points.as_slice(), x)
 }
@@ -155,21 +172,21 @@ fn is_listed_if_point(plant: &Plant, route: &Route, x: u32) -> bool
 fn overlap_points_are_listed(plant: &Plant, route: &Route) -> bool
     ensures { result
         ≡ list_all
-        (λ x. not (is_point_section plant.now x) || has_section x (points_of route.now))
+        (λ x. not (is_point_section plant.now x) || contains_section x (points_of route.now))
         route.now.overlap }
 {
     let overlap = route.overlap.as_slice();
     overlap.iter().all(|x| is_listed_if_point(plant, route, *x))
 }
 
-/// Returns whether each point of the path is listed towards the section before it or the one after
-/// it, and each point of the overlap is listed.
-pub fn route_points_are_listed(plant: &Plant, route: &Route) -> bool
-    ensures { result ≡ route_points_are_listed plant.now route.now }
+/// Returns whether the route lists each point of its path, in the position that leads to the
+/// section before or after it, and each point of its overlap.
+pub(crate) fn path_and_overlap_points_listed(plant: &Plant, route: &Route) -> bool
+    ensures { result ≡ path_and_overlap_points_listed plant.now route.now }
 {
     match source_of(plant, route) {
         Some(source) => {
-            points_lead_along(plant, &route.points, source.section, &route.path)
+            points_listed_along_sections(plant, &route.points, source.section, &route.path)
                 && overlap_points_are_listed(plant, route)
         }
         None => false,
@@ -186,8 +203,9 @@ fn last_of(sections: &[u32]) -> Option<u32>
     }
 }
 
-/// Returns whether the overlap starts next to the path's last section and is connected.
-pub fn overlap_is_connected(plant: &Plant, route: &Route) -> bool
+/// Returns whether each overlap section is next to the one before, in the route's direction. The
+/// first must be next to the path's last section.
+pub(crate) fn overlap_is_connected(plant: &Plant, route: &Route) -> bool
     ensures { result ≡ overlap_is_connected plant.now route.now }
 {
     match (source_of(plant, route), last_of(route.path.as_slice())) {

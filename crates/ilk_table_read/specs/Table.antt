@@ -9,36 +9,37 @@ use Rattle.ilk_plant.specs.declared.draft.TableDraft.{TableDraft}
 use Rattle.ilk_net_read.specs.declared.fault.Form.TheVariants.{F3, F5, F6}
 use Rattle.ilk_net_read.specs.declared.fault.FormFault.{FormFault}
 use Rattle.ilk_net_read.specs.declared.fault.Place.TheVariants.{Route}
-use Rattle.ilk_net_read.specs.Fault.{fault_for_rule, value_if_passes, or_fault}
+use Rattle.ilk_net_read.specs.Fault.{rule_fault_at_place, value_if_passes, or_fault}
 use Rattle.ilk_net_read.specs.Member.{array_entries}
-use Rattle.ilk_net_read.specs.Network.{read_document, value_of, network_from_data}
+use Rattle.ilk_net_read.specs.Network.{document_from_value, value_of, network_from_value}
 use Rattle.ilk_net_read.specs.declared.version.Version.{Version}
 use Rattle.ilk_net_read.specs.Document.{VersionedDocument}
 use Rattle.ilk_table_read.specs.Route.{as_route}
 
--- Route `i`. F3 if the value isn't one of this version, then F5 for its names, then F6 for its
--- lists.
+-- Returns route `i` from its value, or the first violated rule: F3 if the value isn't a route of
+-- this version, F5 for a name, F6 for the length of a list.
 abbrev pub route_draft_from_value : Version → ℕ → Data → Result RouteDraft FormFault
 route_draft_from_value version i d = do
-  found ← or_fault (fault_for_rule F3 (Route i)) (as_route version d)
-  route ← value_if_passes route_names_valid (fault_for_rule F5 (Route i)) found
-  value_if_passes route_within_limits (fault_for_rule F6 (Route i)) route
+  found ← or_fault (rule_fault_at_place F3 (Route i)) (as_route version d)
+  route ← value_if_passes route_names_valid (rule_fault_at_place F5 (Route i)) found
+  value_if_passes route_within_limits (rule_fault_at_place F6 (Route i)) route
 
--- The table of a document: the routes of its version in order.
+-- Returns the interlocking table of a document, or the first violated rule of its routes in order.
 abbrev pub table_draft_from_document : VersionedDocument → Result TableDraft FormFault
 table_draft_from_document document = do
   routes ← try_map_numbered (route_draft_from_value document.version) 0 (array_entries document.routes)
   Ok (record { routes = routes })
 
--- The table: the document, then its routes.
+-- Returns the interlocking table of a configuration, or the first violated rule of its document and
+-- then its routes.
 abbrev pub table_draft_from_value : Data → Result TableDraft FormFault
-table_draft_from_value d = read_document d >>= table_draft_from_document
+table_draft_from_value d = document_from_value d >>= table_draft_from_document
 
--- The two drafts of a configuration, or the first violated rule: of its text, the document, the
--- sections in order, then the routes in order.
+-- Returns the network and the table of a configuration, or the first violated rule: of its text,
+-- its document, its sections in order, then its routes in order.
 abbrev pub net_and_table_drafts : List ℕ → Result (NetDraft × TableDraft) FormFault
 net_and_table_drafts bytes = do
   d ← value_of bytes
-  net ← network_from_data d
+  net ← network_from_value d
   table ← table_draft_from_value d
   Ok (net, table)

@@ -10,5 +10,5 @@ mod route;
 mod table;
 
 pub use drafts::read_net_and_table_drafts;
-pub use examples::{bad_texts_are_refused, bare_line_is_read, boarded_line_is_read};
+pub use examples::{bad_texts_are_refused, boarded_line_is_read, boardless_line_is_read};
 pub use table::read_table;

@@ -6,21 +6,23 @@ ghost use Rattle.ilk_net_read.specs.Fault.{IsReadIfKindMatches};
 ghost use Rattle.ilk_net_read.specs.Member.{all_entries_as};
 ghost use Rattle.ilk_table_read.specs.Route as route;
 
-use ilk_net_read::{ValueReadError, array_member, has_member_count, string_member, text_member};
+use ilk_net_read::{
+    ValueReadError, has_member_count, member_as_array, member_as_str, member_as_text,
+};
 use ilk_plant::{ListedDraft, Position, Row};
 use serde_json::Value;
 use std::alloc::Global;
 
 fn position(value: &Value) -> Option<Position>
-    ensures { result ≡ route.position_of (view value.now) }
+    ensures { result ≡ route.required_position_member (view value.now) }
 {
-    Position::from_word(string_member(value, "position")?.as_bytes())
+    Position::from_word(member_as_str(value, "position")?.as_bytes())
 }
 
 fn listed(alloc: Global, value: &Value) -> Result<ListedDraft, ValueReadError>
     ensures { IsReadIfKindMatches result (route.as_listed_point (view value.now)) }
 {
-    let point = text_member(alloc, value, "point")?;
+    let point = member_as_text(alloc, value, "point")?;
     let Some(at) = position(value) else {
         return Err(ValueReadError::WrongKind);
     };
@@ -50,7 +52,7 @@ pub(crate) fn points_at(
 ) -> Result<Row<ListedDraft>, ValueReadError>
     ensures { IsReadIfKindMatches result (route.member_as_listed_points name.now (view value.now)) }
 {
-    match array_member(value, name) {
+    match member_as_array(value, name) {
         Some(values) => all_listed(alloc, values),
         None => Err(ValueReadError::WrongKind),
     }

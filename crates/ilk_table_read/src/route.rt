@@ -1,5 +1,3 @@
-//! The routes.
-
 ghost use Rattle.std.specs.Prelude.{◌≡◌, ◌&&◌, codes, true, IfOk};
 ghost use Rattle.std.specs.List.{list_all};
 ghost use Rattle.serde_json.specs.View.{view};
@@ -12,8 +10,9 @@ ghost use Rattle.ilk_table_read.specs.Table as table;
 
 use crate::listed::points_at;
 use ilk_net_read::{
-    Form, FormError, Place, ValueReadError, Version, error_for_rule, has_member_count, is_between,
-    is_name, is_name_if_given, text_member, text_or_null_member, texts_member,
+    Form, FormError, Place, ValueReadError, Version, has_member_count, is_between, is_name,
+    is_name_if_given, member_as_optional_text, member_as_text, member_as_texts,
+    rule_error_at_place,
 };
 use ilk_plant::{
     ListedDraft, MAX_OVERLAP, MAX_PATH, MAX_PROTECTING_BOARDS, MAX_PROTECTING_POINTS,
@@ -59,25 +58,25 @@ fn protecting_boards(
     value: &Value,
 ) -> Result<Row<Text>, ValueReadError>
     ensures { IsReadIfKindMatches result
-        (spec.list_or_empty_in_version_1 version (member.texts_member (codes "protecting_boards")
+        (spec.list_or_empty_in_version_1 version (member.member_as_texts (codes "protecting_boards")
         (view value.now))) }
 {
     match version {
         Version::First => Ok(Row::new(alloc)),
-        Version::Second => texts_member(alloc, value, "protecting_boards"),
+        Version::Second => member_as_texts(alloc, value, "protecting_boards"),
     }
 }
 
 fn route(alloc: Global, version: Version, value: &Value) -> Result<RouteDraft, ValueReadError>
     ensures { IsReadIfKindMatches result (spec.as_route version (view value.now)) }
 {
-    let name = text_member(alloc, value, "name")?;
-    let source = text_member(alloc, value, "source")?;
-    let destination = text_or_null_member(alloc, value, "destination")?;
-    let path = texts_member(alloc, value, "path")?;
-    let overlap = texts_member(alloc, value, "overlap")?;
+    let name = member_as_text(alloc, value, "name")?;
+    let source = member_as_text(alloc, value, "source")?;
+    let destination = member_as_optional_text(alloc, value, "destination")?;
+    let path = member_as_texts(alloc, value, "path")?;
+    let overlap = member_as_texts(alloc, value, "overlap")?;
     let points = points_at(alloc, value, "points")?;
-    let conflicts = texts_member(alloc, value, "conflicts")?;
+    let conflicts = member_as_texts(alloc, value, "conflicts")?;
     let protecting_points = protecting_points(alloc, version, value)?;
     let protecting_boards = protecting_boards(alloc, version, value)?;
     if !has_member_count(value, route_member_count(version)) {
@@ -133,7 +132,7 @@ fn has_limits(route: &RouteDraft) -> bool
         && route.protecting_boards.len() <= MAX_PROTECTING_BOARDS
 }
 
-/// Returns route `number`, from its value in a document of this version.
+/// Returns route `number` from its value in a document of this version, or its first violated rule.
 pub(crate) fn route_draft_from_value(
     alloc: Global,
     version: Version,
@@ -148,13 +147,13 @@ pub(crate) fn route_draft_from_value(
     let place = Place::Route(number);
     let draft = match route(alloc, version, value) {
         Ok(draft) => draft,
-        Err(error) => return Err(error.into_form_error(place)),
+        Err(error) => return Err(error.into_form_error_at(place)),
     };
     if !has_names(&draft) {
-        return Err(error_for_rule(Form::F5, place));
+        return Err(rule_error_at_place(Form::F5, place));
     }
     if !has_limits(&draft) {
-        return Err(error_for_rule(Form::F6, place));
+        return Err(rule_error_at_place(Form::F6, place));
     }
     Ok(draft)
 }

@@ -1,5 +1,3 @@
-//! The interlocking table.
-
 ghost use Rattle.std.specs.Prelude.{◌≡◌, ◌≤◌, length, true, IfOk};
 ghost use Rattle.std.specs.List.{list_all};
 ghost use Rattle.serde_json.specs.View.{view, items_view};
@@ -11,7 +9,7 @@ ghost use Rattle.ilk_net_read.specs.Seen.{HasAllowedCounts, document_view};
 ghost use Rattle.ilk_table_read.specs.Table.{route_draft_from_value, table_draft_from_document, table_draft_from_value};
 
 use crate::route::route_draft_from_value;
-use ilk_net_read::{Document, FormError, Version, read_document};
+use ilk_net_read::{Document, FormError, Version, document_from_value};
 use ilk_plant::{MAX_ROUTES, RouteDraft, Row, TableDraft};
 use serde_json::Value;
 use std::alloc::Global;
@@ -46,13 +44,13 @@ pub(crate) fn table_in(alloc: Global, document: &Document<'_>) -> Result<TableDr
     Ok(TableDraft { routes })
 }
 
-/// Returns the interlocking table of a configuration, or the first violated rule. It checks the
-/// document (F3, F4, F6), then its routes in order (F3, then F5, then F6, of each).
+/// Returns the interlocking table of the configuration `value`, or the first violated rule. It
+/// checks the document (F3, F4, F6), then each route in order (F3, F5, F6).
 pub fn read_table(alloc: Global, value: &Value) -> Result<TableDraft, FormError>
     ensures exact { MatchesUnlessOutOfMemory result (table_draft_from_value (view value.now)) }
     // No more routes than allowed, each with lists within their limits, and all texts are names.
     ensures limits { IfOk result TableWithinLimits }
 {
-    let document = read_document(value)?;
+    let document = document_from_value(value)?;
     table_in(alloc, &document)
 }

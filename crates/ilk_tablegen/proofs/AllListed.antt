@@ -10,9 +10,9 @@ use Rattle.ilk_base.proofs.FlatMaps.{Contains-flat_map_of}
 use Rattle.ilk_base.proofs.Lists.{map-at}
 use Rattle.ilk_base.proofs.Tested.{list_any-at, list_any-from}
 use Rattle.ilk_base.specs.Option.{is_some_and}
-use Rattle.ilk_plant.proofs.Rows.{has_section-at}
+use Rattle.ilk_plant.proofs.Rows.{contains_section-at}
 use Rattle.ilk_plant.specs.ColumnRules.{all_but_last}
-use Rattle.ilk_plant.specs.Network.{neighbours_on, has_section, last_of, same_direction}
+use Rattle.ilk_plant.specs.Network.{neighbours_on, contains_section, last_of, same_direction}
 use Rattle.ilk_plant.specs.Plant.{PlantLists, next_to}
 use Rattle.ilk_plant.specs.Shape.{is_connected_chain}
 use Rattle.ilk_plant.specs.declared.network.Dir.{Dir}
@@ -21,14 +21,13 @@ use Rattle.ilk_plant.specs.declared.network.Section.{Section}
 use Rattle.ilk_plant.specs.declared.network.Section.TheVariants.{Linear, Point}
 use Rattle.ilk_tablegen.proofs.IsWay.{IsWay, is_way, ways-are}
 use Rattle.ilk_tablegen.proofs.WayFacts.{before-cons, goes-on, last-cons, way-ends, way-leads}
-use Rattle.ilk_tablegen.specs.EachWay.{IsUnendedPathFrom, IsWayFrom, DivergesPlusFirst}
+use Rattle.ilk_tablegen.specs.EachWay.{IsUnendedPathFrom, IsWayFromSection, DivergesPlusFirst}
 use Rattle.ilk_tablegen.specs.Ways.{way_ends_at_section, has_unended_path_from, ways}
 
 module _ (p : PlantLists) (d : Dir) where
   abbrev over : ℕ → ℕ → List (List ℕ)
   over n y = if way_ends_at_section p d y then (y ∷ []) ∷ [] else map (λ way. y ∷ way) (ways p d n y)
 
-  -- Listed paths are ways.
   between : (x : ℕ) (path : List ℕ) → is_way p d x path ≡ true → list_all (λ y. not (way_ends_at_section p d y)) (all_but_last path) ≡ true
   between x [] h = absurd (cc)
   between x (y ∷ []) h = refl
@@ -36,7 +35,7 @@ module _ (p : PlantLists) (d : Dir) where
       let on = goes-on p d x y z rest h in
       ap (list_all (λ v. not (way_ends_at_section p d v))) (before-cons y z rest) ∙ both_true (ap not on.0) (between y (z ∷ rest) on.1)
 
-  from-listed : (n x : ℕ) (path : List ℕ) → Contains (ways p d n x) path → (length path ≤ n) × IsWayFrom p d x path
+  from-listed : (n x : ℕ) (path : List ℕ) → Contains (ways p d n x) path → (length path ≤ n) × IsWayFromSection p d x path
   from-listed n x path listed =
       let way : IsWay p d n x path = All-contains (IsWay p d n x) (ways p d n x) path (ways-are p d n x) listed in
       let leads = way.leads in
@@ -49,12 +48,11 @@ module _ (p : PlantLists) (d : Dir) where
         },
       )
 
-  -- Ways are listed.
   one-by-one : (x : ℕ) (path : List ℕ) → is_connected_chain p d x path ≡ true → list_all (λ y. not (way_ends_at_section p d y)) (all_but_last path) ≡ true → is_some_and (last_of path) (way_ends_at_section p d) ≡ true → is_way p d x path ≡ true
   one-by-one x [] leads free ends = absurd (cc)
-  one-by-one x (y ∷ []) leads free ends = both_true (and_parts (has_section y (next_to p x d)) true leads).0 ends
+  one-by-one x (y ∷ []) leads free ends = both_true (and_parts (contains_section y (next_to p x d)) true leads).0 ends
   one-by-one x (y ∷ z ∷ rest) leads free ends =
-      let on = and_parts (has_section y (next_to p x d)) (is_connected_chain p d y (z ∷ rest)) leads in
+      let on = and_parts (contains_section y (next_to p x d)) (is_connected_chain p d y (z ∷ rest)) leads in
       let open_ = and_parts (not (way_ends_at_section p d y)) (list_all (λ v. not (way_ends_at_section p d v)) (all_but_last (z ∷ rest))) (sym (ap (list_all (λ v. not (way_ends_at_section p d v))) (before-cons y z rest)) ∙ free) in
       both_true on.0 (both_true open_.0 (one-by-one y (z ∷ rest) on.1 open_.1 (sym (ap (λ o. is_some_and o (way_ends_at_section p d)) (last-cons y z rest)) ∙ ends)))
 
@@ -62,7 +60,7 @@ module _ (p : PlantLists) (d : Dir) where
   Contains-map y found rest (k, within, is) =
       (k, omega (arith, within, length-map found (λ way. y ∷ way)), get_or-map (λ way. y ∷ way) found k rest (y ∷ rest) within ∙ ap (λ way. y ∷ way) is)
 
-  next-place : (x y : ℕ) → has_section y (next_to p x d) ≡ true → (k : ℕ) × (slice_get (next_to p x d) k ≡ Some y)
+  next-place : (x y : ℕ) → contains_section y (next_to p x d) ≡ true → (k : ℕ) × (slice_get (next_to p x d) k ≡ Some y)
   next-place x y h =
       let found : (k : ℕ) × (z : ℕ) × (slice_get (next_to p x d) k ≡ Some z) × ((z == y) ≡ true) = list_any-at (λ z. z == y) (next_to p x d) h in
       (found.0, found.2 ∙ ap Some (eqb-true found.1 y found.3))
@@ -71,21 +69,20 @@ module _ (p : PlantLists) (d : Dir) where
   to-listed n x [] way short = absurd (cc)
   to-listed zero x (y ∷ rest) way short = absurd (omega (arith, short))
   to-listed (suc n) x (y ∷ []) way short =
-      let parts = and_parts (has_section y (next_to p x d)) (way_ends_at_section p d y) way in
+      let parts = and_parts (contains_section y (next_to p x d)) (way_ends_at_section p d y) way in
       let place = next-place x y parts.0 in
       let here : Contains ((y ∷ []) ∷ []) (y ∷ []) = (0, omega arith, refl) in
       Contains-flat_map_of (over n) (next_to p x d) place.0 y (y ∷ []) place.1 (subst (λ b. Contains (if b then (y ∷ []) ∷ [] else map (λ way. y ∷ way) (ways p d n y)) (y ∷ [])) (sym parts.1) here)
   to-listed (suc n) x (y ∷ z ∷ rest) way short =
-      let next = and_parts (has_section y (next_to p x d)) (not (way_ends_at_section p d y) && is_way p d y (z ∷ rest)) way in
+      let next = and_parts (contains_section y (next_to p x d)) (not (way_ends_at_section p d y) && is_way p d y (z ∷ rest)) way in
       let on = goes-on p d x y z rest way in
       let place = next-place x y next.0 in
       let here : Contains (map (λ v. y ∷ v) (ways p d n y)) (y ∷ z ∷ rest) = Contains-map y (ways p d n y) (z ∷ rest) (to-listed n y (z ∷ rest) on.1 (omega (arith, short))) in
       Contains-flat_map_of (over n) (next_to p x d) place.0 y (y ∷ z ∷ rest) place.1 (subst (λ b. Contains (if b then (y ∷ []) ∷ [] else map (λ v. y ∷ v) (ways p d n y)) (y ∷ z ∷ rest)) (sym on.0) here)
 
-  pub exactly-ways : (n x : ℕ) (path : List ℕ) → Contains (ways p d n x) path ↔ ((length path ≤ n) × IsWayFrom p d x path)
+  pub exactly-ways : (n x : ℕ) (path : List ℕ) → Contains (ways p d n x) path ↔ ((length path ≤ n) × IsWayFromSection p d x path)
   exactly-ways n x path = (from-listed n x path, λ h. let way = h.1 in to-listed n x path (one-by-one x path way.leads way.between way.ends) h.0)
 
-  -- Sections that go on.
   over-some : (n x : ℕ) → has_unended_path_from p d n x ≡ true → (path : List ℕ) × (length path ≡ n) × IsUnendedPathFrom p d x path
   over-some zero x h = ([], refl, record { leads = refl; between = refl })
   over-some (suc n) x h =
@@ -95,13 +92,13 @@ module _ (p : PlantLists) (d : Dir) where
       let rest : (path : List ℕ) × (length path ≡ n) × IsUnendedPathFrom p d found.1 path = over-some n found.1 parts.1 in
       let on = rest.2 in
       let count = rest.1 in
-      (found.1 ∷ rest.0, omega (arith, count), record { leads = both_true (has_section-at (next_to p x d) found.0 found.1 found.2) on.leads; between = both_true parts.0 on.between })
+      (found.1 ∷ rest.0, omega (arith, count), record { leads = both_true (contains_section-at (next_to p x d) found.0 found.1 found.2) on.leads; between = both_true parts.0 on.between })
 
   some-over : (n x : ℕ) (path : List ℕ) → length path ≡ n → is_connected_chain p d x path ≡ true → list_all (λ y. not (way_ends_at_section p d y)) path ≡ true → has_unended_path_from p d n x ≡ true
   some-over zero x path count leads free = refl
   some-over (suc n) x [] count leads free = absurd (omega (arith, count))
   some-over (suc n) x (y ∷ path) count leads free =
-      let on = and_parts (has_section y (next_to p x d)) (is_connected_chain p d y path) leads in
+      let on = and_parts (contains_section y (next_to p x d)) (is_connected_chain p d y path) leads in
       let open_ = and_parts (not (way_ends_at_section p d y)) (list_all (λ v. not (way_ends_at_section p d v)) path) free in
       let place = next-place x y on.0 in
       list_any-from (λ v. not (way_ends_at_section p d v) && has_unended_path_from p d n v) (next_to p x d) place.0 y place.1 (both_true open_.0 (some-over n y path (omega (arith, count)) on.1 open_.1))
@@ -109,7 +106,6 @@ module _ (p : PlantLists) (d : Dir) where
   pub exactly-has_unended_path_from : (n x : ℕ) → IsTrue (has_unended_path_from p d n x) ↔ ((path : List ℕ) × (length path ≡ n) × IsUnendedPathFrom p d x path)
   exactly-has_unended_path_from n x = (over-some n x, λ h. let on = h.2 in some-over n x h.0 h.1 on.leads on.between)
 
-  -- Order.
   split-at : {X : Type 0} (xs ys : List X) (i : ℕ) (v : X) → slice_get (xs ++ ys) i ≡ Some v → ((i < length xs) × (slice_get xs i ≡ Some v)) ⊎ ((k : ℕ) × (i ≡ length xs + k) × (slice_get ys k ≡ Some v))
   split-at [] ys i v at = let place : i ≡ 0 + i = omega arith in inr (i, place, at)
   split-at (x ∷ xs) ys zero v at = inl (omega arith, at)

@@ -12,7 +12,7 @@ use Rattle.ilk_base.proofs.Truth.{same_truth}
 use Rattle.ilk_base.specs.Option.{is_some_and}
 use Rattle.ilk_plant.specs.Broken.{broken_below, broken_at_pairs}
 use Rattle.ilk_plant.specs.ColumnRules.{locks_one_of, closes_source_of, lists_as_conflict, lists_conflict_one_way, protects_without_conflict, share_locked_section as both_lock, shares_without_conflict}
-use Rattle.ilk_plant.specs.Network.{has_section}
+use Rattle.ilk_plant.specs.Network.{contains_section}
 use Rattle.ilk_plant.specs.Plant.{PlantLists}
 use Rattle.ilk_plant.specs.TableRules.{route_fails, sections_locked_for}
 use Rattle.ilk_plant.specs.declared.broken.Rule.{Rule}
@@ -20,24 +20,24 @@ use Rattle.ilk_plant.specs.declared.table.Route.{Route}
 use Rattle.ilk_tablegen.proofs.ConflictFacts.{among-passing, conflicts_with, in-passing, shared-either}
 use Rattle.ilk_tablegen.proofs.IsWay.{IsWayOf, all-are}
 use Rattle.ilk_tablegen.proofs.WayRules.{with_routes}
-use Rattle.ilk_tablegen.specs.Flags.{paths_of}
+use Rattle.ilk_tablegen.specs.Flags.{paths_of_ways}
 use Rattle.ilk_tablegen.specs.Routes.{network_routes, route_of_way, paths_share_section}
 use Rattle.ilk_tablegen.specs.Ways.{all_ways}
-use Rattle.ilk_tablegen.specs.declared.ways.Way.{Way}
+use Rattle.ilk_tablegen.specs.declared.ways.WayFromBoard.{WayFromBoard}
 
 abbrev pub all_paths : PlantLists → List (List ℕ)
-all_paths p = paths_of (all_ways p)
+all_paths p = paths_of_ways (all_ways p)
 
 -- The way with number i, and its route.
 pub record At (p : PlantLists) (i : ℕ) : Type 0 where
-  pub way : Way
+  pub way : WayFromBoard
   pub stands : slice_get (all_ways p) i ≡ Some way
   pub of : IsWayOf p way
   pub here : slice_get (network_routes p) i ≡ Some (route_of_way p (all_paths p) i way)
 
 pub route-at : (p : PlantLists) (i : ℕ) (route : Route) → slice_get (network_routes p) i ≡ Some route → (at : At p i) × (route_of_way p (all_paths p) i at.way ≡ route)
 route-at p i route e =
-    let made : (way : Way) × (slice_get (all_ways p) i ≡ Some way) × (route_of_way p (all_paths p) (0 + i) way ≡ route) = made-at (route_of_way p (all_paths p)) 0 (all_ways p) i route e in
+    let made : (way : WayFromBoard) × (slice_get (all_ways p) i ≡ Some way) × (route_of_way p (all_paths p) (0 + i) way ≡ route) = made-at (route_of_way p (all_paths p)) 0 (all_ways p) i route e in
     let place : i ≡ 0 + i = omega arith in
     let same : route_of_way p (all_paths p) i made.0 ≡ route = ap (λ k. route_of_way p (all_paths p) k made.0) place ∙ made.2 in
     (record { way = made.0; stands = made.1; of = all-at (IsWayOf p) (all_ways p) i made.0 (all-are p) made.1; here = e ∙ ap Some (sym same) }, same)
@@ -47,7 +47,7 @@ at-route p i less = let item : (route : Route) × (slice_get (network_routes p) 
 
 pub count-paths : (p : PlantLists) → length (network_routes p) ≡ length (all_paths p)
 count-paths p =
-    length-map (enumerate_from 0 (all_ways p)) (λ numbered. route_of_way p (all_paths p) numbered.0 numbered.1) ∙ length-enumerate_from 0 (all_ways p) ∙ sym (length-map (all_ways p) (λ (way : Way). way.path))
+    length-map (enumerate_from 0 (all_ways p)) (λ numbered. route_of_way p (all_paths p) numbered.0 numbered.1) ∙ length-enumerate_from 0 (all_ways p) ∙ sym (length-map (all_ways p) (λ (way : WayFromBoard). way.path))
 
 filter-nothing : (test : ℕ → Bool) (xs : List ℕ) → ((i x : ℕ) → slice_get xs i ≡ Some x → test x ≡ false) → filter test xs ≡ []
 filter-nothing test [] none = refl
@@ -82,8 +82,8 @@ module _ (p : PlantLists) (names : List (List ℕ)) where
 
   lists_as_conflict-is : (i j : ℕ) (at : At p i) (other : At p j) → j < length (network_routes p) → lists_as_conflict q i j ≡ (not (j == i) && paths_share_section at.way.path other.way.path)
   lists_as_conflict-is i j at other less =
-      ap (λ o. is_some_and o (λ route. has_section j route.conflicts)) at.here
-      ∙ same_truth (has_section j (filter (conflicts_with (all_paths p) i at.way.path) (range_with_len 0 (length (all_paths p))))) (conflicts_with (all_paths p) i at.way.path j)
+      ap (λ o. is_some_and o (λ route. contains_section j route.conflicts)) at.here
+      ∙ same_truth (contains_section j (filter (conflicts_with (all_paths p) i at.way.path) (range_with_len 0 (length (all_paths p))))) (conflicts_with (all_paths p) i at.way.path j)
       (λ h. (in-passing (conflicts_with (all_paths p) i at.way.path) (length (all_paths p)) j h).1)
       (λ h. among-passing (conflicts_with (all_paths p) i at.way.path) (length (all_paths p)) j (omega (arith, less, count-paths p)) h)
       ∙ ap (λ path. not (j == i) && paths_share_section at.way.path path) (path-at j other)
@@ -91,9 +91,9 @@ module _ (p : PlantLists) (names : List (List ℕ)) where
       path-at : (k : ℕ) (it : At p k) → get_or (all_paths p) k [] ≡ it.way.path
       path-at k it = get_or_from_slice_get (all_paths p) k it.way.path [] (mapped (all_ways p) k it.way it.stands)
         where
-          mapped : (found : List Way) (m : ℕ) (way : Way) → slice_get found m ≡ Some way → slice_get (paths_of found) m ≡ Some way.path
+          mapped : (found : List WayFromBoard) (m : ℕ) (way : WayFromBoard) → slice_get found m ≡ Some way → slice_get (paths_of_ways found) m ≡ Some way.path
           mapped [] m way e = absurd (cc)
-          mapped (w ∷ found) zero way e = let same : w ≡ way = cc in ap (λ (v : Way). Some v.path) same
+          mapped (w ∷ found) zero way e = let same : w ≡ way = cc in ap (λ (v : WayFromBoard). Some v.path) same
           mapped (w ∷ found) (suc m) way e = mapped found m way e
 
   pub none-alone : (i j : ℕ) → i < length (network_routes p) → j < length (network_routes p) → lists_conflict_one_way q i j ≡ false
@@ -109,7 +109,7 @@ module _ (p : PlantLists) (names : List (List ℕ)) where
       turned true = grind (arith, nat_tests)
       turned false = grind (arith, nat_tests)
 
-  locked-path : (i : ℕ) (way : Way) → sections_locked_for (route_of_way p (all_paths p) i way) ≡ way.path
+  locked-path : (i : ℕ) (way : WayFromBoard) → sections_locked_for (route_of_way p (all_paths p) i way) ≡ way.path
   locked-path i way = append-nil (way.path ++ []) ∙ append-nil way.path
 
   pub none-unlisted : (i j : ℕ) → i < length (network_routes p) → j < length (network_routes p) → shares_without_conflict q i j ≡ false
@@ -119,8 +119,8 @@ module _ (p : PlantLists) (names : List (List ℕ)) where
       let shared : both_lock q i j ≡ paths_share_section at.way.path other.way.path =
       ap (λ o. is_some_and o (λ route. locks_one_of q (sections_locked_for route) i)) other.here
       ∙ ap (λ l. locks_one_of q l i) (locked-path j other.way)
-      ∙ ap (λ o. is_some_and o (λ route. list_any (λ x. has_section x (sections_locked_for route)) other.way.path)) at.here
-      ∙ ap (λ l. list_any (λ x. has_section x l) other.way.path) (locked-path i at.way)
+      ∙ ap (λ o. is_some_and o (λ route. list_any (λ x. contains_section x (sections_locked_for route)) other.way.path)) at.here
+      ∙ ap (λ l. list_any (λ x. contains_section x l) other.way.path) (locked-path i at.way)
       ∙ shared-either other.way.path at.way.path in
       ap (λ b. nat_lt i j && b && not (lists_as_conflict q i j)) shared
       ∙ ap (λ b. nat_lt i j && paths_share_section at.way.path other.way.path && not b) (lists_as_conflict-is i j at other other_less)

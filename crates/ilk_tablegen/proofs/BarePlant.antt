@@ -1,7 +1,6 @@
--- A plant without routes can violate only C7 of the rules of the columns.
 use Rattle.std.proofs.Common.{◌≡◌, List, [], ◌++◌, append-nil, length, ◌∙◌, ap, arith}
 use Rattle.ilk_plant.specs.Broken.{broken_below, broken_at_pairs}
-use Rattle.ilk_plant.specs.ColumnRules.{breaks_columns, breaks_columns_at_pair, broken_for_column_rule, column_rules_broken}
+use Rattle.ilk_plant.specs.ColumnRules.{breaks_column_rule_at, breaks_column_rule_at_pair, broken_for_column_rule, column_rules_broken}
 use Rattle.ilk_plant.specs.Plant.{PlantLists}
 use Rattle.ilk_plant.specs.declared.broken.Broken.{Broken}
 use Rattle.ilk_plant.specs.declared.broken.Rule.{Rule}
@@ -21,11 +20,11 @@ bare-asks_c7 p none =
     count : length p.routes ≡ 0
     count = ap length none
 
-    nowhere : (rule : Rule) → broken_below rule (length p.routes) (breaks_columns p rule) ≡ []
-    nowhere rule = broken-none rule (length p.routes) (breaks_columns p rule) (λ i less. absurd (omega (arith, less, count)))
+    nowhere : (rule : Rule) → broken_below rule (length p.routes) (breaks_column_rule_at p rule) ≡ []
+    nowhere rule = broken-none rule (length p.routes) (breaks_column_rule_at p rule) (λ i less. absurd (omega (arith, less, count)))
 
-    no_pair : (rule : Rule) → broken_at_pairs rule (length p.routes) (breaks_columns_at_pair p rule) ≡ []
-    no_pair rule = broken-no_pair rule (length p.routes) (breaks_columns_at_pair p rule) (λ i j less other. absurd (omega (arith, less, count)))
+    no_pair : (rule : Rule) → broken_at_pairs rule (length p.routes) (breaks_column_rule_at_pair p rule) ≡ []
+    no_pair rule = broken-no_pair rule (length p.routes) (breaks_column_rule_at_pair p rule) (λ i j less other. absurd (omega (arith, less, count)))
 
     skipped : {xs ys zs : List Broken} → xs ≡ [] → ys ≡ zs → xs ++ ys ≡ zs
     skipped {ys = ys} first later = ap (λ l. l ++ ys) first ∙ later

@@ -4,20 +4,20 @@ use Rattle.std.specs.List.{enumerate_from}
 use Rattle.std.specs.Cmp.Derive.{both_true}
 use Rattle.std.proofs.lemmas.Bool.{and_parts}
 use Rattle.std.proofs.lemmas.List.Elements.{All-append, All-cons, All-head, All-map, All-nil, All-tail}
-use Rattle.ilk_plant.proofs.Rows.{has_section-at}
-use Rattle.ilk_plant.specs.Network.{has_section}
+use Rattle.ilk_plant.proofs.Rows.{contains_section-at}
+use Rattle.ilk_plant.specs.Network.{contains_section}
 use Rattle.ilk_plant.specs.Plant.{IsPlant, PlantLists, next_to}
 use Rattle.ilk_plant.specs.declared.limits.TheConstants.{MAX_PATH}
 use Rattle.ilk_plant.specs.declared.network.Board.{Board}
 use Rattle.ilk_plant.specs.declared.network.Dir.{Dir}
 use Rattle.ilk_tablegen.specs.Ways.{all_ways, way_ends_at_section, ways, ways_from_board}
-use Rattle.ilk_tablegen.specs.declared.ways.Way.{Way}
+use Rattle.ilk_tablegen.specs.declared.ways.WayFromBoard.{WayFromBoard}
 
 -- Returns whether a path leads from section x to the first of its sections at which a way ends.
 abbrev pub is_way : PlantLists → Dir → ℕ → List ℕ → Bool
 is_way p d x [] = false
-is_way p d x (y ∷ []) = has_section y (next_to p x d) && way_ends_at_section p d y
-is_way p d x (y ∷ z ∷ rest) = has_section y (next_to p x d) && (not (way_ends_at_section p d y) && is_way p d y (z ∷ rest))
+is_way p d x (y ∷ []) = contains_section y (next_to p x d) && way_ends_at_section p d y
+is_way p d x (y ∷ z ∷ rest) = contains_section y (next_to p x d) && (not (way_ends_at_section p d y) && is_way p d y (z ∷ rest))
 
 -- Such a path within n sections.
 pub record IsWay (p : PlantLists) (d : Dir) (n x : ℕ) (path : List ℕ) : Type 0 where
@@ -36,7 +36,7 @@ pub All-implied : {X : Type 0} (P Q : X → Type 0) → ((x : X) → P x → Q x
 All-implied P Q f [] all = All-nil Q
 All-implied P Q f (x ∷ xs) all = All-cons Q x xs (f x (All-head P x xs all)) (All-implied P Q f xs (All-tail P x xs all))
 
-longer : (p : PlantLists) (d : Dir) (n x y : ℕ) → has_section y (next_to p x d) ≡ true → way_ends_at_section p d y ≡ false → (path : List ℕ) → IsWay p d n y path → IsWay p d (suc n) x (y ∷ path)
+longer : (p : PlantLists) (d : Dir) (n x y : ℕ) → contains_section y (next_to p x d) ≡ true → way_ends_at_section p d y ≡ false → (path : List ℕ) → IsWay p d n y path → IsWay p d (suc n) x (y ∷ path)
 longer p d n x y next on [] way = let wrong : false ≡ true = way.leads in absurd (cc)
 longer p d n x y next on (z ∷ rest) way = record {
   leads = both_true next (both_true (ap not on) way.leads);
@@ -54,8 +54,8 @@ ways-are p d (suc n) x =
     each : ((y : ℕ) → All (IsWay p d n y) (ways p d n y)) → (i y : ℕ) → slice_get (next_to p x d) i ≡ Some y → All (IsWay p d (suc n) x) (over y)
     each onward i y at = by_test (way_ends_at_section p d y) refl
       where
-        next : has_section y (next_to p x d) ≡ true
-        next = has_section-at (next_to p x d) i y at
+        next : contains_section y (next_to p x d) ≡ true
+        next = contains_section-at (next_to p x d) i y at
 
         by_test : (b : Bool) → way_ends_at_section p d y ≡ b → All (IsWay p d (suc n) x) (if b then (y ∷ []) ∷ [] else map (λ way. y ∷ way) (ways p d n y))
         by_test true e = All-cons (IsWay p d (suc n) x) (y ∷ []) [] (record { leads = both_true next e; short = omega arith }) (All-nil (IsWay p d (suc n) x))
@@ -63,7 +63,7 @@ ways-are p d (suc n) x =
             All-map (IsWay p d (suc n) x) (λ way. y ∷ way) (ways p d n y) (All-implied (IsWay p d n y) (λ way. IsWay p d (suc n) x (y ∷ way)) (longer p d n x y next e) (ways p d n y) (onward y))
 
 -- A way of the network begins at its board.
-pub record IsWayOf (p : PlantLists) (way : Way) : Type 0 where
+pub record IsWayOf (p : PlantLists) (way : WayFromBoard) : Type 0 where
   pub board : slice_get p.boards way.source ≡ Some way.from
   pub walk : IsWay p way.from.dir MAX_PATH way.from.section way.path
 
@@ -86,11 +86,11 @@ all-are p = numbered 0 p.boards (λ i board at. let place : 0 + i ≡ i = omega 
 pub way-within : (p : PlantLists) → IsPlant p → (d : Dir) (x : ℕ) (path : List ℕ) → is_way p d x path ≡ true → All (λ y. y < length p.sections) path
 way-within p plant d x [] leads = All-nil (λ y. y < length p.sections)
 way-within p plant d x (y ∷ []) leads =
-    All-cons (λ y. y < length p.sections) y [] (plant.neighbours x y d (and_parts (has_section y (next_to p x d)) (way_ends_at_section p d y) leads).0) (All-nil (λ y. y < length p.sections))
+    All-cons (λ y. y < length p.sections) y [] (plant.neighbours x y d (and_parts (contains_section y (next_to p x d)) (way_ends_at_section p d y) leads).0) (All-nil (λ y. y < length p.sections))
 way-within p plant d x (y ∷ z ∷ rest) leads =
-    let parts = and_parts (has_section y (next_to p x d)) (not (way_ends_at_section p d y) && is_way p d y (z ∷ rest)) leads in
+    let parts = and_parts (contains_section y (next_to p x d)) (not (way_ends_at_section p d y) && is_way p d y (z ∷ rest)) leads in
     All-cons (λ y. y < length p.sections) y (z ∷ rest) (plant.neighbours x y d parts.0) (way-within p plant d y (z ∷ rest) (and_parts (not (way_ends_at_section p d y)) (is_way p d y (z ∷ rest)) parts.1).1)
 
-pub all-within : (p : PlantLists) → IsPlant p → All (λ (way : Way). All (λ y. y < length p.sections) way.path) (all_ways p)
+pub all-within : (p : PlantLists) → IsPlant p → All (λ (way : WayFromBoard). All (λ y. y < length p.sections) way.path) (all_ways p)
 all-within p plant =
-    All-implied (IsWayOf p) (λ (way : Way). All (λ y. y < length p.sections) way.path) (λ way is. (let w = is.walk in way-within p plant way.from.dir way.from.section way.path w.leads)) (all_ways p) (all-are p)
+    All-implied (IsWayOf p) (λ (way : WayFromBoard). All (λ y. y < length p.sections) way.path) (λ way is. (let w = is.walk in way-within p plant way.from.dir way.from.section way.path w.leads)) (all_ways p) (all-are p)

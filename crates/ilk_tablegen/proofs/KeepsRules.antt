@@ -16,14 +16,14 @@ use Rattle.ilk_base.proofs.Ranges.{below, passing_within}
 use Rattle.ilk_base.proofs.Tested.{All-tested, all-pass, list_any-at}
 use Rattle.ilk_plant.proofs.Once.{names_differ-places}
 use Rattle.ilk_plant.specs.Broken.{broken_below}
-use Rattle.ilk_plant.specs.ColumnRules.{broken_for_column_rule, column_rules_broken, lists_conflict_one_way, overlap_is_connected, path_ends_at_first_board, path_is_connected, route_points_are_listed, protects_without_conflict, shares_without_conflict}
+use Rattle.ilk_plant.specs.ColumnRules.{broken_for_column_rule, column_rules_broken, lists_conflict_one_way, overlap_is_connected, path_destination_is_first_board, path_continues_from_source, path_and_overlap_points_listed, protects_without_conflict, shares_without_conflict}
 use Rattle.ilk_plant.specs.Draft.{plant_from_drafts, numbered_route}
 use Rattle.ilk_plant.specs.Limits.{TableWithinLimits, route_within_limits, route_names_valid}
 use Rattle.ilk_plant.specs.Name.{IsName, Name, is_name, is_name_if_given, is_between}
-use Rattle.ilk_plant.specs.Network.{has_section, last_of}
+use Rattle.ilk_plant.specs.Network.{contains_section, last_of}
 use Rattle.ilk_plant.specs.Plant.{IsPlant, PlantLists, board_of}
 use Rattle.ilk_plant.specs.Sound.{IsAcyclic}
-use Rattle.ilk_plant.specs.TableRules.{breaks_table, has_conflicts_once, has_destination_or_none, has_points_once, has_protecting_boards_once, has_protecting_points_once, has_sections_once, has_source, route_fails, plant_table_rules_broken}
+use Rattle.ilk_plant.specs.TableRules.{breaks_table_rule_at, conflicts_are_other_routes_once, destination_is_board_or_none, lists_passed_points_once, has_nonsource_protecting_boards_once, has_outside_protecting_points_once, has_sections_once, source_is_board, route_fails, plant_table_rules_broken}
 use Rattle.ilk_plant.specs.declared.broken.Broken.{Broken}
 use Rattle.ilk_plant.specs.declared.broken.Rule.{Rule}
 use Rattle.ilk_plant.specs.declared.broken.Rule.TheVariants.{R1, R2, R3, R4, R5, R6, R7, R8, C1, C2, C3, C4, C5, C6, C7, C8}
@@ -45,16 +45,15 @@ use Rattle.ilk_tablegen.proofs.WayRules.{keeps-conflicts, keeps-destination, kee
 use Rattle.ilk_tablegen.specs.Routes.{destination_of, network_routes, points_along, route_of_way}
 use Rattle.ilk_tablegen.specs.Rules.{BreaksAtMostC7}
 use Rattle.ilk_tablegen.specs.Table.{name_of, listed_point_draft, route_draft, network_table, route_name, generation_result}
-use Rattle.ilk_tablegen.specs.Ways.{all_ways, board_with_overlong_way}
+use Rattle.ilk_tablegen.specs.Ways.{all_ways, first_board_with_overlong_way}
 use Rattle.ilk_tablegen.specs.declared.walks.Walks.TheVariants.{Routes, TooLong, TooMany}
-use Rattle.ilk_tablegen.specs.declared.ways.Way.{Way}
+use Rattle.ilk_tablegen.specs.declared.ways.WayFromBoard.{WayFromBoard}
 
--- The route of a way refers to existing items.
-module _ (p : PlantLists) (plant : IsPlant p) (n : ℕ) (way : Way) (of : IsWayOf p way) where
+module _ (p : PlantLists) (plant : IsPlant p) (n : ℕ) (way : WayFromBoard) (of : IsWayOf p way) where
   within : All (λ y. y < length p.sections) way.path
   within = let walk = of.walk in way-within p plant way.from.dir way.from.section way.path walk.leads
 
-  on-path : (x : ℕ) → has_section x way.path ≡ true → nat_lt x (length p.section_names) ≡ true
+  on-path : (x : ℕ) → contains_section x way.path ≡ true → nat_lt x (length p.section_names) ≡ true
   on-path x h =
       let found : (k : ℕ) × (y : ℕ) × (slice_get way.path k ≡ Some y) × ((y == x) ≡ true) = list_any-at (λ y. y == x) way.path h in
       let less : found.1 < length p.sections = all-at (λ y. y < length p.sections) way.path found.0 found.1 within found.2 in
@@ -94,7 +93,6 @@ module _ (p : PlantLists) (plant : IsPlant p) (n : ℕ) (way : Way) (of : IsWayO
     protecting_boards = refl;
   }
 
-  -- Limits of its draft.
   board-named : (m : ℕ) → m < length p.board_names → is_name (name_of p.board_names m) ≡ true
   board-named m less =
       let item : (name : Name) × (slice_get p.board_names m ≡ Some name) = item_at p.board_names m less in
@@ -171,7 +169,6 @@ module _ (p : PlantLists) (plant : IsPlant p) (n : ℕ) (way : Way) (of : IsWayO
           (route_of_way p (all_paths p) n way).conflicts i k known-way.conflicts at in
           omega (arith, low, few)))
 
--- Rules of the table and of the columns.
 module _ (p : PlantLists) (plant : IsPlant p) (never : IsAcyclic p) (few : length (network_routes p) ≤ MAX_ROUTES) where
   abbrev names : List Name
   names = names_in p (network_routes p)
@@ -205,31 +202,32 @@ module _ (p : PlantLists) (plant : IsPlant p) (never : IsAcyclic p) (few : lengt
   kept : (test : Route → Bool) → ((i : ℕ) (at : At p i) → test (route_of_way p (all_paths p) i at.way) ≡ true) → (rule : Rule) → broken_below rule (length (network_routes p)) (route_fails q test) ≡ []
   kept test passes rule = broken-none rule (length (network_routes p)) (route_fails q test) (λ i less. none-fails p names test i (passes i))
 
-  r1 : broken_below R1 (length (network_routes p)) (breaks_table q R1) ≡ []
-  r1 = broken-none R1 (length (network_routes p)) (breaks_table q R1) (λ i less. let are = names-are in none-before names are.routes i)
+  r1 : broken_below R1 (length (network_routes p)) (breaks_table_rule_at q R1) ≡ []
+  r1 = broken-none R1 (length (network_routes p)) (breaks_table_rule_at q R1) (λ i less. let are = names-are in none-before names are.routes i)
 
-  r6 : broken_below R6 (length (network_routes p)) (breaks_table q R6) ≡ []
-  r6 = broken-none R6 (length (network_routes p)) (breaks_table q R6) (λ i less. none-fails p names (has_conflicts_once q i) i (λ at. keeps-conflicts p plant never (network_routes p) names (all_paths p) i at.way at.of (count-paths p)))
+  r6 : broken_below R6 (length (network_routes p)) (breaks_table_rule_at q R6) ≡ []
+  r6 = broken-none R6 (length (network_routes p)) (breaks_table_rule_at q R6) (λ i less. none-fails p names (conflicts_are_other_routes_once q i) i (λ at. keeps-conflicts p plant never (network_routes p) names (all_paths p) i at.way at.of
+      (count-paths p)))
 
   pub no-table : plant_table_rules_broken q ≡ []
   no-table =
       nothing r1
-      (nothing (kept (has_source q) (λ i at. keeps-source p plant never (network_routes p) names (all_paths p) i at.way at.of) R2)
+      (nothing (kept (source_is_board q) (λ i at. keeps-source p plant never (network_routes p) names (all_paths p) i at.way at.of) R2)
       (nothing (kept (has_sections_once q) (λ i at. keeps-sections p plant never (network_routes p) names (all_paths p) i at.way at.of) R3)
-      (nothing (kept (has_points_once q) (λ i at. keeps-points p plant never (network_routes p) names (all_paths p) i at.way at.of) R4)
-      (nothing (kept (λ route. has_destination_or_none q route.destination) (λ i at. keeps-destination p plant never (network_routes p) names (all_paths p) i at.way at.of) R5)
+      (nothing (kept (lists_passed_points_once q) (λ i at. keeps-points p plant never (network_routes p) names (all_paths p) i at.way at.of) R4)
+      (nothing (kept (λ route. destination_is_board_or_none q route.destination) (λ i at. keeps-destination p plant never (network_routes p) names (all_paths p) i at.way at.of) R5)
       (nothing r6
-      (nothing (kept (has_protecting_points_once q) (λ i at. keeps-protecting_points p plant never (network_routes p) names (all_paths p) i at.way at.of) R7)
-      (nothing (kept (has_protecting_boards_once q) (λ i at. keeps-protecting_boards p plant never (network_routes p) names (all_paths p) i at.way at.of) R8) refl)))))))
+      (nothing (kept (has_outside_protecting_points_once q) (λ i at. keeps-protecting_points p plant never (network_routes p) names (all_paths p) i at.way at.of) R7)
+      (nothing (kept (has_nonsource_protecting_boards_once q) (λ i at. keeps-protecting_boards p plant never (network_routes p) names (all_paths p) i at.way at.of) R8) refl)))))))
     where
       nothing : {xs ys : List Broken} → xs ≡ [] → ys ≡ [] → xs ++ ys ≡ []
       nothing {ys = ys} first later = ap (λ l. l ++ ys) first ∙ later
 
   pub only-c7 : column_rules_broken q ≡ broken_for_column_rule p C7
   only-c7 =
-      skipped (kept (path_is_connected q) (λ i at. keeps-lead p plant never (network_routes p) names (all_paths p) i at.way at.of) C1)
-      (skipped (kept (path_ends_at_first_board q) (λ i at. keeps-ends p plant never (network_routes p) names (all_paths p) i at.way at.of) C2)
-      (skipped (kept (route_points_are_listed q) (λ i at. keeps-positions p plant never (network_routes p) names (all_paths p) i at.way at.of) C3)
+      skipped (kept (path_continues_from_source q) (λ i at. keeps-lead p plant never (network_routes p) names (all_paths p) i at.way at.of) C1)
+      (skipped (kept (path_destination_is_first_board q) (λ i at. keeps-ends p plant never (network_routes p) names (all_paths p) i at.way at.of) C2)
+      (skipped (kept (path_and_overlap_points_listed q) (λ i at. keeps-positions p plant never (network_routes p) names (all_paths p) i at.way at.of) C3)
       (skipped (kept (overlap_is_connected q) (λ i at. keeps-overlap p plant never (network_routes p) names (all_paths p) i at.way at.of) C4)
       (skipped (broken-no_pair C5 (length (network_routes p)) (lists_conflict_one_way q) (none-alone p names))
       (skipped (broken-no_pair C6 (length (network_routes p)) (shares_without_conflict q) (none-unlisted p names))
@@ -270,15 +268,15 @@ module _ (p : PlantLists) (plant : IsPlant p) (never : IsAcyclic p) (few : lengt
   }
 
 pub found-few : (p : PlantLists) (table : TableDraft) → generation_result p ≡ Routes table → (network_table p ≡ table) × (length (network_routes p) ≤ MAX_ROUTES)
-found-few p table found = by_end (board_with_overlong_way p) refl
+found-few p table found = by_end (first_board_with_overlong_way p) refl
   where
     by_count : (b : Bool) → nat_lt MAX_ROUTES (length (all_ways p)) ≡ b → (if b then TooMany else Routes (network_table p)) ≡ Routes table → (network_table p ≡ table) × (length (network_routes p) ≤ MAX_ROUTES)
     by_count true more f = absurd (cc)
     by_count false more f =
-        let count : length (network_routes p) ≡ length (all_ways p) = count-paths p ∙ length-map (all_ways p) (λ (way : Way). way.path) in
+        let count : length (network_routes p) ≡ length (all_ways p) = count-paths p ∙ length-map (all_ways p) (λ (way : WayFromBoard). way.path) in
         (cc, grind (arith, nat_tests, more, count))
 
-    by_end : (o : Option ℕ) → board_with_overlong_way p ≡ o → (network_table p ≡ table) × (length (network_routes p) ≤ MAX_ROUTES)
+    by_end : (o : Option ℕ) → first_board_with_overlong_way p ≡ o → (network_table p ≡ table) × (length (network_routes p) ≤ MAX_ROUTES)
     by_end None is = by_count (nat_lt MAX_ROUTES (length (all_ways p))) refl (rw is at found)
     by_end (Some m) is = let bad : TooLong m ≡ Routes table = rw is at found in absurd (cc)
 

@@ -8,7 +8,7 @@ use Rattle.ilk_plant.proofs.Boards.{boards-plant_from_drafts}
 use Rattle.ilk_plant.proofs.NamesDiffer.{first_number_named-at, first_number_named-below}
 use Rattle.ilk_plant.proofs.Neighbours.{end-number}
 use Rattle.ilk_plant.proofs.Rules.{KeepsNetworkRules}
-use Rattle.ilk_plant.specs.Draft.{boards_from, names_of_boards, names_of_sections, number_or_len, plant_from_drafts, numbered_section}
+use Rattle.ilk_plant.specs.Draft.{boards_of_sections_from, names_of_boards, names_of_sections, number_or_len, plant_from_drafts, numbered_section}
 use Rattle.ilk_plant.specs.Name.{Name}
 use Rattle.ilk_plant.specs.Network.{board_on}
 use Rattle.ilk_plant.specs.NetworkRules.{End, end_if_neighbour, ends_of_draft, ends_of}
@@ -60,8 +60,8 @@ module _ (net : NetDraft) (table : TableDraft) (rules : KeepsNetworkRules net) w
       let there : slice_get q.sections x ≡ Some (number section) = slice_get-map number net.sections x ∙ ap (option_map number) at in
       let on : board_of q x d ≡ Some (number_or_len boards name) = rw there e in
       let less = boards-plant_from_drafts net table x (number_or_len boards name) d on in
-      let count = length-map (boards_from 0 net.sections) (λ named. named.board) in
-      let named = length-map (boards_from 0 net.sections) (λ named. named.name) in
+      let count = length-map (boards_of_sections_from 0 net.sections) (λ named. named.board) in
+      let named = length-map (boards_of_sections_from 0 net.sections) (λ named. named.name) in
       known-back boards name (omega (arith, less, count, named))
 
   kind-back : (kind : KindDraft) →

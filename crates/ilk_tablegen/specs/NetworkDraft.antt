@@ -1,4 +1,4 @@
--- The draft of a plant's network: its sections and boards in order, with names for their numbers.
+-- The draft of a plant's network: its sections and boards in order, with names in place of numbers.
 use Rattle.std.specs.Prelude.{ℕ, map, option_map}
 use Rattle.std.specs.List.{enumerate_from}
 use Rattle.ilk_plant.specs.Plant.{PlantLists}
@@ -10,17 +10,17 @@ use Rattle.ilk_plant.specs.declared.network.Section.{Section}
 use Rattle.ilk_plant.specs.declared.network.Section.TheVariants.{Linear, Point}
 use Rattle.ilk_tablegen.specs.Table.{name_of}
 
--- The kind of a section, with the names of its neighbours and boards.
+-- The draft of a section's kind: linear or point, with the names of its neighbours and boards.
 abbrev pub kind_draft : PlantLists → Section → KindDraft
 kind_draft p (Linear down up board_down board_up) =
     LinearDraft (option_map (name_of p.section_names) down) (option_map (name_of p.section_names) up) (option_map (name_of p.board_names) board_down) (option_map (name_of p.board_names) board_up)
 kind_draft p (Point stem plus minus faces) =
     PointDraft (name_of p.section_names stem) (name_of p.section_names plus) (name_of p.section_names minus) faces
 
--- Section x, with its name.
+-- The draft of section number `x`, with its name.
 abbrev pub section_draft : PlantLists → ℕ → Section → SectionDraft
 section_draft p x section = record { name = name_of p.section_names x; kind = kind_draft p section }
 
--- The network of a plant, independent of its routes.
+-- The draft of a plant's network, independent of its routes.
 abbrev pub network_draft : PlantLists → NetDraft
 network_draft p = record { sections = map (λ numbered. section_draft p numbered.0 numbered.1) (enumerate_from 0 p.sections) }

@@ -11,17 +11,16 @@ use Rattle.ilk_plant.specs.declared.draft.NetDraft.{NetDraft}
 use Rattle.ilk_plant.specs.declared.draft.TableDraft.{TableDraft}
 use Rattle.ilk_tablegen.specs.NetworkDraft.{network_draft}
 
--- Holds if a table is within the limits and violates no rule of the table. The only rule of the
--- columns that it violates is C7, at the sections at which the network violates it without the
--- table.
+-- Holds if the table `routes` for network `net` is within the limits and violates no rule of the
+-- table. The only column rule that it violates is C7, exactly as plant `p` does.
 pub record BreaksAtMostC7 (p : PlantLists) (net : NetDraft) (routes : TableDraft) : Type 0 where
   pub limits : TableWithinLimits routes
   pub table : table_rules_broken net routes ≡ []
   pub columns : column_rules_broken (plant_from_drafts net routes) ≡ broken_for_column_rule p C7
 
--- Holds if the network of a plant and a table are drafts within the limits that violate no rule of
--- the network or table. The only rule of the columns that they violate is C7, at the sections at
--- which the plant does. No route lists protecting points or boards.
+-- Holds if the network of plant `p` and the table `routes` are within the limits and violate no
+-- rule of the network or table. The only column rule that they violate is C7, exactly as `p` does.
+-- No route lists protecting points or boards.
 pub record KeepsRulesButC7 (p : PlantLists) (routes : TableDraft) : Type 0 where
   pub sound : AreSoundDrafts (network_draft p) routes
   pub columns : column_rules_broken (plant_from_drafts (network_draft p) routes) ≡ broken_for_column_rule p C7

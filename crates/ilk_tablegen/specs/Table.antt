@@ -10,11 +10,11 @@ use Rattle.ilk_plant.specs.declared.limits.TheConstants.{MAX_ROUTES}
 use Rattle.ilk_plant.specs.declared.table.Listed.{Listed}
 use Rattle.ilk_plant.specs.declared.table.Route.{Route}
 use Rattle.ilk_tablegen.specs.Routes.{network_routes}
-use Rattle.ilk_tablegen.specs.Ways.{all_ways, board_with_overlong_way}
+use Rattle.ilk_tablegen.specs.Ways.{all_ways, first_board_with_overlong_way}
 use Rattle.ilk_tablegen.specs.declared.walks.Walks.{Walks}
 use Rattle.ilk_tablegen.specs.declared.walks.Walks.TheVariants.{Routes, TooLong, TooMany}
 
--- The name with this number, or the empty name if there is none.
+-- The name with number `i`, or the empty name if there is none.
 abbrev pub name_of : List Name → ℕ → Name
 name_of names i = slice_index_or names i []
 
@@ -22,11 +22,11 @@ name_of names i = slice_index_or names i []
 abbrev pub route_name : ℕ → Name
 route_name n = codes "g" ++ decimal n
 
--- A listed point, with its name for its number.
+-- The draft of a listed point: the name of its section, and its position.
 abbrev pub listed_point_draft : PlantLists → Listed → ListedDraft
 listed_point_draft p listed = record { point = name_of p.section_names listed.point; at = listed.at }
 
--- Route n, with names for its numbers.
+-- The draft of route number `n`, with names in place of numbers.
 abbrev pub route_draft : PlantLists → ℕ → Route → RouteDraft
 route_draft p n route = record {
   name = route_name n;
@@ -40,18 +40,19 @@ route_draft p n route = record {
   protecting_boards = map (name_of p.board_names) route.protecting_boards;
 }
 
--- The table of these routes.
+-- The interlocking table of these routes, as a draft.
 abbrev pub table_draft : PlantLists → List Route → TableDraft
 table_draft p routes = record { routes = map (λ numbered. route_draft p numbered.0 numbered.1) (enumerate_from 0 routes) }
 
--- The table of the network's routes.
+-- The interlocking table generated for a network, as a draft.
 abbrev pub network_table : PlantLists → TableDraft
 network_table p = table_draft p (network_routes p)
 
--- The result for a network. If from some board a way doesn't end within MAX_PATH sections, it is
--- the first such board. Otherwise it is the table, unless there are more than MAX_ROUTES ways.
+-- The result of generating a table for a network. If some way does not end within MAX_PATH
+-- sections, it is the first board of such a way. Otherwise it is the table, or `TooMany` if there
+-- are more than MAX_ROUTES ways.
 abbrev pub generation_result : PlantLists → Walks
-generation_result p = unless_endless (board_with_overlong_way p)
+generation_result p = unless_endless (first_board_with_overlong_way p)
   where
     unless_endless : Option ℕ → Walks
     unless_endless (Some m) = TooLong m

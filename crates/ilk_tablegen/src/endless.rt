@@ -1,13 +1,13 @@
 ghost use Rattle.std.specs.Prelude.{◌≡◌, ◌<◌, ◌&&◌, IfOk, IfSome, false, length, map, not, slice_get, slice_index_or, true};
 ghost use Rattle.std.specs.List.{range_with_len};
 ghost use Rattle.ilk_base.specs.Option.{is_some_and};
-ghost use Rattle.ilk_tablegen.specs.Rounds.{continuing_flags, leads_to_flagged};
-ghost use Rattle.ilk_tablegen.specs.Ways.{way_ends_at_section, board_with_overlong_way, has_overlong_way};
+ghost use Rattle.ilk_tablegen.specs.Rounds.{unended_path_flags, has_flagged_unended_neighbour};
+ghost use Rattle.ilk_tablegen.specs.Ways.{way_ends_at_section, first_board_with_overlong_way, board_has_overlong_way};
 ghost use Rattle.ilk_plant.specs.declared.network.Dir.TheVariants.{Down, Up};
 ghost use Rattle.ilk_plant.specs.declared.limits.TheConstants.{MAX_PATH};
 
 use crate::ends::way_ends_at_section;
-use crate::flags::{flag_at, uniform_flags};
+use crate::flags::{flag_or_false, uniform_flags};
 use ilk_plant::{Dir, MAX_PATH, Plant, Row};
 use std::alloc::{AllocError, Global};
 
@@ -18,15 +18,14 @@ fn is_flagged(plant: &Plant, d: Dir, flags: &[bool], next: Option<u32>) -> bool
         && slice_index_or flags.now y false) }
 {
     match next {
-        Some(y) => !way_ends_at_section(plant, d, y) && flag_at(flags, y),
+        Some(y) => !way_ends_at_section(plant, d, y) && flag_or_false(flags, y),
         None => false,
     }
 }
 
-// Returns whether a flagged section at which no way ends is next to section `x` on side `d`.
-fn leads_to_flagged(plant: &Plant, d: Dir, flags: &[bool], x: u32) -> bool
+fn has_flagged_unended_neighbour(plant: &Plant, d: Dir, flags: &[bool], x: u32) -> bool
     requires { x < length plant.now.sections }
-    ensures { result ≡ leads_to_flagged plant.now d flags.now x }
+    ensures { result ≡ has_flagged_unended_neighbour plant.now d flags.now x }
 {
     let first = plant.neighbour(x, d, 0);
     let second = plant.neighbour(x, d, 1);
@@ -41,20 +40,18 @@ fn one_longer(
 ) -> Result<Row<bool>, AllocError>
     ensures { IfOk result
         (λ made. made
-        ≡ map (leads_to_flagged plant.now d flags.now)
+        ≡ map (has_flagged_unended_neighbour plant.now d flags.now)
         (range_with_len 0 (length plant.now.sections))) }
 {
     let mut made = Row::new(alloc);
     for x in 0..plant.sections() {
-        made.push(leads_to_flagged(plant, d, flags.as_slice(), x))?;
+        made.push(has_flagged_unended_neighbour(plant, d, flags.as_slice(), x))?;
     }
     Ok(made)
 }
 
-// Returns, for each section, whether some `n` sections lead on from it in direction `d` without the
-// end of a way.
 fn going_on(alloc: Global, plant: &Plant, d: Dir, n: u64) -> Result<Row<bool>, AllocError>
-    ensures { IfOk result (λ flags. flags ≡ continuing_flags plant.now d n) }
+    ensures { IfOk result (λ flags. flags ≡ unended_path_flags plant.now d n) }
 {
     plant.prove_is_plant();
     let mut flags = uniform_flags(alloc, plant.sections(), true)?;
@@ -64,26 +61,28 @@ fn going_on(alloc: Global, plant: &Plant, d: Dir, n: u64) -> Result<Row<bool>, A
     Ok(flags)
 }
 
-// Returns whether from board `m` some `MAX_PATH` sections lead on without the end of a way. `down`
-// and `up` have the answers of `going_on` for each section.
 fn has_no_end(plant: &Plant, down: &[bool], up: &[bool], m: u32) -> bool
     requires known { m < length plant.now.boards }
-    requires down { down.now ≡ continuing_flags plant.now Down MAX_PATH }
-    requires up { up.now ≡ continuing_flags plant.now Up MAX_PATH }
-    ensures { result ≡ is_some_and (slice_get plant.now.boards m) (has_overlong_way plant.now) }
+    requires down { down.now ≡ unended_path_flags plant.now Down MAX_PATH }
+    requires up { up.now ≡ unended_path_flags plant.now Up MAX_PATH }
+    ensures { result ≡ is_some_and (slice_get plant.now.boards m)
+        (board_has_overlong_way plant.now) }
 {
     plant.prove_is_plant();
     let board = plant.board(m);
     match board.dir {
-        Dir::Down => flag_at(down, board.section),
-        Dir::Up => flag_at(up, board.section),
+        Dir::Down => flag_or_false(down, board.section),
+        Dir::Up => flag_or_false(up, board.section),
     }
 }
 
-/// Returns the first board from which some `MAX_PATH` sections lead on without the end of a way.
-/// Returns `None` if there is no such board.
-pub fn board_with_overlong_way(alloc: Global, plant: &Plant) -> Result<Option<u32>, AllocError>
-    ensures { IfOk result (λ m. m ≡ board_with_overlong_way plant.now) }
+/// Returns the number of the first board from which a path of `MAX_PATH` sections leads on, on
+/// which no way ends. Returns `None` if there is no such board.
+pub(crate) fn first_board_with_overlong_way(
+    alloc: Global,
+    plant: &Plant,
+) -> Result<Option<u32>, AllocError>
+    ensures { IfOk result (λ m. m ≡ first_board_with_overlong_way plant.now) }
 {
     let down = going_on(alloc, plant, Dir::Down, MAX_PATH)?;
     let up = going_on(alloc, plant, Dir::Up, MAX_PATH)?;

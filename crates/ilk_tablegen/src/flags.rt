@@ -1,11 +1,11 @@
 ghost use Rattle.std.specs.Prelude.{◌≡◌, ◌<◌, IfOk, false, replicate, set, slice_index_or, true};
-ghost use Rattle.ilk_tablegen.specs.Flags.{any_section_flagged, flags_of};
+ghost use Rattle.ilk_tablegen.specs.Flags.{any_section_flagged, path_membership_flags};
 
 use ilk_plant::Row;
 use std::alloc::{AllocError, Global};
 
-/// Returns flag `x`, `false` if there is none.
-pub fn flag_at(flags: &[bool], x: u32) -> bool
+/// Returns flag number `x`, or `false` if there are fewer flags.
+pub(crate) fn flag_or_false(flags: &[bool], x: u32) -> bool
     ensures { result ≡ slice_index_or flags.now x false }
 {
     match flags.get(x as usize) {
@@ -14,15 +14,15 @@ pub fn flag_at(flags: &[bool], x: u32) -> bool
     }
 }
 
-/// Returns whether one of these sections has its flag.
-pub fn any_section_flagged(flags: &[bool], sections: &[u32]) -> bool
+/// Returns whether the flag of one of `sections` is set.
+pub(crate) fn any_section_flagged(flags: &[bool], sections: &[u32]) -> bool
     ensures { result ≡ any_section_flagged flags.now sections.now }
 {
-    sections.iter().any(|x| flag_at(flags, *x))
+    sections.iter().any(|x| flag_or_false(flags, *x))
 }
 
 /// Creates `count` flags, each equal to `flag`.
-pub fn uniform_flags(alloc: Global, count: u32, flag: bool) -> Result<Row<bool>, AllocError>
+pub(crate) fn uniform_flags(alloc: Global, count: u32, flag: bool) -> Result<Row<bool>, AllocError>
     ensures { IfOk result (λ flags. flags ≡ replicate count flag) }
 {
     let mut flags = Row::new(alloc);
@@ -40,9 +40,13 @@ fn set_flag(flags: &mut Row<bool>, x: u32)
     }
 }
 
-/// Creates a flag for each number below `count`, set if the number is in `path`.
-pub fn flags_of(alloc: Global, count: u32, path: &[u32]) -> Result<Row<bool>, AllocError>
-    ensures { IfOk result (λ flags. flags ≡ flags_of count path.now) }
+/// Creates a flag for each number below `count`: true if the number is in `path`.
+pub(crate) fn path_membership_flags(
+    alloc: Global,
+    count: u32,
+    path: &[u32],
+) -> Result<Row<bool>, AllocError>
+    ensures { IfOk result (λ flags. flags ≡ path_membership_flags count path.now) }
 {
     let mut flags = uniform_flags(alloc, count, false)?;
     for x in path {

@@ -9,14 +9,10 @@
 //! The number of ways can double at each point, so they can't all be listed before they are
 //! rejected. `endless` works in rounds, for all sections at once: it finds the sections from which
 //! n sections lead on. `ways` lengthens all ways by one section a round, and stops if there are too
-//! many; each of them is the beginning of another way. `routes` and `table` then write the table.
+//! many. `routes` and `table` then write the table.
 //!
 //! `network_draft` returns the network with names, so that both can be written as one
-//! configuration.
-//!
-//! The theorems are in `laws`. The list has exactly the ways of the network, in order. The draft of
-//! a network is the one from which its plant was created. Other theorems state the rules that the
-//! two drafts satisfy.
+//! configuration. The theorems are in `laws`.
 #![tactic(auto)]
 
 mod endless;
@@ -32,8 +28,9 @@ mod walks;
 mod ways;
 
 pub use laws::{
-    bare_network_is_sound, bare_plant_breaks_c7_alone, network_and_table_keep_rules,
-    network_round_trips, table_keeps_rules, ways_are_complete,
+    bare_plant_breaks_c7_alone, generated_drafts_break_only_c7, generated_table_breaks_only_c7,
+    network_draft_of_plant_unchanged, network_without_routes_makes_plant,
+    ways_are_complete_and_distinct,
 };
 pub use network::network_draft;
 pub use table::routes_of;

@@ -5,7 +5,7 @@ use ilk_plant::{Plant, Text};
 use std::alloc::{AllocError, Global};
 
 /// Returns the name of section `x`, empty if there is no such section.
-pub fn section_name(alloc: Global, plant: &Plant, x: u32) -> Result<Text, AllocError>
+pub(crate) fn section_name(alloc: Global, plant: &Plant, x: u32) -> Result<Text, AllocError>
     ensures { IfOk result (λ name. name ≡ name_of plant.now.section_names x) }
 {
     plant.prove_is_plant();
@@ -16,7 +16,7 @@ pub fn section_name(alloc: Global, plant: &Plant, x: u32) -> Result<Text, AllocE
 }
 
 /// Returns the name of board `m`, empty if there is no such board.
-pub fn board_name(alloc: Global, plant: &Plant, m: u32) -> Result<Text, AllocError>
+pub(crate) fn board_name(alloc: Global, plant: &Plant, m: u32) -> Result<Text, AllocError>
     ensures { IfOk result (λ name. name ≡ name_of plant.now.board_names m) }
 {
     plant.prove_is_plant();
@@ -26,8 +26,8 @@ pub fn board_name(alloc: Global, plant: &Plant, m: u32) -> Result<Text, AllocErr
     Ok(Text::of(String::from_str(alloc, plant.board_name(m))?))
 }
 
-/// Returns the name of section `x`, if one is given.
-pub fn optional_section_name(
+/// Returns the name of section `x`, or `None` if `x` is `None`.
+pub(crate) fn optional_section_name(
     alloc: Global,
     plant: &Plant,
     x: Option<u32>,
@@ -40,8 +40,8 @@ pub fn optional_section_name(
     }
 }
 
-/// Returns the name of board `m`, if one is given.
-pub fn optional_board_name(
+/// Returns the name of board `m`, or `None` if `m` is `None`.
+pub(crate) fn optional_board_name(
     alloc: Global,
     plant: &Plant,
     m: Option<u32>,

@@ -1,26 +1,24 @@
 ghost use Rattle.std.specs.Prelude.{◌≡◌, ◌∷◌, ◌++◌, ◌<◌, [], IfOk, OnOk, slice_get, take};
 ghost use Rattle.std.specs.List.{list_any};
 ghost use Rattle.ilk_base.specs.Option.{is_some_and};
-ghost use Rattle.ilk_plant.specs.ColumnRules.{is_leg};
+ghost use Rattle.ilk_plant.specs.ColumnRules.{is_leg_at_position};
 ghost use Rattle.ilk_tablegen.specs.Routes.{point_listed_between, points_along, position_towards};
 
-use ilk_plant::{Listed, Plant, Position, Row, is_leg};
+use ilk_plant::{Listed, Plant, Position, Row, is_leg_at_position};
 use std::alloc::{AllocError, Global};
 
 fn leads_along(plant: &Plant, x: u32, at: Position, before: u32, after: &[u32]) -> bool
     ensures { result
-        ≡ list_any (λ y. is_some_and (slice_get plant.now.sections x) (is_leg at y))
+        ≡ list_any (λ y. is_some_and (slice_get plant.now.sections x) (is_leg_at_position at y))
         (before ∷ take 1 after.now) }
 {
-    is_leg(plant, x, at, before)
+    is_leg_at_position(plant, x, at, before)
         || match after {
-            [next, ..] => is_leg(plant, x, at, *next),
+            [next, ..] => is_leg_at_position(plant, x, at, *next),
             [] => false,
         }
 }
 
-// Returns the position of section `x` whose leg is the section before it or the first after it.
-// Returns `None` if `x` has no such leg.
 fn position_towards(plant: &Plant, before: u32, x: u32, after: &[u32]) -> Option<Position>
     ensures { result ≡ position_towards plant.now (before ∷ take 1 after.now) x }
 {
@@ -49,9 +47,9 @@ fn push_listed(
     Ok(())
 }
 
-/// Returns each point of a path that begins after section `start`, in order. Its position is that
-/// whose leg is the section before it or the one after it.
-pub fn points_along(
+/// Returns each point of `path`, in order, with its position along the path: that of the leg which
+/// is the section before it or the one after it. The path begins after section `start`.
+pub(crate) fn points_along(
     alloc: Global,
     plant: &Plant,
     start: u32,

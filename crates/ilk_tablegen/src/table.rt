@@ -2,7 +2,7 @@ ghost use Rattle.std.specs.Prelude.{◌≡◌, ◌≤◌, IfOk, length, map};
 ghost use Rattle.ilk_plant.specs.declared.limits.TheConstants.{MAX_ROUTES};
 ghost use Rattle.ilk_tablegen.specs.Table.{name_of, listed_point_draft, route_draft, table_draft, route_name, generation_result};
 
-use crate::endless::board_with_overlong_way;
+use crate::endless::first_board_with_overlong_way;
 use crate::names::{board_name, optional_board_name, section_name};
 use crate::routes::routes_of_ways;
 use crate::walks::Walks;
@@ -110,7 +110,7 @@ fn table_draft(alloc: Global, plant: &Plant, routes: &Row<Route>) -> Result<Tabl
 pub fn routes_of(alloc: Global, plant: &Plant) -> Result<Walks, AllocError>
     ensures { IfOk result (λ found. found ≡ generation_result plant.now) }
 {
-    if let Some(board) = board_with_overlong_way(alloc, plant)? {
+    if let Some(board) = first_board_with_overlong_way(alloc, plant)? {
         return Ok(Walks::TooLong { board });
     }
     match ways_within_route_limit(alloc, plant)? {

@@ -3,7 +3,8 @@ use ilk_plant::TableDraft;
 /// The result of generating an interlocking table for a network.
 #[derive(Drop)]
 pub enum Walks {
-    /// The routes, one for each way from a board to the next one or to the end of the track.
+    /// The interlocking table: one route for each way from a board to the next one or to the end of
+    /// the track.
     Routes(TableDraft),
     /// From this board, and from no earlier one, some way doesn't end within `MAX_PATH` sections.
     TooLong { board: u32 },

@@ -1,31 +1,31 @@
 ghost use Rattle.std.specs.Prelude.{◌≡◌, ◌++◌, ◌<◌, All, IfOk, OnOk, None, flat_map, length, map, nat_lt, option_to_list};
 ghost use Rattle.ilk_plant.specs.Network.{last_of};
-ghost use Rattle.ilk_tablegen.specs.Rounds.{initial_ways, ways_within_route_limit, last_section_or_start, is_finished_way, extended_or_finished_ways, extended_way};
-ghost use Rattle.ilk_tablegen.specs.Ways.{board_with_overlong_way};
+ghost use Rattle.ilk_tablegen.specs.Rounds.{empty_way_per_board, ways_within_route_limit, last_section_or_start, is_finished_way, extended_or_finished_ways, extended_way};
+ghost use Rattle.ilk_tablegen.specs.Ways.{first_board_with_overlong_way};
 ghost use Rattle.ilk_plant.specs.declared.limits.TheConstants.{MAX_ROUTES};
 
 use crate::ends::way_ends_at_section;
 use ilk_plant::{Board, MAX_PATH, MAX_ROUTES, Plant, Row};
 use std::alloc::{AllocError, Global};
 
-/// A way from board `from` with number `source`, as far as it is listed.
+/// A way (candidate route path) from board `from`, whose number is `source`: the sections listed so
+/// far.
 #[derive(Drop)]
-pub struct Way {
+pub(crate) struct WayFromBoard {
     pub source: u32,
     pub from: Board,
     pub path: Row<u32>,
 }
 
-/// Returns the last section of a way. Returns `None` if it has no section yet.
+/// Returns the last section of `way`, or `None` if it has no section yet.
 #[tactic(auto, using(ilk_base::proofs::Lists::last_item))]
-pub fn last_section(way: &Way) -> Option<u32>
+pub(crate) fn last_section(way: &WayFromBoard) -> Option<u32>
     ensures { result ≡ last_of way.now.path }
 {
     way.path.as_slice().last().copied()
 }
 
-// Returns the section that a way has reached, at first that of its board.
-fn head_of(way: &Way) -> u32
+fn head_of(way: &WayFromBoard) -> u32
     ensures { result ≡ last_section_or_start way.now }
 {
     match last_section(way) {
@@ -34,19 +34,19 @@ fn head_of(way: &Way) -> u32
     }
 }
 
-fn is_ended(plant: &Plant, way: &Way) -> bool
+fn is_ended(plant: &Plant, way: &WayFromBoard) -> bool
     requires { last_section_or_start way.now < length plant.now.sections }
     ensures { result ≡ is_finished_way plant.now way.now }
 {
     way.path.len() != 0 && way_ends_at_section(plant, way.from.dir, head_of(way))
 }
 
-fn way_over(alloc: Global, way: &Way, y: u32) -> Result<Way, AllocError>
+fn way_over(alloc: Global, way: &WayFromBoard, y: u32) -> Result<WayFromBoard, AllocError>
     ensures { IfOk result (λ made. made ≡ extended_way way.now y) }
 {
     let mut path = way.path.copy()?;
     path.push(y)?;
-    Ok(Way {
+    Ok(WayFromBoard {
         source: way.source,
         from: way.from,
         path,
@@ -55,8 +55,8 @@ fn way_over(alloc: Global, way: &Way, y: u32) -> Result<Way, AllocError>
 
 fn push_over(
     alloc: Global,
-    made: &mut Row<Way>,
-    way: &Way,
+    made: &mut Row<WayFromBoard>,
+    way: &WayFromBoard,
     next: Option<u32>,
 ) -> Result<(), AllocError>
     ensures { OnOk result (made.new ≡ made.old
@@ -68,18 +68,17 @@ fn push_over(
     Ok(())
 }
 
-// Adds a way that has ended as it is; otherwise adds its extensions by one section.
 fn push_longer(
     alloc: Global,
     plant: &Plant,
-    made: &mut Row<Way>,
-    way: &Way,
+    made: &mut Row<WayFromBoard>,
+    way: &WayFromBoard,
 ) -> Result<(), AllocError>
     requires { last_section_or_start way.now < length plant.now.sections }
     ensures { OnOk result (made.new ≡ made.old ++ extended_or_finished_ways plant.now way.now) }
 {
     if is_ended(plant, way) {
-        made.push(Way {
+        made.push(WayFromBoard {
             source: way.source,
             from: way.from,
             path: way.path.copy()?,
@@ -92,7 +91,11 @@ fn push_longer(
 }
 
 // Lengthens each way that hasn't ended by one section, over all legs that it can take.
-fn all_longer(alloc: Global, plant: &Plant, ways: &Row<Way>) -> Result<Row<Way>, AllocError>
+fn all_longer(
+    alloc: Global,
+    plant: &Plant,
+    ways: &Row<WayFromBoard>,
+) -> Result<Row<WayFromBoard>, AllocError>
     requires { All (λ way. last_section_or_start way < length plant.now.sections) ways.now }
     ensures { IfOk result (λ made. made ≡ flat_map (extended_or_finished_ways plant.now) ways.now) }
 {
@@ -103,13 +106,12 @@ fn all_longer(alloc: Global, plant: &Plant, ways: &Row<Way>) -> Result<Row<Way>,
     Ok(made)
 }
 
-// Creates the empty ways, one for each board.
-fn begun_ways(alloc: Global, plant: &Plant) -> Result<Row<Way>, AllocError>
-    ensures { IfOk result (λ ways. ways ≡ initial_ways plant.now) }
+fn begun_ways(alloc: Global, plant: &Plant) -> Result<Row<WayFromBoard>, AllocError>
+    ensures { IfOk result (λ ways. ways ≡ empty_way_per_board plant.now) }
 {
     let mut ways = Row::new(alloc);
     for m in 0..plant.boards() {
-        ways.push(Way {
+        ways.push(WayFromBoard {
             source: m,
             from: *plant.board(m),
             path: Row::new(alloc),
@@ -118,16 +120,19 @@ fn begun_ways(alloc: Global, plant: &Plant) -> Result<Row<Way>, AllocError>
     Ok(ways)
 }
 
-fn are_too_many(ways: &Row<Way>) -> bool
+fn are_too_many(ways: &Row<WayFromBoard>) -> bool
     ensures { result ≡ nat_lt MAX_ROUTES (length ways.now) }
 {
     ways.len() > MAX_ROUTES
 }
 
-/// Returns the ways of the network, each of which ends within `MAX_PATH` sections. Returns `None`
-/// if there are more than `MAX_ROUTES`.
-pub fn ways_within_route_limit(alloc: Global, plant: &Plant) -> Result<Option<Row<Way>>, AllocError>
-    requires { board_with_overlong_way plant.now ≡ None }
+/// Returns the ways of the network. Each has to end within `MAX_PATH` sections. Returns `None` if
+/// there are more than `MAX_ROUTES`.
+pub(crate) fn ways_within_route_limit(
+    alloc: Global,
+    plant: &Plant,
+) -> Result<Option<Row<WayFromBoard>>, AllocError>
+    requires { first_board_with_overlong_way plant.now ≡ None }
     ensures { IfOk result (λ ways. ways ≡ ways_within_route_limit plant.now) }
 {
     plant.prove_is_plant();

@@ -1,50 +1,50 @@
 -- The bytes of a source that a reader was fed by successive calls.
 use Rattle.std.proofs.Common.{◌≡◌, ℕ, ◌+◌, ◌≤◌, IfErr, IfOk, Option, Result, Ok, Err, List, ◌++◌, length, append_assoc, ap, subst, sym, length-append, arith}
-use Rattle.ilk_answers.specs.Reader.{ExtraReaderHasRead, WasFed}
-use Rattle.ilk_answers.specs.declared.reader.ExtraReader.{ExtraReader}
+use Rattle.ilk_answers.specs.Reader.{ReaderHasReadExtraInput, ReaderWasFedBytes}
+use Rattle.ilk_answers.specs.declared.reader.ExtraInputReader.{ExtraInputReader}
 use Rattle.ilk_io.proofs.Taken.{Consumes-then}
 use Rattle.ilk_io.specs.ReadError.{ReadErrorHasCause}
 use Rattle.ilk_io.specs.declared.reading.ReadError.{ReadError}
 use Rattle.ilk_io.specs.declared.reading.ReadError.TheVariants.{TooLong}
 use Rattle.ilk_io.specs.Source.{HasMoreThan, Consumes, ConsumesAtMost}
-use Rattle.ilk_top.specs.Feeding.{WasFedWhole}
+use Rattle.ilk_top.specs.Feeding.{FedWholeSourceWithinLimit}
 
-WasFed-then : (first second third : ExtraReader) (front back : List ℕ) → WasFed first second front → WasFed second third back → WasFed first third (front ++ back)
-WasFed-then first second third front back one two command p read h =
-    subst (ExtraReaderHasRead command p third) (append_assoc read front back) (two command p (read ++ front) (one command p read h))
+ReaderWasFedBytes-then : (first second third : ExtraInputReader) (front back : List ℕ) → ReaderWasFedBytes first second front → ReaderWasFedBytes second third back → ReaderWasFedBytes first third (front ++ back)
+ReaderWasFedBytes-then first second third front back one two command p read h =
+    subst (ReaderHasReadExtraInput command p third) (append_assoc read front back) (two command p (read ++ front) (one command p read h))
 
 -- Holds if the reader was fed all `count` bytes taken of the source so far.
-pub record Fed (old new : Option (List ℕ)) (before reader : ExtraReader) (count : ℕ) : Type 0 where
+pub record Fed (old new : Option (List ℕ)) (before reader : ExtraInputReader) (count : ℕ) : Type 0 where
   pub done : List ℕ
   pub takes : Consumes old new done
-  pub fed : WasFed before reader done
+  pub fed : ReaderWasFedBytes before reader done
   pub counted : length done ≡ count
 
 pub Fed-more :
-    (old new after : Option (List ℕ)) (before reader more : ExtraReader) (count : ℕ) (piece given : List ℕ) (n : ℕ)
+    (old new after : Option (List ℕ)) (before reader more : ExtraInputReader) (count : ℕ) (piece given : List ℕ) (n : ℕ)
     →
     Fed old new before reader count → Consumes new after piece → length piece ≡ n → given ≡ piece →
-    WasFed reader more given → Fed old after before more (count + n)
+    ReaderWasFedBytes reader more given → Fed old after before more (count + n)
 Fed-more old new after before reader more count piece given n so_far takes same whole fed = record {
   done = so_far.done ++ piece;
   takes = Consumes-then old new after so_far.done piece so_far.takes takes;
-  fed = subst (WasFed before more) (ap (λ last. so_far.done ++ last) whole) (WasFed-then before reader more so_far.done given so_far.fed fed);
+  fed = subst (ReaderWasFedBytes before more) (ap (λ last. so_far.done ++ last) whole) (ReaderWasFedBytes-then before reader more so_far.done given so_far.fed fed);
   counted = omega (arith, length-append so_far.done piece, so_far.counted, same);
 }
 
-pub Fed-then : (old new after : Option (List ℕ)) (before reader : ExtraReader) (count : ℕ) (piece : List ℕ) (n : ℕ) → Fed old new before reader count → Consumes new after piece → count + length piece ≤ n → ConsumesAtMost n old after
+pub Fed-then : (old new after : Option (List ℕ)) (before reader : ExtraInputReader) (count : ℕ) (piece : List ℕ) (n : ℕ) → Fed old new before reader count → Consumes new after piece → count + length piece ≤ n → ConsumesAtMost n old after
 Fed-then old new after before reader count piece n fed takes within = (
   fed.done ++ piece,
   omega (arith, length-append fed.done piece, fed.counted, within),
   Consumes-then old new after fed.done piece fed.takes takes,
 )
 
-pub kept-whole : {A E : Type 0} (left : Option (List ℕ)) (limit : ℕ) (before after kept : ExtraReader) (x : A) (read : Result A E) (result : Result ExtraReader E)
-    → result ≡ Ok kept → IfOk result (λ k. (k ≡ after) × (read ≡ Ok x)) → IfOk read (λ _. WasFedWhole left limit before after) → WasFedWhole left limit before kept
+pub kept-whole : {A E : Type 0} (left : Option (List ℕ)) (limit : ℕ) (before after kept : ExtraInputReader) (x : A) (read : Result A E) (result : Result ExtraInputReader E)
+    → result ≡ Ok kept → IfOk result (λ k. (k ≡ after) × (read ≡ Ok x)) → IfOk read (λ _. FedWholeSourceWithinLimit left limit before after) → FedWholeSourceWithinLimit left limit before kept
 kept-whole left limit before after kept x read result is held whole =
     let both : (kept ≡ after) × (read ≡ Ok x) = subst (λ r. IfOk r (λ k. (k ≡ after) × (read ≡ Ok x))) is held in
-    let fed : WasFedWhole left limit before after = subst (λ r. IfOk r (λ _. WasFedWhole left limit before after)) both.1 whole in
-    subst (WasFedWhole left limit before) (sym both.0) fed
+    let fed : FedWholeSourceWithinLimit left limit before after = subst (λ r. IfOk r (λ _. FedWholeSourceWithinLimit left limit before after)) both.1 whole in
+    subst (FedWholeSourceWithinLimit left limit before) (sym both.0) fed
 
 pub kept-longer : {A B : Type 0} (left : Option (List ℕ)) (limit old new : ℕ) (read : Result A ReadError) (result : Result B ReadError)
     → result ≡ Err TooLong → IfErr result (λ e. read ≡ Err e) → IfErr read (λ e. ReadErrorHasCause e limit left old new) → HasMoreThan left limit

@@ -1,11 +1,11 @@
--- With strict columns, the answers that were written say this of the configuration.
+-- With strict columns, the written answers have the guarantees of `run`.
 use Rattle.std.proofs.Common.{◌≡◌, ℕ, true, Option, Some, IfSome, List, ◌++◌, option_map, refl, sym, ap, ◌∙◌, subst}
 use Rattle.std.specs.List.{list_all}
 use Rattle.std.proofs.lemmas.List.{append_cancel_left}
 use Rattle.std.proofs.lemmas.Option.{same_Some}
 use Rattle.ilk_plant.specs.Plant.{PlantLists}
-use Rattle.ilk_answers.specs.Status.{is_answer_status}
-use Rattle.ilk_answers.specs.Strict.{HasOnlyLines, HasSafePlant, HasTableOf, IsCleanAndSafe, IsCleanConfOfPlant, ReplyHasStrictGuarantees, SaysSafeAtOneOrSpent, ReportsNoHazard, has_beginning, harmless_refusal_beginnings}
+use Rattle.ilk_answers.specs.Status.{is_fault_free_status}
+use Rattle.ilk_answers.specs.Strict.{HasOnlyLines, HasSafePlantDespiteColumns, ReplyHasTableOfConf, IsCleanAndKeepsInvariant, StrictlyCleanConfHasPlant, ReplyHasStrictGuarantees, SaysSafeAtOneOrSpent, DriveReportsNoHazard, has_beginning, harmless_refusal_beginnings}
 use Rattle.ilk_answers.proofs.FirstLines.{lines-narrower}
 use Rattle.ilk_answers.specs.declared.reply.Reply.{Reply}
 use Rattle.ilk_answers.specs.declared.status.Status.{Status}
@@ -28,20 +28,19 @@ module _ {L O : Type 0} (cert_written : L → Option (List ℕ)) (cert_faults : 
   pub check-told : (asked : Option Command) (conf extra : Option (List ℕ)) →
       WritesAnswer (ReplyHasStrictGuarantees asked conf extra) cert_written cert_faults out_written out_faults status cert_old
       cert_new out_old out_new →
-      asked ≡ Some (Check Strict) → status ≡ Good → IfSome conf IsCleanAndSafe
+      asked ≡ Some (Check Strict) → status ≡ Good → IfSome conf IsCleanAndKeepsInvariant
   check-told asked conf extra told is good =
-      let t = told.whole (subst (λ s. is_answer_status s ≡ true) (sym good) refl) in t.1.check is (sym t.2 ∙ good)
+      let t = told.whole (subst (λ s. is_fault_free_status s ≡ true) (sym good) refl) in t.1.check is (sym t.2 ∙ good)
 
-  -- The allowed beginnings may be any, if each of them begins in a harmless way.
   pub deviations-told : (asked : Option Command) (conf extra : Option (List ℕ)) →
       WritesAnswer (ReplyHasStrictGuarantees asked conf extra) cert_written cert_faults out_written out_faults status cert_old
       cert_new out_old out_new →
       (allowed : List (List ℕ)) → list_all (has_beginning harmless_refusal_beginnings) allowed ≡ true →
       (before report : List ℕ) → asked ≡ Some (Check Strict) → status ≡ Refused →
       out_written out_old ≡ Some before → out_written out_new ≡ Some (before ++ report) →
-      HasOnlyLines allowed report → IfSome conf HasSafePlant
+      HasOnlyLines allowed report → IfSome conf HasSafePlantDespiteColumns
   deviations-told asked conf extra told allowed harmless before report is refused old new lines =
-      let t = told.whole (subst (λ s. is_answer_status s ≡ true) (sym refused) refl) in
+      let t = told.whole (subst (λ s. is_fault_free_status s ≡ true) (sym refused) refl) in
       let added : Some (before ++ report) ≡ Some (before ++ t.0.report) =
       sym new ∙ t.3.report ∙ ap (option_map (λ all. all ++ t.0.report)) old in
       let same : report ≡ t.0.report = append_cancel_left before report t.0.report (same_Some (before ++ report) (before ++ t.0.report) added) in
@@ -52,7 +51,7 @@ module _ {L O : Type 0} (cert_written : L → Option (List ℕ)) (cert_faults : 
       WritesAnswer (ReplyHasStrictGuarantees asked conf extra) cert_written cert_faults out_written out_faults status cert_old
       cert_new out_old out_new →
       (depth conflicts : ℕ) (name bytes : List ℕ) (p : PlantLists) →
-      asked ≡ Some (Verify Strict depth conflicts name) → conf ≡ Some bytes → IsCleanConfOfPlant bytes p →
+      asked ≡ Some (Verify Strict depth conflicts name) → conf ≡ Some bytes → StrictlyCleanConfHasPlant bytes p →
       WritesAnswer (SaysSafeAtOneOrSpent p depth conflicts) cert_written cert_faults out_written out_faults status
       cert_old cert_new out_old out_new
   verify-told asked conf extra told depth conflicts name bytes p is at clean =
@@ -62,16 +61,16 @@ module _ {L O : Type 0} (cert_written : L → Option (List ℕ)) (cert_faults : 
       WritesAnswer (ReplyHasStrictGuarantees asked conf extra) cert_written cert_faults out_written out_faults status cert_old
       cert_new out_old out_new →
       (columns : ColumnRuleMode) → asked ≡ Some (Table columns) →
-      WritesAnswer (λ made. made.status ≡ Good → IfSome conf (λ bytes. HasTableOf columns bytes made)) cert_written
+      WritesAnswer (λ made. made.status ≡ Good → IfSome conf (λ bytes. ReplyHasTableOfConf columns bytes made)) cert_written
       cert_faults out_written out_faults status cert_old cert_new out_old out_new
   table-told asked conf extra told columns is =
-      WritesAnswer-as (ReplyHasStrictGuarantees asked conf extra) (λ made. made.status ≡ Good → IfSome conf (λ bytes. HasTableOf columns bytes made)) (λ made right. right.table columns is) told
+      WritesAnswer-as (ReplyHasStrictGuarantees asked conf extra) (λ made. made.status ≡ Good → IfSome conf (λ bytes. ReplyHasTableOfConf columns bytes made)) (λ made right. right.table columns is) told
 
   pub drive-told : (asked : Option Command) (conf extra : Option (List ℕ)) →
       WritesAnswer (ReplyHasStrictGuarantees asked conf extra) cert_written cert_faults out_written out_faults status cert_old
       cert_new out_old out_new →
       (name bytes : List ℕ) → asked ≡ Some (Drive Strict name) → conf ≡ Some bytes →
-      WritesAnswer (ReportsNoHazard name bytes extra) cert_written cert_faults out_written out_faults status cert_old
+      WritesAnswer (DriveReportsNoHazard name bytes extra) cert_written cert_faults out_written out_faults status cert_old
       cert_new out_old out_new
   drive-told asked conf extra told name bytes is at =
-      WritesAnswer-as (ReplyHasStrictGuarantees asked conf extra) (ReportsNoHazard name bytes extra) (λ made right. right.drive name bytes is at) told
+      WritesAnswer-as (ReplyHasStrictGuarantees asked conf extra) (DriveReportsNoHazard name bytes extra) (λ made right. right.drive name bytes is at) told

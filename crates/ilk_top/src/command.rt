@@ -1,23 +1,22 @@
 ghost use Rattle.std.specs.Prelude.{◌≡◌, ◌≢◌, IfOk, IsTrue, Err, Some, [], is_ok};
 ghost use Rattle.ilk_answers.specs.Answer.{IsAnswerTo};
-ghost use Rattle.ilk_answers.specs.Reply.{FitsIoPlan};
-ghost use Rattle.ilk_answers.specs.Status.{reached_writing, is_reply_status};
+ghost use Rattle.ilk_answers.specs.Reply.{HasAllowedStatusAndCertificate};
+ghost use Rattle.ilk_answers.specs.Status.{had_reply_to_write, is_fault_free_command_status};
 ghost use Rattle.ilk_answers.specs.Strict.{ReplyHasStrictGuarantees};
-ghost use Rattle.ilk_top.specs.Handled.{Handled, SinksHandled, SourcesHandled};
+ghost use Rattle.ilk_top.specs.Handled.{SourcesAndSinksHandled, SinksWrittenByStatus, SourcesReadAndFaultsCounted};
 ghost use Rattle.ilk_top.specs.Outside.{WritesAnswer};
 ghost use Rattle.ilk_words.specs.Limits.{within_option_limits};
 ghost use Rattle.ilk_words.specs.Plan.{plan_of};
 
-use crate::conf_stage::read_plant;
+use crate::conf_stage::read_plant_or_refusals;
 use crate::extra_stage::read_extra_and_reply;
 use crate::no_reply::NoReply;
-use crate::writing::write_content;
+use crate::writing::write_pending_output;
 use ilk_answers::{Reply, Status, answer_without_conf, refuse};
 use ilk_io::{Sink, Source};
 use ilk_words::{CheckedRuleStages, Command};
 use std::alloc::Global;
 
-// Reads the configuration and the extra input of the command, and computes the reply.
 fn conf_reply<C: Source, D: Source>(
     alloc: Global,
     command: &Command,
@@ -31,14 +30,15 @@ fn conf_reply<C: Source, D: Source>(
         (IsAnswerTo (Some command.now) (C.left conf.old) (D.left extra.old)) }
     ensures strict { IfOk result
         (ReplyHasStrictGuarantees (Some command.now) (C.left conf.old) (D.left extra.old)) }
-    ensures planned { IfOk result (FitsIoPlan (plan_of command.now)) }
-    ensures handled { SourcesHandled C.left C.faults D.left D.faults (plan_of command.now)
+    ensures planned { IfOk result (HasAllowedStatusAndCertificate (plan_of command.now)) }
+    ensures handled { SourcesReadAndFaultsCounted C.left C.faults D.left D.faults
+        (plan_of command.now)
         (result ≡ Err NoReply.ReadFault) (is_ok result) conf.old conf.new extra.old extra.new }
 {
-    match read_plant(alloc, stages, conf)? {
+    match read_plant_or_refusals(alloc, stages, conf)? {
         Ok(plant) => {
             plant.prove_is_plant();
-            plant.prove_from_drafts();
+            plant.prove_sound_acyclic_drafts();
             let reply = read_extra_and_reply(alloc, command, &plant, extra);
             drop(plant);
             reply
@@ -51,7 +51,6 @@ fn conf_reply<C: Source, D: Source>(
     }
 }
 
-// Reads what the command reads, if anything, and computes the reply.
 fn command_reply<C: Source, D: Source>(
     alloc: Global,
     command: &Command,
@@ -63,8 +62,9 @@ fn command_reply<C: Source, D: Source>(
         (IsAnswerTo (Some command.now) (C.left conf.old) (D.left extra.old)) }
     ensures strict { IfOk result
         (ReplyHasStrictGuarantees (Some command.now) (C.left conf.old) (D.left extra.old)) }
-    ensures planned { IfOk result (FitsIoPlan (plan_of command.now)) }
-    ensures handled { SourcesHandled C.left C.faults D.left D.faults (plan_of command.now)
+    ensures planned { IfOk result (HasAllowedStatusAndCertificate (plan_of command.now)) }
+    ensures handled { SourcesReadAndFaultsCounted C.left C.faults D.left D.faults
+        (plan_of command.now)
         (result ≡ Err NoReply.ReadFault) (is_ok result) conf.old conf.new extra.old extra.new }
 {
     match command.plan().stages {
@@ -73,15 +73,15 @@ fn command_reply<C: Source, D: Source>(
     }
 }
 
-// Writes the certificate of a reply, then its report. Returns `WriteFault` if a sink failed; that
-// sink then gained a prefix.
+// Writes the certificate of a reply, then its report. Returns `WriteFault` at the first call that
+// fails.
 fn tell<O: Sink, L: Sink>(reply: Reply, out: &mut O, cert: &mut L) -> Status
-    requires { IsTrue (is_reply_status reply.status) }
+    requires { IsTrue (is_fault_free_command_status reply.status) }
     ensures answer { WritesAnswer (λ made. made ≡ reply) L.written L.faults O.written O.faults
         result
         cert.old cert.new out.old out.new }
-    ensures told { IsTrue (reached_writing result) }
-    ensures handled { SinksHandled O.faults L.faults (reply.certificate ≡ []) result out.old
+    ensures told { IsTrue (had_reply_to_write result) }
+    ensures handled { SinksWrittenByStatus O.faults L.faults (reply.certificate ≡ []) result out.old
         out.new cert.old cert.new }
 {
     let Reply {
@@ -89,13 +89,13 @@ fn tell<O: Sink, L: Sink>(reply: Reply, out: &mut O, cert: &mut L) -> Status
         mut report,
         mut certificate,
     } = reply;
-    let certified = write_content(cert, &mut certificate);
+    let certified = write_pending_output(cert, &mut certificate);
     drop(certificate);
     if certified.is_err() {
         drop(report);
         return Status::WriteFault;
     }
-    let told = write_content(out, &mut report);
+    let told = write_pending_output(out, &mut report);
     drop(report);
     match told {
         Ok(()) => status,
@@ -103,8 +103,9 @@ fn tell<O: Sink, L: Sink>(reply: Reply, out: &mut O, cert: &mut L) -> Status
     }
 }
 
-/// Executes one command. Ensures the clauses of `run` for that command, as one record.
-pub fn perform<C: Source, D: Source, O: Sink, L: Sink>(
+/// Executes one command over these sources and sinks, and returns its status. Its contract is that
+/// of `run`, for this command.
+pub(crate) fn perform<C: Source, D: Source, O: Sink, L: Sink>(
     alloc: Global,
     command: &Command,
     conf: &mut C,
@@ -119,7 +120,7 @@ pub fn perform<C: Source, D: Source, O: Sink, L: Sink>(
     ensures strict { WritesAnswer
         (ReplyHasStrictGuarantees (Some command.now) (C.left conf.old) (D.left extra.old)) L.written
         L.faults O.written O.faults result cert.old cert.new out.old out.new }
-    ensures handled { Handled C.left C.faults D.left D.faults O.faults L.faults
+    ensures handled { SourcesAndSinksHandled C.left C.faults D.left D.faults O.faults L.faults
         (plan_of command.now) result conf.old conf.new extra.old extra.new out.old out.new
         cert.old cert.new }
     ensures no_usage { result ≢ Status.Usage }

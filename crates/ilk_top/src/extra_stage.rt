@@ -1,19 +1,18 @@
 ghost use Rattle.std.specs.Prelude.{◌≡◌, ◌^◌, ◌<◌, true, IfErr, IfOk, IsTrue, Ok, Err, Some, is_ok, is_some};
-ghost use Rattle.ilk_answers.specs.Besides.{AnswersSomeExtra};
-ghost use Rattle.ilk_answers.specs.Reply.{FitsIoPlan};
-ghost use Rattle.ilk_top.specs.Handled.{SourceHandled};
+ghost use Rattle.ilk_answers.specs.Besides.{AnswersForSomeExtraInput};
+ghost use Rattle.ilk_answers.specs.Reply.{HasAllowedStatusAndCertificate};
+ghost use Rattle.ilk_top.specs.Handled.{SourceReadAndFaultCounted};
 ghost use Rattle.ilk_words.specs.Limits.{within_option_limits};
 ghost use Rattle.ilk_words.specs.Plan.{plan_of};
 
 use crate::no_reply::NoReply;
-use crate::pieces::read_pieces;
-use ilk_answers::{ExtraReader, Reply, answer, answer_without_extra};
+use crate::pieces::feed_whole_source_to_reader;
+use ilk_answers::{ExtraInputReader, Reply, answer, answer_without_extra};
 use ilk_io::{ReadError, Source};
 use ilk_plant::Plant;
 use ilk_words::Command;
 use std::alloc::Global;
 
-// Returns `into`, or the error if reading failed.
 fn unless_failed<T: Drop>(read: Result<(), ReadError>, into: T) -> Result<T, ReadError>
     ensures kept { IfOk result (λ kept. (kept ≡ into) × (read ≡ Ok tt)) }
     ensures failed { IfErr result (λ error. read ≡ Err error) }
@@ -24,8 +23,6 @@ fn unless_failed<T: Drop>(read: Result<(), ReadError>, into: T) -> Result<T, Rea
     }
 }
 
-// Reads the extra input to its end and computes the reply. The reply is a refusal if the input is
-// longer than `limit`. Fails with `ReadFault` at the first fault of the source.
 fn reply_to_extra<D: Source>(
     alloc: Global,
     command: &Command,
@@ -37,13 +34,15 @@ fn reply_to_extra<D: Source>(
     requires over { is_some (plan_of command.now).stages ≡ true }
     requires limit { (plan_of command.now).extra ≡ Some limit }
     requires small { limit < 2 ^ 40 }
-    ensures reply { IfOk result (AnswersSomeExtra command.now (Ok plant.now) (D.left extra.old)) }
-    ensures planned { IfOk result (FitsIoPlan (plan_of command.now)) }
-    ensures handled { SourceHandled D.left D.faults (Some true) (plan_of command.now).extra
+    ensures reply { IfOk result (AnswersForSomeExtraInput command.now (Ok plant.now)
+        (D.left extra.old)) }
+    ensures planned { IfOk result (HasAllowedStatusAndCertificate (plan_of command.now)) }
+    ensures handled { SourceReadAndFaultCounted D.left D.faults (Some true)
+        (plan_of command.now).extra
         (result ≡ Err NoReply.ReadFault) (is_ok result) extra.old extra.new }
 {
-    let mut reader = ExtraReader::new(alloc, command, plant)?;
-    let read = read_pieces(extra, limit, &mut reader);
+    let mut reader = ExtraInputReader::new(alloc, command, plant)?;
+    let read = feed_whole_source_to_reader(extra, limit, &mut reader);
     match unless_failed(read, reader) {
         Ok(reader) => Ok(answer(alloc, command, plant, reader)?),
         Err(ReadError::TooLong) => Ok(Reply::too_long(alloc)?),
@@ -52,9 +51,10 @@ fn reply_to_extra<D: Source>(
     }
 }
 
-/// Returns the reply of a command to a plant and to its extra input. If the command has one, reads
-/// it to its end, in pieces.
-pub fn read_extra_and_reply<D: Source>(
+/// Returns the reply of `command` on `plant`. If the command has an extra input, reads it from
+/// `extra` to its end, in pieces; if that is too long, the reply is a refusal. Fails with
+/// `ReadFault` at the first call of `extra` that fails.
+pub(crate) fn read_extra_and_reply<D: Source>(
     alloc: Global,
     command: &Command,
     plant: &Plant,
@@ -62,9 +62,11 @@ pub fn read_extra_and_reply<D: Source>(
 ) -> Result<Reply, NoReply>
     requires options { IsTrue (within_option_limits command.now) }
     requires over { is_some (plan_of command.now).stages ≡ true }
-    ensures reply { IfOk result (AnswersSomeExtra command.now (Ok plant.now) (D.left extra.old)) }
-    ensures planned { IfOk result (FitsIoPlan (plan_of command.now)) }
-    ensures handled { SourceHandled D.left D.faults (Some true) (plan_of command.now).extra
+    ensures reply { IfOk result (AnswersForSomeExtraInput command.now (Ok plant.now)
+        (D.left extra.old)) }
+    ensures planned { IfOk result (HasAllowedStatusAndCertificate (plan_of command.now)) }
+    ensures handled { SourceReadAndFaultCounted D.left D.faults (Some true)
+        (plan_of command.now).extra
         (result ≡ Err NoReply.ReadFault) (is_ok result) extra.old extra.new }
 {
     match command.plan().extra {

@@ -8,8 +8,8 @@
 //! `ilk_words` reads the arguments and plans the rest. `conf_stage` turns the configuration into a
 //! plant or its refusals. `extra_stage` reads the extra input (a certificate, run, refutation or
 //! scenario) in `pieces`. `command` writes the reply, by `writing`, and returns the status. Each
-//! stage ensures a part of the record `Handled` (`specs/Handled.antt`): the meaning of each status
-//! for the sources and sinks.
+//! stage ensures its part of `specs/Handled.antt`: what happened to the sources and sinks, for each
+//! status.
 #![tactic(auto)]
 
 mod command;

@@ -4,10 +4,10 @@ ghost use Rattle.std.specs.Prelude.{◌≡◌};
 use std::alloc::AllocError;
 use thiserror::Error;
 
-/// The reason why there is no reply.
+/// The reason why a command gives no reply.
 #[derive(Clone, Copy, PartialEq, Eq, Debug, Error)]
-pub enum NoReply {
-    /// A source failed.
+pub(crate) enum NoReply {
+    /// A call of a source failed.
     #[error("a read failed")]
     ReadFault,
     /// Memory ran out.

@@ -1,28 +1,29 @@
 ghost use Rattle.std.specs.Prelude.{◌≡◌, ◌≢◌, ◌+◌, ◌^◌, ◌<◌, ◌≤◌, Err, IfOk, IfErr};
 ghost use Rattle.ilk_io.specs.ReadError.{ReadErrorHasCause};
 ghost use Rattle.ilk_io.specs.Source.{IsAtEnd, ConsumesAtMost};
-ghost use Rattle.ilk_top.specs.Feeding.{WasFedWhole};
+ghost use Rattle.ilk_top.specs.Feeding.{FedWholeSourceWithinLimit};
 
-use ilk_answers::ExtraReader;
+use ilk_answers::ExtraInputReader;
 use ilk_io::{Failed, ReadError, Source};
 
 // The most bytes requested from a source in one call.
 const PIECE: usize = 65536;
 
-/// Reads `source` to its end, at most `limit` bytes, and feeds them to `reader` in pieces. They are
-/// all the bytes that were left, if the source exposes those.
+/// Reads `source` to its end, at most `limit` bytes, and feeds them to `reader` in pieces. Fails
+/// with:
 ///
-/// Fails with `Failed` at the first call that fails: exactly one fault is counted, and the source
-/// is not called again. Fails with `TooLong` if there are more than `limit` bytes and no call
-/// failed first. Without `Failed` the fault count is unchanged. At most `limit + 1` bytes are read,
-/// and gone from the source even after an error.
-pub fn read_pieces<S: Source>(
+/// - `Failed` at the first call of `source` that fails. Exactly one fault is counted, and the
+///   source is not called again.
+/// - `TooLong` if there are more than `limit` bytes. At most `limit + 1` are taken from the source.
+/// - `OutOfMemory` if the reader gets no memory.
+pub(crate) fn feed_whole_source_to_reader<S: Source>(
     source: &mut S,
     limit: u64,
-    reader: &mut ExtraReader<'_>,
+    reader: &mut ExtraInputReader<'_>,
 ) -> Result<(), ReadError>
     requires limit { limit < 2 ^ 40 }
-    ensures whole { IfOk result (λ _. WasFedWhole (S.left source.old) limit reader.old reader.new) }
+    ensures whole { IfOk result (λ _.
+        FedWholeSourceWithinLimit (S.left source.old) limit reader.old reader.new) }
     ensures end { IfOk result (λ _. IsAtEnd (S.left source.new)) }
     ensures cause { IfErr result
         (λ e. ReadErrorHasCause e limit (S.left source.old) (S.faults source.old)

@@ -2,18 +2,19 @@ ghost use Rattle.std.specs.Prelude.{◌≡◌, [], IsOk, OnErr, OnOk, ◌≤◌}
 ghost use Rattle.ilk_io.specs.Faults.{CountedOneFault};
 ghost use Rattle.ilk_io.specs.Sink.{Appends, AppendsPrefix};
 
-use ilk_answers::Content;
+use ilk_answers::PendingOutput;
 use ilk_io::{Failed, Sink, write_all};
 
 // The most bytes passed to a sink in one call.
 const PIECE: usize = 65536;
 
-/// Writes the whole content to `sink`, in pieces. Allocates no memory.
-///
-/// Fails at the first call of the sink that fails, which is not called again: exactly one fault is
-/// counted, and a prefix of the content was written. With `Ok` the fault count is unchanged. An
-/// empty content makes no call.
-pub fn write_content<K: Sink>(sink: &mut K, content: &mut Content) -> Result<(), Failed>
+/// Writes all bytes of `content` to `sink`, in pieces, and allocates no memory. Empty content makes
+/// no call. Fails at the first call of the sink that fails: exactly one fault is counted, a prefix
+/// was written, and the sink is not called again.
+pub(crate) fn write_pending_output<K: Sink>(
+    sink: &mut K,
+    content: &mut PendingOutput,
+) -> Result<(), Failed>
     ensures whole { OnOk result (Appends (K.written sink.old) (K.written sink.new) content.old) }
     ensures prefix { AppendsPrefix (K.written sink.old) (K.written sink.new) content.old }
     ensures failed { OnErr result (CountedOneFault (K.faults sink.old) (K.faults sink.new)) }

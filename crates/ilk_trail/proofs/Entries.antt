@@ -1,4 +1,3 @@
--- The entry of a variable, in a list with one more entry.
 use Rattle.std.proofs.Common.{◌≡◌, ◌≢◌, ℕ, zero, suc, inl, inr, true, false, eqb, List, [], ◌∷◌, ◌++◌, refl, ap, ◌∙◌, arith, Some, None}
 use Rattle.std.specs.List.{slice_get}
 use Rattle.std.proofs.lemmas.Bool.{or_parts, or_left, or_right}
@@ -30,7 +29,6 @@ entry_of-new es e h =
     let q : eqb e.lit.var e.lit.var ≡ true = grind (arith, nat_tests) in
     find-append (λ (x : Entry). eqb x.lit.var e.lit.var) es (e ∷ []) ∙ rw (entry_of-unset es e.lit.var h, q) refl
 
--- The index of a variable's entry.
 pub record Found (es : List Entry) (v : ℕ) : Type 0 where
   pub place : ℕ
   pub entry : Entry

@@ -1,4 +1,3 @@
--- The fields after each change of the entries.
 use Rattle.std.proofs.Common.{◌≡◌, ◌≢◌, ℕ, ◌+◌, ◌^◌, ◌<◌, ◌≤◌, inl, inr, Bool, true, false, List, [], ◌∷◌, ◌++◌, length, get_or, set, sym, ap, subst, ◌∙◌, arith, Option, Some, None, length-append}
 use Rattle.std.specs.List.{slice_get}
 use Rattle.std.specs.Bool.{beq}
@@ -11,36 +10,34 @@ use Rattle.ilk_cnf.specs.Literal.{Literal}
 use Rattle.ilk_cnf.specs.Formula.{is_lit_over}
 use Rattle.ilk_cnf.proofs.Literals.{has_distinct_vars-push, is_lit_over-parts}
 use Rattle.ilk_trail.specs.declared.entry.Entry.{Entry}
-use Rattle.ilk_trail.specs.Trail.{TrailList, entry_of, last_level, level_of}
-use Rattle.ilk_trail.specs.Laws.{IsTrail, is_next_level, is_set, lits_of}
+use Rattle.ilk_trail.specs.Trail.{TrailList, entry_of, last_level_or, level_of}
+use Rattle.ilk_trail.specs.Laws.{IsTrail, may_follow_level, is_set, lits_of}
 use Rattle.ilk_trail.specs.Stored.{StoresTrail}
 use Rattle.ilk_base.proofs.Lists.{slice_get-push_cases, at-before}
 use Rattle.ilk_trail.proofs.Entries.{lits_of-push, entry_of-unset, entry_of-other, entry_of-new, found, set-at}
 use Rattle.ilk_trail.proofs.Literals.{has_distinct_vars-front, is_clause_over-push, is_clause_over-front, count_of_vars}
 use Rattle.ilk_trail.proofs.Values.{set_both, length-set_both, set_both-same, set_both-other}
-use Rattle.ilk_trail.proofs.Levels.{has_rising_levels-push, has_rising_levels-front, level-small}
+use Rattle.ilk_trail.proofs.Levels.{each_may_follow_level-push, each_may_follow_level-front, level-small}
 
--- The value of literal `m`, if `e` is the entry of its variable.
 abbrev truth : Literal → Entry → Bool
 truth m e = beq e.lit.positive m.positive
 
 pub trail-add : (n : ℕ) (es : List Entry) (e : Entry) → IsTrail (record { vars = n; entries = es }) →
-    is_lit_over n e.lit ≡ true → is_set es e.lit.var ≡ false → is_next_level (last_level 0 es) e ≡ true →
+    is_lit_over n e.lit ≡ true → is_set es e.lit.var ≡ false → may_follow_level (last_level_or 0 es) e ≡ true →
     IsTrail (record { vars = n; entries = es ++ e ∷ [] })
 trail-add n es e t h u k = record {
   few = t.few;
   within = rw (lits_of-push es e) (is_clause_over-push n (lits_of es) e.lit t.within h);
   once = rw (lits_of-push es e) (has_distinct_vars-push (lits_of es) e.lit t.once u);
-  climbing = has_rising_levels-push 0 es e t.climbing k;
+  climbing = each_may_follow_level-push 0 es e t.climbing k;
 }
 
 pub trail-take : (n : ℕ) (es : List Entry) (e : Entry) → IsTrail (record { vars = n; entries = es ++ e ∷ [] }) → IsTrail (record { vars = n; entries = es }) × (is_lit_over n e.lit ≡ true) × (is_set es e.lit.var ≡ false)
 trail-take n es e t =
     let w = is_clause_over-front n (lits_of es) e.lit (rw (lits_of-push es e) at t.within) in
     let d = has_distinct_vars-front (lits_of es) e.lit (rw (lits_of-push es e) at t.once) in
-    (record { few = t.few; within = w.0; once = d.0; climbing = (has_rising_levels-front 0 es e t.climbing).0 }, w.1, d.1)
+    (record { few = t.few; within = w.0; once = d.0; climbing = (each_may_follow_level-front 0 es e t.climbing).0 }, w.1, d.1)
 
--- The capacity suffices for the entry of an unset variable.
 pub room-for : (n : ℕ) (es : List Entry) (l : Literal) → IsTrail (record { vars = n; entries = es }) → is_lit_over n l ≡ true → is_set es l.var ≡ false → length es < n + 1
 room-for n es l t h u =
     let c = count_of_vars n (lits_of es ++ l ∷ []) (is_clause_over-push n (lits_of es) l t.within h) (has_distinct_vars-push (lits_of es) l t.once u) in
@@ -50,7 +47,7 @@ room-for n es l t h u =
 pub stored-add :
     (values : List (Option Bool)) (places : List ℕ) (n : ℕ) (es : List Entry) (e : Entry) (size more : ℕ) →
     StoresTrail values places (record { vars = n; entries = es }) size → size ≤ more → is_lit_over n e.lit ≡ true →
-    is_set es e.lit.var ≡ false → is_next_level (last_level 0 es) e ≡ true →
+    is_set es e.lit.var ≡ false → may_follow_level (last_level_or 0 es) e ≡ true →
     StoresTrail (set_both values e.lit (λ b. Some b)) (set places e.lit.var (length es))
     (record { vars = n; entries = es ++ e ∷ [] }) more
 stored-add values places n es e size more k le h u c = let w : e.lit.var ≤ n = (is_lit_over-parts n e.lit h).1 in record {
@@ -98,7 +95,6 @@ stands-at-place values places t size v k s =
     let q : get_or places v 0 ≡ f.place = (let P : ℕ → Type 0 = λ j. get_or places j 0 ≡ f.place in subst P f.named (k.place f.place f.entry f.stands)) in
     (rw q (f.stands ∙ sym f.first), rw q (slice_get_within t.entries f.place f.entry f.stands))
 
--- Levels are far below the maximum integer.
 pub level-fits : (t : TrailList) → IsTrail t → level_of t.entries ≤ 2 ^ 62 + 1
 level-fits t k =
     let c = count_of_vars t.vars (lits_of t.entries) k.within k.once in

@@ -1,4 +1,3 @@
--- Literals over different variables of 1 to `n`.
 use Rattle.std.proofs.Common.{◌≡◌, ℕ, ◌+◌, ◌<◌, ◌≤◌, inl, inr, true, false, eqb, List, [], ◌∷◌, ◌++◌, length, map, refl, sym, ◌∙◌, arith}
 use Rattle.std.specs.List.{list_any, IsDistinct, AllByRecursion}
 use Rattle.std.proofs.lemmas.List.{length-map}
@@ -30,7 +29,6 @@ is_clause_over-front n (m ∷ ls) l h =
     let r = is_clause_over-front n ls l p.1 in
     (and_from _ _ p.0 r.0, r.1)
 
--- There are at most `n` of them.
 vars_of : List Literal → List ℕ
 vars_of ls = map (λ (l : Literal). l.var) ls
 

@@ -1,4 +1,3 @@
--- The list of values, indexed by literal.
 use Rattle.std.proofs.Common.{◌≡◌, ◌≢◌, ℕ, ◌+◌, ◌*◌, ◌<◌, ◌≤◌, Bool, true, false, if◌then◌else◌, List, length, get_or, set, sym, subst, ◌∙◌, arith, Option, None}
 use Rattle.std.specs.Bool.{beq}
 use Rattle.std.proofs.lemmas.List.{get_or-set_same, get_or-set_other}

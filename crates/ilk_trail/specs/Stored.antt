@@ -6,9 +6,9 @@ use Rattle.ilk_trail.specs.declared.entry.Entry.{Entry}
 use Rattle.ilk_trail.specs.Trail.{TrailList, value_of_literal}
 use Rattle.ilk_trail.specs.Laws.{IsTrail}
 
--- Holds if the fields store the trail `t`: each literal's value at its number, and each entry's
--- index at its variable. Both lists have space for one extra variable, as do the entries with
--- capacity `room`.
+-- Holds if `values` has each literal's value at its code, and `places` the index of each set
+-- variable's entry. Both also have space for variable 0, and the capacity `room` exceeds the number
+-- of variables.
 pub record StoresTrail (values : List (Option Bool)) (places : List ℕ) (t : TrailList) (room : ℕ) : Type 0 where
   pub values_long : length values ≡ 2 * (t.vars + 1)
   pub places_long : length places ≡ t.vars + 1

@@ -1,7 +1,7 @@
 use ilk_cnf::Lit;
 
 /// A true literal on the trail, with its level and its reason: the number of the clause that forced
-/// it. A decision has no reason.
+/// it, or `None` for a decision.
 #[derive(Clone, Copy)]
 pub struct Entry {
     pub lit: Lit,

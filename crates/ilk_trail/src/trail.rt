@@ -2,14 +2,14 @@ ghost use Rattle.std.specs.Prelude.{◌≡◌, ◌≤◌, ◌<◌, ◌+◌, ◌^
 ghost use Rattle.ilk_cnf.specs.Code.{code_of};
 ghost use Rattle.ilk_cnf.specs.Formula.{is_lit_over};
 ghost use Rattle.ilk_trail.specs.Trail.{with_assignment, with_decision, entry_of, level_of, entries_up_to, value_of_literal};
-ghost use Rattle.ilk_trail.specs.Laws.{IsTrail, is_next_level, is_set};
+ghost use Rattle.ilk_trail.specs.Laws.{IsTrail, may_follow_level, is_set};
 
 use crate::entry::Entry;
 use ilk_cnf::Lit;
 use std::alloc::{AllocError, Global};
 use std::marker::Model;
 
-/// The literals that are set, in the order of assignment.
+/// The literals that are set, in the order of assignment, each with its level and reason.
 #[derive(Drop)]
 pub struct Trail {
     // By literal: whether it is true, or `None` if its variable is unset.
@@ -47,7 +47,7 @@ impl Trail {
         })
     }
 
-    /// Returns whether `l` is true, or `None` if its variable is unset.
+    /// Returns whether literal `l` is true, or `None` if its variable is unset.
     pub fn value(&self, l: Lit) -> Option<bool>
         requires { IsTrue (is_lit_over self.now.vars l) }
         ensures { result ≡ value_of_literal self.now.entries l }
@@ -55,7 +55,7 @@ impl Trail {
         self.values[place_of(l)]
     }
 
-    /// Returns the current level.
+    /// Returns the current level, which is 0 at the start.
     pub fn level(&self) -> u64
         ensures level { result ≡ level_of self.now.entries }
         ensures is_trail { IsTrail self.now }
@@ -66,7 +66,7 @@ impl Trail {
         }
     }
 
-    /// Returns the level of the entry for the variable of `l`.
+    /// Returns the level at which the variable of `l` was set. It has to be set.
     pub fn level_of(&self, l: Lit) -> u64
         requires within { IsTrue (is_lit_over self.now.vars l) }
         requires set { IsTrue (is_set self.now.entries l.var) }
@@ -75,7 +75,8 @@ impl Trail {
         self.entry_of(l).level
     }
 
-    /// Returns the reason of the entry for the variable of `l`, or `None` if it was decided.
+    /// Returns the number of the clause that forced the variable of `l`, which is set. Returns
+    /// `None` if it was decided.
     pub fn reason(&self, l: Lit) -> Option<u64>
         requires within { IsTrue (is_lit_over self.now.vars l) }
         requires set { IsTrue (is_set self.now.entries l.var) }
@@ -84,7 +85,6 @@ impl Trail {
         self.entry_of(l).reason
     }
 
-    // Returns the entry for the variable of `l`.
     fn entry_of(&self, l: Lit) -> Entry
         requires within { IsTrue (is_lit_over self.now.vars l) }
         requires set { IsTrue (is_set self.now.entries l.var) }
@@ -102,7 +102,7 @@ impl Trail {
         self.entries.len() as u64
     }
 
-    /// Returns the literal of entry `i`.
+    /// Returns the literal of entry `i`, counted from 0.
     pub fn at(&self, i: u64) -> Lit
         requires { i < length self.now.entries }
         ensures { option_map (λ e. e.lit) (slice_get self.now.entries i) ≡ Some result }
@@ -110,7 +110,7 @@ impl Trail {
         self.entries[i as usize].lit
     }
 
-    /// Opens the next level and adds `l` to it without a reason.
+    /// Opens the next level with literal `l` as its decision. Its variable is unset.
     pub fn decide(&mut self, l: Lit)
         requires within { IsTrue (is_lit_over self.old.vars l) }
         requires unset { is_set self.old.entries l.var ≡ false }
@@ -123,7 +123,8 @@ impl Trail {
         });
     }
 
-    /// Adds `l` at the current level, forced by the clause `reason`.
+    /// Adds literal `l` at the current level, forced by clause number `reason`. Its variable is
+    /// unset.
     pub fn assign(&mut self, l: Lit, reason: u64)
         requires within { IsTrue (is_lit_over self.old.vars l) }
         requires unset { is_set self.old.entries l.var ≡ false }
@@ -139,7 +140,7 @@ impl Trail {
         });
     }
 
-    /// Removes the levels above `level`.
+    /// Removes all entries of levels above `level`.
     pub fn back_to(&mut self, level: u64)
         requires { level ≤ level_of self.old.entries }
         ensures entries { self.new ≡ record self.old {
@@ -156,7 +157,7 @@ impl Trail {
     fn add(&mut self, entry: Entry)
         requires within { IsTrue (is_lit_over self.old.vars entry.lit) }
         requires unset { is_set self.old.entries entry.lit.var ≡ false }
-        requires level { IsTrue (is_next_level (level_of self.old.entries) entry) }
+        requires level { IsTrue (may_follow_level (level_of self.old.entries) entry) }
         ensures { self.new ≡ record self.old { entries = self.old.entries ++ entry ∷ [] } }
     {
         self.values[place_of(entry.lit)] = Some(true);
@@ -166,7 +167,6 @@ impl Trail {
         self.entries.push(entry).unwrap();
     }
 
-    // Removes and returns the last entry.
     fn take_last(&mut self) -> Entry
         requires { 0 < length self.old.entries }
         ensures { self.old ≡ record self.new { entries = self.new.entries ++ result ∷ [] } }
@@ -178,7 +178,6 @@ impl Trail {
     }
 }
 
-// Returns the index of the value of `l`.
 fn place_of(l: Lit) -> usize
     requires { l.var ≤ 2 ^ 62 }
     ensures { result ≡ code_of l }

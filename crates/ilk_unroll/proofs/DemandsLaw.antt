@@ -10,18 +10,18 @@ use Rattle.ilk_base.proofs.Ranges.{range-more}
 use Rattle.ilk_base.specs.Option.{is_some_and}
 use Rattle.ilk_cnf.specs.Literal.{Literal}
 use Rattle.ilk_cnf.specs.Formula.{Formula}
-use Rattle.ilk_cnf.specs.Extends.{ExtensionsAreExactly, PassesWithExactValues}
+use Rattle.ilk_cnf.specs.Extends.{ExtensionsAreExactly, PassesAndEqualsGivenValues}
 use Rattle.ilk_cnf.specs.Part.{FormulaPart, empty_part, with_part, and_then}
 use Rattle.ilk_cnf.proofs.Extending.{no_more_if}
 use Rattle.ilk_cnf.proofs.Gates.{with_part-and_then}
 use Rattle.ilk_ir.specs.Tree.{Tree, all_of, negation, trees_from_list, tree_holds, tree_valid}
 use Rattle.ilk_ir.proofs.Trees.{each_valid-trees_from_list}
-use Rattle.ilk_forms.specs.declared.copy.VarLits.{VarLits}
+use Rattle.ilk_forms.specs.declared.copy.VarValueAndBoundLits.{VarValueAndBoundLits}
 use Rattle.ilk_forms.specs.Leaf.{has_lits_within_vars, ranges_of}
 use Rattle.ilk_forms.specs.Gathered.{bool_equals}
-use Rattle.ilk_forms.specs.Demand.{lit_or_form_part}
-use Rattle.ilk_forms.specs.Truths.{lit_or_form_bits}
-use Rattle.ilk_forms.specs.Violated.{violated_part, violated_bits}
+use Rattle.ilk_forms.specs.Demand.{some_lit_or_form_part}
+use Rattle.ilk_forms.specs.Truths.{some_lit_or_form_bits}
+use Rattle.ilk_forms.specs.Violated.{form_fails_part, form_fails_bits}
 use Rattle.ilk_forms.proofs.Reading.{Reads, reads}
 use Rattle.ilk_forms.proofs.DemandLaw.{PartFits, demand_of-fits, demand_of-law}
 use Rattle.ilk_forms.proofs.FormViolated.{violated-fits, violated-law}
@@ -29,11 +29,11 @@ use Rattle.ilk_step.proofs.RulesLaw.{then-fits, then-law}
 use Rattle.ilk_unroll.specs.declared.queries.Wanted.{Wanted}
 use Rattle.ilk_unroll.specs.declared.queries.Wanted.TheVariants.{Hazard, Breach, Step}
 use Rattle.ilk_unroll.specs.Goal.{PlainGoal, CopyDemand, goal_valid, step_count, must_hold_in, must_fail_in, must_hold_below, demands_of}
-use Rattle.ilk_unroll.specs.Run.{is_met_by}
-use Rattle.ilk_unroll.specs.Query.{table_at, demanded_part, demands_part}
+use Rattle.ilk_unroll.specs.Run.{demand_is_met_by_run}
+use Rattle.ilk_unroll.specs.Query.{copy_lits_at, demanded_part, demands_part}
 use Rattle.ilk_unroll.specs.Assignment.{demanded_bits, demands_bits}
-use Rattle.ilk_unroll.specs.Tables.{are_copies_over, HaveRanges}
-use Rattle.ilk_unroll.proofs.CopiesLaw.{TablesSay, table-at, tables_say-more, are_copies_over-more}
+use Rattle.ilk_unroll.specs.Tables.{are_copies_within_vars, CopiesHaveRanges}
+use Rattle.ilk_unroll.proofs.CopiesLaw.{TablesSay, table-at, tables_say-more, are_copies_within_vars-more}
 
 same : (n : ℕ) → n ≤ n
 same n = omega arith
@@ -42,79 +42,81 @@ same n = omega arith
 abbrev pub demanded_valid : List ℕ → ℕ → CopyDemand → Bool
 demanded_valid ranges count d = nat_lt d.copy count && tree_valid ranges d.form
 
-holds-fits : (holds : Bool) (columns : List VarLits) (t : Tree) (n : ℕ) → has_lits_within_vars n columns ≡ true → tree_valid (ranges_of columns) t ≡ true → PartFits n (cond holds (lit_or_form_part columns [] t n) (violated_part columns t n))
+holds-fits : (holds : Bool) (columns : List VarValueAndBoundLits) (t : Tree) (n : ℕ) → has_lits_within_vars n columns ≡ true → tree_valid (ranges_of columns) t ≡ true → PartFits n (cond holds (some_lit_or_form_part columns [] t n)
+    (form_fails_part columns t n))
 holds-fits true columns t n h k = demand_of-fits t columns [] true n h refl k
 holds-fits false columns t n h k = violated-fits t columns n h k
 
-table-in : (tables : List (List VarLits)) (n j : ℕ) → are_copies_over n tables ≡ true → j < length tables → has_lits_within_vars n (table_at tables j) ≡ true
+table-in : (tables : List (List VarValueAndBoundLits)) (n j : ℕ) → are_copies_within_vars n tables ≡ true → j < length tables → has_lits_within_vars n (copy_lits_at tables j) ≡ true
 table-in [] n j h less = absurd (omega arith)
-table-in (table ∷ tables) n zero h less = (and_parts (has_lits_within_vars n table) (are_copies_over n tables) h).0
-table-in (table ∷ tables) n (suc j) h less = table-in tables n j (and_parts (has_lits_within_vars n table) (are_copies_over n tables) h).1 (omega arith)
+table-in (table ∷ tables) n zero h less = (and_parts (has_lits_within_vars n table) (are_copies_within_vars n tables) h).0
+table-in (table ∷ tables) n (suc j) h less = table-in tables n j (and_parts (has_lits_within_vars n table) (are_copies_within_vars n tables) h).1 (omega arith)
 
-table-ranges : (tables : List (List VarLits)) (ranges : List ℕ) (j : ℕ) → HaveRanges ranges tables → j < length tables → ranges_of (table_at tables j) ≡ ranges
+table-ranges : (tables : List (List VarValueAndBoundLits)) (ranges : List ℕ) (j : ℕ) → CopiesHaveRanges ranges tables → j < length tables → ranges_of (copy_lits_at tables j) ≡ ranges
 table-ranges [] ranges j h less = absurd (omega arith)
 table-ranges (table ∷ tables) ranges zero h less = h.0
 table-ranges (table ∷ tables) ranges (suc j) h less = table-ranges tables ranges j h.1 (omega arith)
 
-demands_of-fits : (tables : List (List VarLits)) (ranges : List ℕ) (d : CopyDemand) (n : ℕ) → are_copies_over n tables ≡ true → HaveRanges ranges tables → demanded_valid ranges (length tables) d ≡ true → PartFits n (demanded_part tables d n)
+demands_of-fits : (tables : List (List VarValueAndBoundLits)) (ranges : List ℕ) (d : CopyDemand) (n : ℕ) → are_copies_within_vars n tables ≡ true → CopiesHaveRanges ranges tables → demanded_valid ranges (length tables) d ≡ true →
+    PartFits n (demanded_part tables d n)
 demands_of-fits tables ranges d n h r valid =
     let parts = and_parts (nat_lt d.copy (length tables)) (tree_valid ranges d.form) valid in
     let less : d.copy < length tables = ltb-true d.copy (length tables) parts.0 in
-    holds-fits d.holds (table_at tables d.copy) d.form n (table-in tables n d.copy h less) (ap (λ (rs : List ℕ). tree_valid rs d.form) (table-ranges tables ranges d.copy r less) ∙ parts.1)
+    holds-fits d.holds (copy_lits_at tables d.copy) d.form n (table-in tables n d.copy h less) (ap (λ (rs : List ℕ). tree_valid rs d.form) (table-ranges tables ranges d.copy r less) ∙ parts.1)
 
-pub demands-fits : (ds : List CopyDemand) (tables : List (List VarLits)) (ranges : List ℕ) (n : ℕ) →
-    are_copies_over n tables ≡ true → HaveRanges ranges tables →
+pub demands-fits : (ds : List CopyDemand) (tables : List (List VarValueAndBoundLits)) (ranges : List ℕ) (n : ℕ) →
+    are_copies_within_vars n tables ≡ true → CopiesHaveRanges ranges tables →
     list_all (demanded_valid ranges (length tables)) ds ≡ true → PartFits n (demands_part tables ds n)
 demands-fits [] tables ranges n h r valid = record { low = same n; inside = refl }
 demands-fits (d ∷ ds) tables ranges n h r valid =
     let parts = and_parts (demanded_valid ranges (length tables) d) (list_all (demanded_valid ranges (length tables)) ds) valid in
     let p = demanded_part tables d n in
     let one = demands_of-fits tables ranges d n h r parts.0 in
-    then-fits n p (demands_part tables ds) one (demands-fits ds tables ranges p.vars (are_copies_over-more n p.vars tables one.low h) r parts.1)
+    then-fits n p (demands_part tables ds) one (demands-fits ds tables ranges p.vars (are_copies_within_vars-more n p.vars tables one.low h) r parts.1)
 
 holds-law :
-    (holds : Bool) (columns : List VarLits) (ranges values : List ℕ) (t : Tree) (a : List Bool) (n : ℕ) →
+    (holds : Bool) (columns : List VarValueAndBoundLits) (ranges values : List ℕ) (t : Tree) (a : List Bool) (n : ℕ) →
     length a ≡ n → Reads a columns ranges values → tree_valid (ranges_of columns) t ≡ true →
-    ExtensionsAreExactly a (cond holds (lit_or_form_part columns [] t n) (violated_part columns t n)).vars
-    (cond holds (lit_or_form_part columns [] t n) (violated_part columns t n)).clauses
-    (PassesWithExactValues (bool_equals holds (tree_holds values t))
-    (cond holds (lit_or_form_bits ranges values t) (violated_bits ranges values t)))
+    ExtensionsAreExactly a (cond holds (some_lit_or_form_part columns [] t n) (form_fails_part columns t n)).vars
+    (cond holds (some_lit_or_form_part columns [] t n) (form_fails_part columns t n)).clauses
+    (PassesAndEqualsGivenValues (bool_equals holds (tree_holds values t))
+    (cond holds (some_lit_or_form_bits ranges values t) (form_fails_bits ranges values t)))
 holds-law true columns ranges values t a n size r k = demand_of-law t columns ranges values [] true a n size r refl k
 holds-law false columns ranges values t a n size r k = violated-law t columns ranges values a n size r k
 
 demands_of-law :
-    (tables : List (List VarLits)) (run : List (List ℕ)) (ranges : List ℕ) (d : CopyDemand) (a : List Bool)
+    (tables : List (List VarValueAndBoundLits)) (run : List (List ℕ)) (ranges : List ℕ) (d : CopyDemand) (a : List Bool)
     (n : ℕ) → length a ≡ n →
     TablesSay a n ranges tables run → demanded_valid ranges (length tables) d ≡ true →
     ExtensionsAreExactly a (demanded_part tables d n).vars (demanded_part tables d n).clauses
-    (PassesWithExactValues (is_met_by run d) (demanded_bits ranges run d))
+    (PassesAndEqualsGivenValues (demand_is_met_by_run run d) (demanded_bits ranges run d))
 demands_of-law tables run ranges d a n size h valid =
     let parts = and_parts (nat_lt d.copy (length tables)) (tree_valid ranges d.form) valid in
     let less : d.copy < length tables = ltb-true d.copy (length tables) parts.0 in
     let at = table-at tables run a n ranges d.copy h less in
-    let table = table_at tables d.copy in
+    let table = copy_lits_at tables d.copy in
     let values = get_or run d.copy [] in
     let p = demanded_part tables d n in
     let says = at.0 in
     let law = holds-law d.holds table ranges values d.form a n size (reads a table ranges values n size says.within says.says says.in_range) (ap (λ (rs : List ℕ). tree_valid rs d.form) says.has_ranges ∙ parts.1) in
-    let met : bool_equals d.holds (tree_holds values d.form) ≡ is_met_by run d = ap (λ (o : Option (List ℕ)). is_some_and o (λ ws. bool_equals d.holds (tree_holds ws d.form))) (sym at.1) in
-    subst (λ (b : Bool). ExtensionsAreExactly a p.vars p.clauses (PassesWithExactValues b (demanded_bits ranges run d))) met law
+    let met : bool_equals d.holds (tree_holds values d.form) ≡ demand_is_met_by_run run d = ap (λ (o : Option (List ℕ)). is_some_and o (λ ws. bool_equals d.holds (tree_holds ws d.form))) (sym at.1) in
+    subst (λ (b : Bool). ExtensionsAreExactly a p.vars p.clauses (PassesAndEqualsGivenValues b (demanded_bits ranges run d))) met law
 
 pub demands-law :
-    (ds : List CopyDemand) (tables : List (List VarLits)) (run : List (List ℕ)) (ranges : List ℕ) (a : List Bool)
+    (ds : List CopyDemand) (tables : List (List VarValueAndBoundLits)) (run : List (List ℕ)) (ranges : List ℕ) (a : List Bool)
     (n : ℕ) → length a ≡ n →
-    are_copies_over n tables ≡ true → HaveRanges ranges tables → TablesSay a n ranges tables run →
+    are_copies_within_vars n tables ≡ true → CopiesHaveRanges ranges tables → TablesSay a n ranges tables run →
     list_all (demanded_valid ranges (length tables)) ds ≡ true →
     ExtensionsAreExactly a (demands_part tables ds n).vars (demands_part tables ds n).clauses
-    (PassesWithExactValues (list_all (is_met_by run) ds) (demands_bits ranges run ds))
+    (PassesAndEqualsGivenValues (list_all (demand_is_met_by_run run) ds) (demands_bits ranges run ds))
 demands-law [] tables run ranges a n size inside r h valid = no_more_if a n [] true size refl
 demands-law (d ∷ ds) tables run ranges a n size inside r h valid =
     let parts = and_parts (demanded_valid ranges (length tables) d) (list_all (demanded_valid ranges (length tables)) ds) valid in
     let p = demanded_part tables d n in
     let e = demanded_bits ranges run d in
     let one = demands_of-fits tables ranges d n inside r parts.0 in
-    let more = are_copies_over-more n p.vars tables one.low inside in
-    then-law a e (demands_bits ranges run ds) (is_met_by run d) (list_all (is_met_by run) ds) n p
+    let more = are_copies_within_vars-more n p.vars tables one.low inside in
+    then-law a e (demands_bits ranges run ds) (demand_is_met_by_run run d) (list_all (demand_is_met_by_run run) ds) n p
     (demands_part tables ds) size one (demands-fits ds tables ranges p.vars more r parts.1)
     (demands_of-law tables run ranges d a n size h parts.0)
     (λ long. demands-law ds tables run ranges (a ++ e) p.vars long more r
@@ -179,7 +181,7 @@ demands_of-valid ranges g (Step n) h =
     (one-valid ranges (suc n) n (all_of (trees_from_list (negation g.hazard ∷ g.families))) false
     (omega arith) k.safe) refl)
 
-demands-append : (xs ys : List CopyDemand) (tables : List (List VarLits)) (n : ℕ) → demands_part tables (xs ++ ys) n ≡ and_then (demands_part tables xs n) (demands_part tables ys)
+demands-append : (xs ys : List CopyDemand) (tables : List (List VarValueAndBoundLits)) (n : ℕ) → demands_part tables (xs ++ ys) n ≡ and_then (demands_part tables xs n) (demands_part tables ys)
 demands-append [] ys tables n = refl
 demands-append (x ∷ xs) ys tables n =
     let p = demanded_part tables x n in
@@ -188,7 +190,7 @@ demands-append (x ∷ xs) ys tables n =
     ap (λ (u : FormulaPart). record { vars = u.vars; clauses = p.clauses ++ u.clauses }) (demands-append xs ys tables p.vars)
     ∙ ap (λ (cs : List (List Literal)). record { vars = rest.vars; clauses = cs }) (sym (append_assoc p.clauses q.clauses rest.clauses))
 
-pub demands-then : (xs ys : List CopyDemand) (tables : List (List VarLits)) (f g h : Formula) → g ≡ with_part f (demands_part tables xs f.vars) → h ≡ with_part g (demands_part tables ys g.vars) →
+pub demands-then : (xs ys : List CopyDemand) (tables : List (List VarValueAndBoundLits)) (f g h : Formula) → g ≡ with_part f (demands_part tables xs f.vars) → h ≡ with_part g (demands_part tables ys g.vars) →
     h ≡ with_part f (demands_part tables (xs ++ ys) f.vars)
 demands-then xs ys tables f g h one two =
     two
@@ -196,7 +198,7 @@ demands-then xs ys tables f g h one two =
     ∙ with_part-and_then f (demands_part tables xs f.vars) (demands_part tables ys)
     ∙ ap (with_part f) (sym (demands-append xs ys tables f.vars))
 
-pub demands-rest : (xs ys zs : List CopyDemand) (tables : List (List VarLits)) (f g end : Formula) →
+pub demands-rest : (xs ys zs : List CopyDemand) (tables : List (List VarValueAndBoundLits)) (f g end : Formula) →
     zs ≡ xs ++ ys → g ≡ with_part f (demands_part tables xs f.vars) →
     with_part f (demands_part tables zs f.vars) ≡ end → with_part g (demands_part tables ys g.vars) ≡ end
 demands-rest xs ys zs tables f g end split one h =
@@ -209,12 +211,12 @@ demands-rest xs ys zs tables f g end split one h =
 pub nothing-made : (f : Formula) → f ≡ with_part f (empty_part f.vars)
 nothing-made f = ap (λ (cs : List (List Literal)). record { vars = f.vars; clauses = cs }) (sym (append-nil f.clauses))
 
-pub one-made : (tables : List (List VarLits)) (d : CopyDemand) (f g : Formula) → g ≡ with_part f (demanded_part tables d f.vars) → g ≡ with_part f (demands_part tables (d ∷ []) f.vars)
+pub one-made : (tables : List (List VarValueAndBoundLits)) (d : CopyDemand) (f g : Formula) → g ≡ with_part f (demanded_part tables d f.vars) → g ≡ with_part f (demands_part tables (d ∷ []) f.vars)
 one-made tables d f g made =
     let p = demanded_part tables d f.vars in
     made ∙ ap (λ (cs : List (List Literal)). with_part f (record { vars = p.vars; clauses = cs })) (sym (append-nil p.clauses))
 
-pub table-is : (tables : List (List VarLits)) (j : ℕ) (table : List VarLits) → slice_get tables j ≡ Some table → table_at tables j ≡ table
+pub table-is : (tables : List (List VarValueAndBoundLits)) (j : ℕ) (table : List VarValueAndBoundLits) → slice_get tables j ≡ Some table → copy_lits_at tables j ≡ table
 table-is [] j table h = absurd cc
 table-is (t ∷ tables) zero table h = same_Some t table h
 table-is (t ∷ tables) (suc j) table h = table-is tables j table h

@@ -15,16 +15,20 @@ use Rattle.ilk_ir.specs.System.{PlainSystem, rule_valid, in_ranges}
 use Rattle.ilk_ir.proofs.Trees.{all_of-holds}
 use Rattle.ilk_unroll.specs.declared.queries.Wanted.TheVariants.{Hazard, Breach, Step}
 use Rattle.ilk_unroll.specs.Goal.{PlainGoal, CopyDemand, must_hold_in, must_fail_in, must_hold_below}
-use Rattle.ilk_unroll.specs.Run.{run_firing_rules, is_met_by}
+use Rattle.ilk_unroll.specs.Run.{run_firing_rules, demand_is_met_by_run}
 use Rattle.ilk_unroll.proofs.Runs.{run-is}
 use Rattle.ilk_unroll.specs.Evidence.{HasRun}
 use Rattle.ilk_unroll.proofs.QueryDemands.{below-each, below-from, each-below-from, IsWanted, wanted-parts, wanted-from}
 use Rattle.ilk_unroll.proofs.Middles.{middle}
 
-met-at : (run : List (List ℕ)) (d : CopyDemand) (values : List ℕ) → slice_get run d.copy ≡ Some values → is_met_by run d ≡ cond d.holds (tree_holds values d.form) (not (tree_holds values d.form))
+met-at : (run : List (List ℕ)) (d : CopyDemand) (values : List ℕ) → slice_get run d.copy ≡ Some values → demand_is_met_by_run run d ≡ cond d.holds (tree_holds values d.form) (not (tree_holds values d.form))
 met-at run d values at = ap (λ (o : Option (List ℕ)). is_some_and o (λ ws. cond d.holds (tree_holds ws d.form) (not (tree_holds ws d.form)))) at
 
-met-same : (run other : List (List ℕ)) (i j : ℕ) (t : Tree) (holds : Bool) → slice_get run i ≡ slice_get other j → is_met_by run (record { copy = i; form = t; holds = holds }) ≡ is_met_by other (record { copy = j; form = t; holds = holds })
+met-same : (run other : List (List ℕ)) (i j : ℕ) (t : Tree) (holds : Bool) → slice_get run i ≡ slice_get other j → demand_is_met_by_run run (record { copy = i; form = t; holds = holds }) ≡ demand_is_met_by_run other (record {
+  copy = j;
+  form = t;
+  holds = holds;
+})
 met-same run other i j t holds same = ap (λ (o : Option (List ℕ)). is_some_and o (λ ws. cond holds (tree_holds ws t) (not (tree_holds ws t)))) same
 
 -- A run from the start through well-formed values.
@@ -33,10 +37,9 @@ record FromStart (s : PlainSystem) (g : PlainGoal) (n : ℕ) (first rules : List
   many : length rules ≡ n
   run : List (List ℕ)
   is : run_firing_rules s first rules ≡ Some run
-  start : is_met_by run (must_hold_in 0 g.start) ≡ true
-  wellformed : (j : ℕ) → j < n → is_met_by run (must_hold_in j g.wellformed) ≡ true
+  start : demand_is_met_by_run run (must_hold_in 0 g.start) ≡ true
+  wellformed : (j : ℕ) → j < n → demand_is_met_by_run run (must_hold_in j g.wellformed) ≡ true
 
--- If no shorter run breaks a family, the values before the last keep all.
 kept-before :
     (s : PlainSystem) (g : PlainGoal) (n : ℕ) (first rules : List ℕ) (w : FromStart s g n first rules) (j : ℕ)
     (values : List ℕ) → j < n →
@@ -48,23 +51,22 @@ kept-before s g n first rules w j values less none at = by_case (list_all (tree_
     by_case false e =
         let m = middle s rules first w.run j (let many = w.many in omega arith) w.is in
         let run = take (suc j) w.run in
-        let start : is_met_by run (must_hold_in 0 g.start) ≡ true = met-same run w.run 0 0 g.start true (get-taken w.run (suc j) 0 (omega arith)) ∙ w.start in
-        let wellformed : list_all (is_met_by run) (must_hold_below g.wellformed (j + 1)) ≡ true = below-from run
+        let start : demand_is_met_by_run run (must_hold_in 0 g.start) ≡ true = met-same run w.run 0 0 g.start true (get-taken w.run (suc j) 0 (omega arith)) ∙ w.start in
+        let wellformed : list_all (demand_is_met_by_run run) (must_hold_below g.wellformed (j + 1)) ≡ true = below-from run
         g.wellformed (j + 1)
         (λ i low. met-same run w.run i i g.wellformed true (get-taken w.run (suc j) i (omega arith))
         ∙ w.wellformed i (omega arith)) in
-        let last : is_met_by run (must_fail_in j (all_of (trees_from_list g.families)))
+        let last : demand_is_met_by_run run (must_fail_in j (all_of (trees_from_list g.families)))
         ≡ true = met-at run (must_fail_in j (all_of (trees_from_list g.families))) values (get-taken w.run (suc j) j (omega arith) ∙ at) ∙ ap not (all_of-holds values g.families ∙ e) in
-        let met = and_from _ _ start (list_all-append (is_met_by run) (must_hold_below g.wellformed (j + 1)) (must_fail_in j (all_of (trees_from_list g.families)) ∷ []) ∙ and_from _ _ wellformed (and_from _ _ last refl)) in
+        let met = and_from _ _ start (list_all-append (demand_is_met_by_run run) (must_hold_below g.wellformed (j + 1)) (must_fail_in j (all_of (trees_from_list g.families)) ∷ []) ∙ and_from _ _ wellformed (and_from _ _ last refl)) in
         let wanted : IsWanted s g (Breach j) first (take j rules) = record { in_range = w.in_range; many = length-take-le j rules (let many = w.many in omega arith); run = run; is = m.before; met = met } in
         absurd (none (first, take j rules, wanted-from s g (Breach j) first (take j rules) wanted))
 
--- The same for the values from number `m` on.
 kept-later :
     (s : PlainSystem) (g : PlainGoal) (n : ℕ) (first rules : List ℕ) (w : FromStart s g n first rules) (m k : ℕ)
     → m + k ≡ n →
     ((j : ℕ) → j < n → ¬ HasRun s g (Breach j)) → (j : ℕ) → j < k →
-    list_all (λ t. is_met_by (drop m w.run) (must_hold_in j t)) g.families ≡ true
+    list_all (λ t. demand_is_met_by_run (drop m w.run) (must_hold_in j t)) g.families ≡ true
 kept-later s g n first rules w m k whole none j less =
     let many = w.many in
     let here = middle s rules first w.run (m + j) (omega arith) w.is in
@@ -72,11 +74,10 @@ kept-later s g n first rules w m k whole none j less =
     ap (λ (o : Option (List ℕ)). list_all (λ t. is_some_and o (λ ws. tree_holds ws t)) g.families) at
     ∙ kept-before s g n first rules w (m + j) here.values (omega arith) (none (m + j) (omega arith)) here.at
 
--- If the last values have a hazard or break a family, the last `k` steps are a run of a step query.
 last-steps : (s : PlainSystem) (g : PlainGoal) (k n : ℕ) (first rules : List ℕ) →
     list_all (rule_valid s.ranges) s.rules ≡ true → k ≤ n → (w : FromStart s g n first rules) →
     ((j : ℕ) → j < n → ¬ HasRun s g (Breach j)) →
-    is_met_by w.run (must_fail_in n (all_of (trees_from_list (negation g.hazard ∷ g.families)))) ≡ true → HasRun s g (Step k)
+    demand_is_met_by_run w.run (must_fail_in n (all_of (trees_from_list (negation g.hazard ∷ g.families)))) ≡ true → HasRun s g (Step k)
 last-steps s g k n first rules valid le w none last =
     let many = w.many in
     let m = middle s rules first w.run (n - k) (omega arith) w.is in
@@ -84,17 +85,17 @@ last-steps s g k n first rules valid le w none last =
     let far : (n - k) + k ≡ n = omega arith in
     let in_range : in_ranges m.values s.ranges ≡ true = list_all-slice_get (λ values. in_ranges values s.ranges) w.run (n - k) m.values (run-is s rules first w.run valid w.in_range w.is).in_range m.at in
     let same : (i : ℕ) (t : Tree) (holds : Bool) →
-    is_met_by run (record { copy = i; form = t; holds = holds })
-    ≡ is_met_by w.run (record { copy = (n - k) + i; form = t; holds = holds }) =
+    demand_is_met_by_run run (record { copy = i; form = t; holds = holds })
+    ≡ demand_is_met_by_run w.run (record { copy = (n - k) + i; form = t; holds = holds }) =
     λ i t holds. met-same run w.run i ((n - k) + i) t holds (get-dropped w.run (n - k) i) in
-    let wellformed : list_all (is_met_by run) (must_hold_below g.wellformed k) ≡ true = below-from run g.wellformed k (λ j less. same j g.wellformed true ∙ w.wellformed ((n - k) + j) (omega arith)) in
+    let wellformed : list_all (demand_is_met_by_run run) (must_hold_below g.wellformed k) ≡ true = below-from run g.wellformed k (λ j less. same j g.wellformed true ∙ w.wellformed ((n - k) + j) (omega arith)) in
     let families = λ (j : ℕ) (less : j < k). kept-later s g n first rules w (n - k) k far none j less in
     let T = all_of (trees_from_list (negation g.hazard ∷ g.families)) in
-    let ends : is_met_by run (must_fail_in k T) ≡ true = same k T false ∙ ap (λ (i : ℕ). is_met_by w.run (must_fail_in i T)) far ∙ last in
+    let ends : demand_is_met_by_run run (must_fail_in k T) ≡ true = same k T false ∙ ap (λ (i : ℕ). demand_is_met_by_run w.run (must_fail_in i T)) far ∙ last in
     let kept = flat_map (λ t. must_hold_below t k) g.families in
     let met =
-    list_all-append (is_met_by run) (must_hold_below g.wellformed k ++ kept) (must_fail_in k T ∷ [])
-    ∙ and_from _ _ (list_all-append (is_met_by run) (must_hold_below g.wellformed k) kept ∙ and_from _ _ wellformed (each-below-from run g.families k families)) (and_from _ _ ends refl) in
+    list_all-append (demand_is_met_by_run run) (must_hold_below g.wellformed k ++ kept) (must_fail_in k T ∷ [])
+    ∙ and_from _ _ (list_all-append (demand_is_met_by_run run) (must_hold_below g.wellformed k) kept ∙ and_from _ _ wellformed (each-below-from run g.families k families)) (and_from _ _ ends refl) in
     let size = length-drop (n - k) rules in
     let wanted : IsWanted s g (Step k) m.values (drop (n - k) rules) = record { in_range = in_range; many = omega (arith, size, many, le); run = run; is = m.after; met = met } in
     (m.values, drop (n - k) rules, wanted-from s g (Step k) m.values (drop (n - k) rules) wanted)
@@ -103,10 +104,10 @@ hazard-steps : (s : PlainSystem) (g : PlainGoal) (k n : ℕ) → list_all (rule_
 hazard-steps s g k n valid le none has =
     let w = wanted-parts s g (Hazard n) has.0 has.1 has.2 in
     let many : length has.1 ≡ n = w.many in
-    let parts = and_parts (is_met_by w.run (must_hold_in 0 g.start)) (list_all (is_met_by w.run) (must_hold_below g.wellformed n ++ must_hold_in n g.hazard ∷ [])) w.met in
-    let rest = and_parts (list_all (is_met_by w.run) (must_hold_below g.wellformed n)) (is_met_by w.run (must_hold_in n g.hazard) && true)
-    (sym (list_all-append (is_met_by w.run) (must_hold_below g.wellformed n) (must_hold_in n g.hazard ∷ [])) ∙ parts.1) in
-    let hazard = (and_parts (is_met_by w.run (must_hold_in n g.hazard)) true rest.1).0 in
+    let parts = and_parts (demand_is_met_by_run w.run (must_hold_in 0 g.start)) (list_all (demand_is_met_by_run w.run) (must_hold_below g.wellformed n ++ must_hold_in n g.hazard ∷ [])) w.met in
+    let rest = and_parts (list_all (demand_is_met_by_run w.run) (must_hold_below g.wellformed n)) (demand_is_met_by_run w.run (must_hold_in n g.hazard) && true)
+    (sym (list_all-append (demand_is_met_by_run w.run) (must_hold_below g.wellformed n) (must_hold_in n g.hazard ∷ [])) ∙ parts.1) in
+    let hazard = (and_parts (demand_is_met_by_run w.run (must_hold_in n g.hazard)) true rest.1).0 in
     let m = middle s has.1 has.0 w.run n (omega arith) w.is in
     let here : tree_holds m.values g.hazard ≡ true = sym (met-at w.run (must_hold_in n g.hazard) m.values m.at) ∙ hazard in
     let last = met-at w.run (must_fail_in n (all_of (trees_from_list (negation g.hazard ∷ g.families)))) m.values m.at ∙ ap (λ (b : Bool). not (not b && each_holds m.values (trees_from_list g.families))) here in
@@ -121,10 +122,10 @@ breach-steps s g k n valid le none has =
     let w = wanted-parts s g (Breach n) has.0 has.1 has.2 in
     let many : length has.1 ≡ n = w.many in
     let T = all_of (trees_from_list g.families) in
-    let parts = and_parts (is_met_by w.run (must_hold_in 0 g.start)) (list_all (is_met_by w.run) (must_hold_below g.wellformed (n + 1) ++ must_fail_in n T ∷ [])) w.met in
-    let rest = and_parts (list_all (is_met_by w.run) (must_hold_below g.wellformed (n + 1))) (is_met_by w.run (must_fail_in n T) && true)
-    (sym (list_all-append (is_met_by w.run) (must_hold_below g.wellformed (n + 1)) (must_fail_in n T ∷ [])) ∙ parts.1) in
-    let broken = (and_parts (is_met_by w.run (must_fail_in n T)) true rest.1).0 in
+    let parts = and_parts (demand_is_met_by_run w.run (must_hold_in 0 g.start)) (list_all (demand_is_met_by_run w.run) (must_hold_below g.wellformed (n + 1) ++ must_fail_in n T ∷ [])) w.met in
+    let rest = and_parts (list_all (demand_is_met_by_run w.run) (must_hold_below g.wellformed (n + 1))) (demand_is_met_by_run w.run (must_fail_in n T) && true)
+    (sym (list_all-append (demand_is_met_by_run w.run) (must_hold_below g.wellformed (n + 1)) (must_fail_in n T ∷ [])) ∙ parts.1) in
+    let broken = (and_parts (demand_is_met_by_run w.run (must_fail_in n T)) true rest.1).0 in
     let m = middle s has.1 has.0 w.run n (omega arith) w.is in
     let here : tree_holds m.values T ≡ false = fails (tree_holds m.values T) (sym (met-at w.run (must_fail_in n T) m.values m.at) ∙ broken) in
     let last = met-at w.run (must_fail_in n (all_of (trees_from_list (negation g.hazard ∷ g.families)))) m.values m.at ∙ ap

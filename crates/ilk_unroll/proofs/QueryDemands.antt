@@ -11,30 +11,30 @@ use Rattle.ilk_ir.specs.Tree.{Tree}
 use Rattle.ilk_ir.specs.System.{PlainSystem, in_ranges}
 use Rattle.ilk_unroll.specs.declared.queries.Wanted.{Wanted}
 use Rattle.ilk_unroll.specs.Goal.{PlainGoal, must_hold_in, must_hold_below, step_count, demands_of}
-use Rattle.ilk_unroll.specs.Run.{run_firing_rules, is_met_by, is_wanted_run}
+use Rattle.ilk_unroll.specs.Run.{run_firing_rules, demand_is_met_by_run, is_wanted_run}
 
-pub below-each : (run : List (List ℕ)) (t : Tree) (n j : ℕ) → list_all (is_met_by run) (must_hold_below t n) ≡ true → j < n → is_met_by run (must_hold_in j t) ≡ true
+pub below-each : (run : List (List ℕ)) (t : Tree) (n j : ℕ) → list_all (demand_is_met_by_run run) (must_hold_below t n) ≡ true → j < n → demand_is_met_by_run run (must_hold_in j t) ≡ true
 below-each run t n j h less =
-    list_all-slice_get (λ i. is_met_by run (must_hold_in i t)) (range_with_len 0 n) j j (sym (list_all-map (is_met_by run) (λ i. must_hold_in i t) (range_with_len 0 n)) ∙ h) (range-at n j less)
+    list_all-slice_get (λ i. demand_is_met_by_run run (must_hold_in i t)) (range_with_len 0 n) j j (sym (list_all-map (demand_is_met_by_run run) (λ i. must_hold_in i t) (range_with_len 0 n)) ∙ h) (range-at n j less)
 
 range-from : (p : ℕ → Bool) (start k : ℕ) → ((j : ℕ) → start ≤ j → j < start + k → p j ≡ true) → list_all p (range_with_len start k) ≡ true
 range-from p start zero h = refl
 range-from p start (suc k) h =
     and_from _ _ (h start (omega arith) (omega arith)) (range-from p (start + 1) k (λ j low high. h j (omega arith) (omega arith)))
 
-pub below-from : (run : List (List ℕ)) (t : Tree) (n : ℕ) → ((j : ℕ) → j < n → is_met_by run (must_hold_in j t) ≡ true) → list_all (is_met_by run) (must_hold_below t n) ≡ true
+pub below-from : (run : List (List ℕ)) (t : Tree) (n : ℕ) → ((j : ℕ) → j < n → demand_is_met_by_run run (must_hold_in j t) ≡ true) → list_all (demand_is_met_by_run run) (must_hold_below t n) ≡ true
 below-from run t n h =
-    list_all-map (is_met_by run) (λ j. must_hold_in j t) (range_with_len 0 n)
-    ∙ range-from (λ j. is_met_by run (must_hold_in j t)) 0 n (λ j low high. h j (omega arith))
+    list_all-map (demand_is_met_by_run run) (λ j. must_hold_in j t) (range_with_len 0 n)
+    ∙ range-from (λ j. demand_is_met_by_run run (must_hold_in j t)) 0 n (λ j low high. h j (omega arith))
 
-pub each-below-from : (run : List (List ℕ)) (ts : List Tree) (n : ℕ) → ((j : ℕ) → j < n → list_all (λ t. is_met_by run (must_hold_in j t)) ts ≡ true) → list_all (is_met_by run) (flat_map (λ t. must_hold_below t n) ts) ≡ true
+pub each-below-from : (run : List (List ℕ)) (ts : List Tree) (n : ℕ) → ((j : ℕ) → j < n → list_all (λ t. demand_is_met_by_run run (must_hold_in j t)) ts ≡ true) → list_all (demand_is_met_by_run run) (flat_map (λ t. must_hold_below t n) ts) ≡ true
 each-below-from run [] n h = refl
 each-below-from run (t ∷ ts) n h =
-    let P : ℕ → Bool = λ j. list_all (λ u. is_met_by run (must_hold_in j u)) ts in
-    list_all-append (is_met_by run) (must_hold_below t n) (flat_map (λ u. must_hold_below u n) ts)
+    let P : ℕ → Bool = λ j. list_all (λ u. demand_is_met_by_run run (must_hold_in j u)) ts in
+    list_all-append (demand_is_met_by_run run) (must_hold_below t n) (flat_map (λ u. must_hold_below u n) ts)
     ∙ and_from _ _
-    (below-from run t n (λ j less. (and_parts (is_met_by run (must_hold_in j t)) (P j) (h j less)).0))
-    (each-below-from run ts n (λ j less. (and_parts (is_met_by run (must_hold_in j t)) (P j) (h j less)).1))
+    (below-from run t n (λ j less. (and_parts (demand_is_met_by_run run (must_hold_in j t)) (P j) (h j less)).0))
+    (each-below-from run ts n (λ j less. (and_parts (demand_is_met_by_run run (must_hold_in j t)) (P j) (h j less)).1))
 
 -- The parts of a run that a query asks for.
 pub record IsWanted (s : PlainSystem) (g : PlainGoal) (q : Wanted) (first rules : List ℕ) : Type 0 where
@@ -42,13 +42,13 @@ pub record IsWanted (s : PlainSystem) (g : PlainGoal) (q : Wanted) (first rules 
   pub many : length rules ≡ step_count q
   pub run : List (List ℕ)
   pub is : run_firing_rules s first rules ≡ Some run
-  pub met : list_all (is_met_by run) (demands_of g q) ≡ true
+  pub met : list_all (demand_is_met_by_run run) (demands_of g q) ≡ true
 
 pub wanted-parts : (s : PlainSystem) (g : PlainGoal) (q : Wanted) (first rules : List ℕ) → is_wanted_run s g q first rules ≡ true → IsWanted s g q first rules
 wanted-parts s g q first rules h =
-    let outer = and_parts (in_ranges first s.ranges && length rules == step_count q) (is_some_and (run_firing_rules s first rules) (λ run. list_all (is_met_by run) (demands_of g q))) h in
+    let outer = and_parts (in_ranges first s.ranges && length rules == step_count q) (is_some_and (run_firing_rules s first rules) (λ run. list_all (demand_is_met_by_run run) (demands_of g q))) h in
     let inner = and_parts (in_ranges first s.ranges) (length rules == step_count q) outer.0 in
-    let run = some-and (run_firing_rules s first rules) (λ run. list_all (is_met_by run) (demands_of g q)) outer.1 in
+    let run = some-and (run_firing_rules s first rules) (λ run. list_all (demand_is_met_by_run run) (demands_of g q)) outer.1 in
     record { in_range = inner.0; many = eqb-true (length rules) (step_count q) inner.1; run = run.0; is = run.1; met = run.2 }
 
 pub wanted-from : (s : PlainSystem) (g : PlainGoal) (q : Wanted) (first rules : List ℕ) → IsWanted s g q first rules → is_wanted_run s g q first rules ≡ true

@@ -4,20 +4,20 @@ use Rattle.std.specs.List.{list_all}
 use Rattle.std.proofs.lemmas.Bool.{and_from, and_parts, eqb-true, eq-eqb}
 use Rattle.ilk_base.specs.Option.{is_some_and}
 use Rattle.ilk_base.proofs.Options.{some-and}
-use Rattle.ilk_cnf.specs.Extends.{ExtensionsAreExactly, PassesWithExactValues, ValuesFollowedBy}
+use Rattle.ilk_cnf.specs.Extends.{ExtensionsAreExactly, PassesAndEqualsGivenValues, AreValuesOfConsecutiveParts}
 use Rattle.ilk_cnf.specs.Part.{FormulaPart}
 use Rattle.ilk_cnf.proofs.Parts.{in_turn, in_words}
 use Rattle.ilk_ir.specs.System.{PlainSystem, rule_valid, system_valid, in_ranges}
-use Rattle.ilk_forms.specs.Copy.{BitsEncode, numbers_bits, columns_bits, copy_bits}
+use Rattle.ilk_forms.specs.Copy.{BitsEncode, numbers_bits, copy_value_bound_bits, copy_bits}
 use Rattle.ilk_forms.proofs.ColumnLaw.{ranges_fit, BitsEncode-new}
 use Rattle.ilk_forms.proofs.DemandLaw.{PartFits}
 use Rattle.ilk_unroll.specs.declared.queries.Wanted.{Wanted}
 use Rattle.ilk_unroll.specs.Goal.{PlainGoal, CopyDemand, goal_valid, step_count, demands_of}
-use Rattle.ilk_unroll.specs.Run.{run_firing_rules, is_met_by, is_wanted_run}
-use Rattle.ilk_unroll.specs.Query.{PartWithTables, copies_part, steps_part, demands_part, query_part}
+use Rattle.ilk_unroll.specs.Run.{run_firing_rules, demand_is_met_by_run, is_wanted_run}
+use Rattle.ilk_unroll.specs.Query.{PartWithCopyLits, copies_part, steps_part, demands_part, query_part}
 use Rattle.ilk_unroll.specs.Assignment.{copies_bits, steps_bits, demands_bits, run_bits, run_assignment, EncodesWantedRun}
-use Rattle.ilk_unroll.specs.Tables.{are_copies_over, HaveRanges, step_choice_variables, ChoosesEach}
-use Rattle.ilk_unroll.proofs.CopiesLaw.{copies-in, copies-are_copies_over, copies-ranges, copies-many, all_in_ranges, AreCopies, copies-law, TablesSay, copies-say, tables_say-more, are_copies_over-more}
+use Rattle.ilk_unroll.specs.Tables.{are_copies_within_vars, CopiesHaveRanges, step_choice_variables, StepsChooseTheseRules}
+use Rattle.ilk_unroll.proofs.CopiesLaw.{copies-in, copies-are_copies_within_vars, copies-ranges, copies-many, all_in_ranges, AreCopies, copies-law, TablesSay, copies-say, tables_say-more, are_copies_within_vars-more}
 use Rattle.ilk_unroll.proofs.StepsLaw.{Joined, AreSteps, steps-fits, steps-law, steps-say}
 use Rattle.ilk_unroll.proofs.DemandsLaw.{demanded_valid, demands-fits, demands-law, demands_of-valid}
 use Rattle.ilk_unroll.proofs.Runs.{run-is, joined-run, joined-many}
@@ -30,18 +30,18 @@ pub record Wants (s : PlainSystem) (g : PlainGoal) (q : Wanted) (first rules : L
   pub is : run_firing_rules s first rules ≡ Some run
   pub in_range : in_ranges first s.ranges ≡ true
   pub many : length rules ≡ step_count q
-  pub met : list_all (is_met_by run) (demands_of g q) ≡ true
+  pub met : list_all (demand_is_met_by_run run) (demands_of g q) ≡ true
 
 pub wants : (s : PlainSystem) (g : PlainGoal) (q : Wanted) (first rules : List ℕ) → is_wanted_run s g q first rules ≡ true → Wants s g q first rules
 wants s g q first rules h =
-    let outer = and_parts (in_ranges first s.ranges && eqb (length rules) (step_count q)) (is_some_and (run_firing_rules s first rules) (λ run. list_all (is_met_by run) (demands_of g q))) h in
+    let outer = and_parts (in_ranges first s.ranges && eqb (length rules) (step_count q)) (is_some_and (run_firing_rules s first rules) (λ run. list_all (demand_is_met_by_run run) (demands_of g q))) h in
     let inner = and_parts (in_ranges first s.ranges) (eqb (length rules) (step_count q)) outer.0 in
-    let some = some-and (run_firing_rules s first rules) (λ run. list_all (is_met_by run) (demands_of g q)) outer.1 in
+    let some = some-and (run_firing_rules s first rules) (λ run. list_all (demand_is_met_by_run run) (demands_of g q)) outer.1 in
     record { run = some.0; is = some.1; in_range = inner.0; many = eqb-true (length rules) (step_count q) inner.1; met = some.2 }
 
 pub wanted-from : (s : PlainSystem) (g : PlainGoal) (q : Wanted) (first rules : List ℕ) → Wants s g q first rules → is_wanted_run s g q first rules ≡ true
 wanted-from s g q first rules w =
-    and_from _ _ (and_from _ _ w.in_range (eq-eqb (length rules) (step_count q) w.many)) (ap (λ (o : Option (List (List ℕ))). is_some_and o (λ run. list_all (is_met_by run) (demands_of g q))) w.is ∙ w.met)
+    and_from _ _ (and_from _ _ w.in_range (eq-eqb (length rules) (step_count q) w.many)) (ap (λ (o : Option (List (List ℕ))). is_some_and o (λ run. list_all (demand_is_met_by_run run) (demands_of g q))) w.is ∙ w.met)
 
 assignment-is : (s : PlainSystem) (g : PlainGoal) (q : Wanted) (first rules : List ℕ) (run : List (List ℕ)) → run_firing_rules s first rules ≡ Some run → run_assignment s g q first rules ≡ run_bits s g q run rules
 assignment-is s g q first rules run is = ap (λ (o : Option (List (List ℕ))). run_bits s g q (unwrap_or o []) rules) is
@@ -62,7 +62,7 @@ query-law s g q valid fit goal_ok =
     ds : List CopyDemand
     ds = demands_of g q
 
-    c : PartWithTables
+    c : PartWithCopyLits
     c = copies_part ranges count 0
 
     m : ℕ
@@ -74,17 +74,17 @@ query-law s g q valid fit goal_ok =
     d : FormulaPart
     d = demands_part c.tables ds t.vars
 
-    inside : are_copies_over m c.tables ≡ true
-    inside = copies-are_copies_over count ranges 0 fit
+    inside : are_copies_within_vars m c.tables ≡ true
+    inside = copies-are_copies_within_vars count ranges 0 fit
 
-    have : HaveRanges ranges c.tables
+    have : CopiesHaveRanges ranges c.tables
     have = copies-ranges count ranges 0
 
     steps_fit : PartFits m t
     steps_fit = steps-fits c.tables ranges s.rules m inside have (rules-valid s valid)
 
-    more : are_copies_over t.vars c.tables ≡ true
-    more = are_copies_over-more m t.vars c.tables steps_fit.low inside
+    more : are_copies_within_vars t.vars c.tables ≡ true
+    more = are_copies_within_vars-more m t.vars c.tables steps_fit.low inside
 
     ds_valid : list_all (demanded_valid ranges (length c.tables)) ds ≡ true
     ds_valid = ap (λ (k : ℕ). list_all (demanded_valid ranges k) ds) (copies-many count ranges 0) ∙ demands_of-valid ranges g q goal_ok
@@ -96,7 +96,7 @@ query-law s g q valid fit goal_ok =
     first = copies-law count ranges [] 0 refl fit
 
     inner : (b : List Bool) → AreCopies count ranges b → List Bool → Type 0
-    inner b h = ValuesFollowedBy (AreSteps s.ranges s.rules h.0) (λ e _. PassesWithExactValues (list_all (is_met_by h.0) ds) (demands_bits s.ranges h.0 ds))
+    inner b h = AreValuesOfConsecutiveParts (AreSteps s.ranges s.rules h.0) (λ e _. PassesAndEqualsGivenValues (list_all (demand_is_met_by_run h.0) ds) (demands_bits s.ranges h.0 ds))
 
     part : (b : List Bool) → (h : AreCopies count ranges b) → ExtensionsAreExactly b d.vars (t.clauses ++ d.clauses) (inner b h)
     part b h =
@@ -104,12 +104,13 @@ query-law s g q valid fit goal_ok =
         let says : TablesSay b m ranges c.tables h.0 = subst (λ (u : List Bool). TablesSay u m ranges c.tables h.0) (sym h.3) (copies-say count ranges h.0 [] 0 refl fit h.1 h.2) in
         let next = steps-law c.tables h.0 b m ranges s.rules long says (rules-valid s valid) in
         in_turn b t.vars d.vars t.clauses d.clauses (AreSteps s.ranges s.rules h.0)
-        (λ e _. PassesWithExactValues (list_all (is_met_by h.0) ds) (demands_bits s.ranges h.0 ds))
+        (λ e _. PassesAndEqualsGivenValues (list_all (demand_is_met_by_run h.0) ds) (demands_bits s.ranges h.0 ds))
         (omega (arith, long, steps_fit.low)) demands_fit.low steps_fit.inside next
         (λ e k. demands-law ds c.tables h.0 ranges (b ++ e) t.vars (next.sized e k) more have
         (tables_say-more c.tables h.0 b e m t.vars ranges long steps_fit.low says) ds_valid)
 
-    a_run : (b : List Bool) (run : List (List ℕ)) (rules : List ℕ) → length run ≡ count → all_in_ranges ranges run ≡ true → Joined s.rules run rules → list_all (is_met_by run) ds ≡ true → b ≡ run_bits s g q run rules → EncodesWantedRun s g q b
+    a_run : (b : List Bool) (run : List (List ℕ)) (rules : List ℕ) → length run ≡ count → all_in_ranges ranges run ≡ true → Joined s.rules run rules → list_all (demand_is_met_by_run run) ds ≡ true → b ≡ run_bits s g q run rules →
+        EncodesWantedRun s g q b
     a_run b [] rules many h j met e = absurd (omega arith)
     a_run b (values ∷ run) rules many h j met e =
         let parts = and_parts (in_ranges values ranges) (all_in_ranges ranges run) h in
@@ -117,7 +118,7 @@ query-law s g q valid fit goal_ok =
         let long = joined-many s.rules run values rules j in
         (values, rules, wanted-from s g q values rules (record { run = values ∷ run; is = is; in_range = parts.0; many = omega (arith, long, many); met = met }), e ∙ sym (assignment-is s g q values rules (values ∷ run) is))
 
-    to : (b : List Bool) → ValuesFollowedBy (AreCopies count ranges) inner b → EncodesWantedRun s g q b
+    to : (b : List Bool) → AreValuesOfConsecutiveParts (AreCopies count ranges) inner b → EncodesWantedRun s g q b
     to b h =
         let r = h.4 in
         a_run b h.3.0 r.3.0 h.3.1 h.3.2 r.3.1 r.4.0
@@ -126,7 +127,7 @@ query-law s g q valid fit goal_ok =
         (r.2 ∙ ap (λ (u : List Bool). u ++ r.1) r.3.2
         ∙ ap (λ (u : List Bool). steps_bits s.ranges s.rules h.3.0 r.3.0 ++ u) r.4.1))
 
-    from : (b : List Bool) → EncodesWantedRun s g q b → ValuesFollowedBy (AreCopies count ranges) inner b
+    from : (b : List Bool) → EncodesWantedRun s g q b → AreValuesOfConsecutiveParts (AreCopies count ranges) inner b
     from b h =
         let w = wants s g q h.0 h.1 h.2 in
         let r = run-is s h.1 h.0 w.run (rules-valid s valid) w.in_range w.is in
@@ -145,14 +146,13 @@ query-law s g q valid fit goal_ok =
           ),
         )
 
--- The first variable of the first values' copy.
 abbrev pub first_variable : List ℕ → ℕ → ℕ
 first_variable ranges steps = (copies_part ranges steps 0).part.vars + 1
 
 pub run-says : (s : PlainSystem) (g : PlainGoal) (q : Wanted) (first rules : List ℕ) → system_valid s ≡ true →
     ranges_fit s.ranges ≡ true → Wants s g q first rules →
     BitsEncode (run_assignment s g q first rules) (first_variable s.ranges (step_count q)) s.ranges first ×
-    ChoosesEach (run_assignment s g q first rules)
+    StepsChooseTheseRules (run_assignment s g q first rules)
     (step_choice_variables s.rules (copies_part s.ranges (suc (step_count q)) 0).tables
     (copies_part s.ranges (suc (step_count q)) 0).part.vars) rules
 run-says s g q first rules valid fit w =
@@ -170,13 +170,13 @@ run-says s g q first rules valid fit w =
     let followed : length r.rest ≡ step_count q = suc-same (sym (ap length r.begins) ∙ many) in
     let rest_in : all_in_ranges ranges r.rest ≡ true = (and_parts _ _ (ap (all_in_ranges ranges) (sym r.begins) ∙ r.in_range)).1 in
     let reach : length later ≡ (copies_part ranges (step_count q) 0).part.vars = (copies-law (step_count q) ranges [] 0 refl fit).sized later (r.rest, followed, rest_in, refl) in
-    let begins : copies_bits ranges run ++ end ≡ later ++ (numbers_bits ranges first ++ (columns_bits ranges first ++ end)) =
-    ap (λ (u : List (List ℕ)). copies_bits ranges u ++ end) r.begins ∙ append_assoc later (copy_bits ranges first) end ∙ ap (λ (u : List Bool). later ++ u) (append_assoc (numbers_bits ranges first) (columns_bits ranges first) end) in (
+    let begins : copies_bits ranges run ++ end ≡ later ++ (numbers_bits ranges first ++ (copy_value_bound_bits ranges first ++ end)) =
+    ap (λ (u : List (List ℕ)). copies_bits ranges u ++ end) r.begins ∙ append_assoc later (copy_bits ranges first) end ∙ ap (λ (u : List Bool). later ++ u) (append_assoc (numbers_bits ranges first) (copy_value_bound_bits ranges first) end) in (
       subst (λ (u : List Bool). BitsEncode u (first_variable ranges (step_count q)) ranges first)
           (sym (e ∙ begins))
-          (BitsEncode-new ranges first later (columns_bits ranges first ++ end)
+          (BitsEncode-new ranges first later (copy_value_bound_bits ranges first ++ end)
           (first_variable ranges (step_count q)) (ap (λ (k : ℕ). k + 1) reach) w.in_range),
-      subst (λ (u : List Bool). ChoosesEach u (step_choice_variables s.rules c.tables c.part.vars) rules) (sym e)
+      subst (λ (u : List Bool). StepsChooseTheseRules u (step_choice_variables s.rules c.tables c.part.vars) rules) (sym e)
           (steps-say c.tables run rules (copies_bits ranges run) (demands_bits s.ranges run (demands_of g q))
           c.part.vars ranges s.rules long says (rules-valid s valid) r.joined),
     )

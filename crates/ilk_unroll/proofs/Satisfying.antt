@@ -1,4 +1,3 @@
--- The formula of a query is satisfiable exactly if the query has a run.
 use Rattle.std.proofs.Common.{◌≡◌, ◌↔◌, true, nat_lt, [], refl}
 use Rattle.std.specs.List.{list_all}
 use Rattle.ilk_cnf.proofs.Extending.{extends-clauses_from_lists}

@@ -4,13 +4,13 @@ use Rattle.std.proofs.Common.{◌≡◌, ℕ, ◌+◌, ◌≤◌, Bool, true, Li
 use Rattle.std.specs.List.{list_all}
 use Rattle.std.proofs.lemmas.Bool.{and_from, and_parts, le-leb}
 use Rattle.ilk_cnf.specs.Formula.{Formula}
-use Rattle.ilk_cnf.specs.Extends.{ExtensionsAreExactly, AreExactValues, ValuesFollowedBy}
+use Rattle.ilk_cnf.specs.Extends.{ExtensionsAreExactly, EqualsGivenValues, AreValuesOfConsecutiveParts}
 use Rattle.ilk_cnf.specs.Part.{FormulaPart, empty_part, with_part}
 use Rattle.ilk_cnf.proofs.Parts.{in_turn, in_words}
 use Rattle.ilk_cnf.proofs.Extending.{no_more_if, only_from_if}
 use Rattle.ilk_cnf.proofs.Gates.{with_part-and_then}
 use Rattle.ilk_ir.specs.System.{PlainRule, rule_valid, in_ranges}
-use Rattle.ilk_forms.specs.declared.copy.VarLits.{VarLits}
+use Rattle.ilk_forms.specs.declared.copy.VarValueAndBoundLits.{VarValueAndBoundLits}
 use Rattle.ilk_forms.specs.Copy.{LiteralsEncode}
 use Rattle.ilk_forms.specs.Leaf.{has_lits_within_vars, ranges_of}
 use Rattle.ilk_forms.proofs.DemandLaw.{PartFits}
@@ -21,8 +21,8 @@ use Rattle.ilk_step.proofs.RulesLaw.{then-fits}
 use Rattle.ilk_step.proofs.StepLaw.{step-fits, step-law, step-says, step-below}
 use Rattle.ilk_unroll.specs.Query.{steps_part}
 use Rattle.ilk_unroll.specs.Assignment.{steps_bits}
-use Rattle.ilk_unroll.specs.Tables.{are_copies_over, HaveRanges, step_choice_variables, choices_begin_by, ChoosesEach}
-use Rattle.ilk_unroll.proofs.CopiesLaw.{TableSays, TablesSay, are_copies_over-more, tables_say-more}
+use Rattle.ilk_unroll.specs.Tables.{are_copies_within_vars, CopiesHaveRanges, step_choice_variables, choices_begin_at_or_before, StepsChooseTheseRules}
+use Rattle.ilk_unroll.proofs.CopiesLaw.{TableSays, TablesSay, are_copies_within_vars-more, tables_say-more}
 
 same : (n : ℕ) → n ≤ n
 same n = omega arith
@@ -30,20 +30,21 @@ same n = omega arith
 rules_valid-at : (ranges other : List ℕ) (rules : List PlainRule) → other ≡ ranges → list_all (rule_valid ranges) rules ≡ true → list_all (rule_valid other) rules ≡ true
 rules_valid-at ranges other rules e h = ap (λ (rs : List ℕ). list_all (rule_valid rs) rules) e ∙ h
 
-pub one-fits : (now next : List VarLits) (ranges : List ℕ) (rules : List PlainRule) (n : ℕ) →
+pub one-fits : (now next : List VarValueAndBoundLits) (ranges : List ℕ) (rules : List PlainRule) (n : ℕ) →
     has_lits_within_vars n now ≡ true → has_lits_within_vars n next ≡ true → ranges_of now ≡ ranges → ranges_of next ≡ ranges →
     list_all (rule_valid ranges) rules ≡ true → PartFits n (step_part rules now next n)
 one-fits now next ranges rules n hn hx rn rx valid = step-fits rules now next n hn hx (rx ∙ sym rn) (rules_valid-at ranges (ranges_of now) rules rn valid)
 
-pub steps-fits : (tables : List (List VarLits)) (ranges : List ℕ) (rules : List PlainRule) (n : ℕ) → are_copies_over n tables ≡ true → HaveRanges ranges tables → list_all (rule_valid ranges) rules ≡ true → PartFits n (steps_part rules tables n)
+pub steps-fits : (tables : List (List VarValueAndBoundLits)) (ranges : List ℕ) (rules : List PlainRule) (n : ℕ) → are_copies_within_vars n tables ≡ true → CopiesHaveRanges ranges tables → list_all (rule_valid ranges) rules ≡ true →
+    PartFits n (steps_part rules tables n)
 steps-fits [] ranges rules n h r valid = record { low = same n; inside = refl }
 steps-fits (now ∷ []) ranges rules n h r valid = record { low = same n; inside = refl }
 steps-fits (now ∷ next ∷ tables) ranges rules n h r valid =
-    let parts = and_parts (has_lits_within_vars n now) (are_copies_over n (next ∷ tables)) h in
-    let more = and_parts (has_lits_within_vars n next) (are_copies_over n tables) parts.1 in
+    let parts = and_parts (has_lits_within_vars n now) (are_copies_within_vars n (next ∷ tables)) h in
+    let more = and_parts (has_lits_within_vars n next) (are_copies_within_vars n tables) parts.1 in
     let p = step_part rules now next n in
     let one = one-fits now next ranges rules n parts.0 more.0 r.0 r.1.0 valid in
-    then-fits n p (steps_part rules (next ∷ tables)) one (steps-fits (next ∷ tables) ranges rules p.vars (are_copies_over-more n p.vars (next ∷ tables) one.low parts.1) r.1 valid)
+    then-fits n p (steps_part rules (next ∷ tables)) one (steps-fits (next ∷ tables) ranges rules p.vars (are_copies_within_vars-more n p.vars (next ∷ tables) one.low parts.1) r.1 valid)
 
 -- Holds if each value list but the first comes from the one before by its rule.
 abbrev pub Joined : List PlainRule → List (List ℕ) → List ℕ → Type 0
@@ -55,12 +56,12 @@ Joined rules (values ∷ next ∷ run) (rule ∷ chosen) = (values_after_rule ru
 abbrev pub AreSteps : List ℕ → List PlainRule → List (List ℕ) → List Bool → Type 0
 AreSteps ranges rules run b = (chosen : List ℕ) × Joined rules run chosen × (b ≡ steps_bits ranges rules run chosen)
 
-tables-in : (tables : List (List VarLits)) (run : List (List ℕ)) (a : List Bool) (n : ℕ) (ranges : List ℕ) → TablesSay a n ranges tables run → are_copies_over n tables ≡ true
+tables-in : (tables : List (List VarValueAndBoundLits)) (run : List (List ℕ)) (a : List Bool) (n : ℕ) (ranges : List ℕ) → TablesSay a n ranges tables run → are_copies_within_vars n tables ≡ true
 tables-in [] run a n ranges h = refl
 tables-in (table ∷ tables) [] a n ranges h = absurd h
 tables-in (table ∷ tables) (values ∷ run) a n ranges h = and_from _ _ h.0.within (tables-in tables run a n ranges h.1)
 
-tables-ranges : (tables : List (List VarLits)) (run : List (List ℕ)) (a : List Bool) (n : ℕ) (ranges : List ℕ) → TablesSay a n ranges tables run → HaveRanges ranges tables
+tables-ranges : (tables : List (List VarValueAndBoundLits)) (run : List (List ℕ)) (a : List Bool) (n : ℕ) (ranges : List ℕ) → TablesSay a n ranges tables run → CopiesHaveRanges ranges tables
 tables-ranges [] run a n ranges h = tt
 tables-ranges (table ∷ tables) [] a n ranges h = absurd h
 tables-ranges (table ∷ tables) (values ∷ run) a n ranges h = (h.0.has_ranges, tables-ranges tables run a n ranges h.1)
@@ -69,10 +70,10 @@ nothing-law : (a : List Bool) (n : ℕ) (ranges : List ℕ) (rules : List PlainR
     length a ≡ n → Joined rules run [] → steps_bits ranges rules run [] ≡ [] →
     ((chosen : List ℕ) → Joined rules run chosen → chosen ≡ []) → ExtensionsAreExactly a n [] (AreSteps ranges rules run)
 nothing-law a n ranges rules run size none empty only =
-    in_words a n [] (AreExactValues []) (AreSteps ranges rules run) (λ b h. ([], none, h ∙ sym empty)) (λ b h. h.2 ∙ ap (steps_bits ranges rules run) (only h.0 h.1) ∙ empty) (only_from_if a n [] [] (no_more_if a n [] true size refl))
+    in_words a n [] (EqualsGivenValues []) (AreSteps ranges rules run) (λ b h. ([], none, h ∙ sym empty)) (λ b h. h.2 ∙ ap (steps_bits ranges rules run) (only h.0 h.1) ∙ empty) (only_from_if a n [] [] (no_more_if a n [] true size refl))
 
 one-law :
-    (now next : List VarLits) (ws xs : List ℕ) (a : List Bool) (n : ℕ) (ranges : List ℕ)
+    (now next : List VarValueAndBoundLits) (ws xs : List ℕ) (a : List Bool) (n : ℕ) (ranges : List ℕ)
     (rules : List PlainRule) → length a ≡ n →
     TableSays a n ranges now ws → TableSays a n ranges next xs → list_all (rule_valid ranges) rules ≡ true →
     ExtensionsAreExactly a (step_part rules now next n).vars (step_part rules now next n).clauses
@@ -90,7 +91,7 @@ one-law now next ws xs a n ranges rules size hn hx valid =
     }) (rules_valid-at ranges (ranges_of now) rules hn.has_ranges valid) (ap (in_ranges ws) hn.has_ranges ∙ hn.in_range) (ap (in_ranges xs) hn.has_ranges ∙ hx.in_range))
 
 pub steps-law :
-    (tables : List (List VarLits)) (run : List (List ℕ)) (a : List Bool) (n : ℕ) (ranges : List ℕ)
+    (tables : List (List VarValueAndBoundLits)) (run : List (List ℕ)) (a : List Bool) (n : ℕ) (ranges : List ℕ)
     (rules : List PlainRule) → length a ≡ n →
     TablesSay a n ranges tables run → list_all (rule_valid ranges) rules ≡ true →
     ExtensionsAreExactly a (steps_part rules tables n).vars (steps_part rules tables n).clauses (AreSteps ranges rules run)
@@ -119,24 +120,24 @@ steps-law (now ∷ next ∷ tables) (ws ∷ xs ∷ run) a n ranges rules size h 
     fits = one-fits now next ranges rules n h.0.within h.1.0.within h.0.has_ranges h.1.0.has_ranges valid
 
     rest_fits : PartFits p.vars rest
-    rest_fits = steps-fits (next ∷ tables) ranges rules p.vars (are_copies_over-more n p.vars (next ∷ tables) fits.low (tables-in (next ∷ tables) (xs ∷ run) a n ranges h.1)) (tables-ranges (next ∷ tables) (xs ∷ run) a n ranges h.1) valid
+    rest_fits = steps-fits (next ∷ tables) ranges rules p.vars (are_copies_within_vars-more n p.vars (next ∷ tables) fits.low (tables-in (next ∷ tables) (xs ∷ run) a n ranges h.1)) (tables-ranges (next ∷ tables) (xs ∷ run) a n ranges h.1) valid
 
     first : ExtensionsAreExactly a p.vars p.clauses (AreStepBits ranges rules ws xs)
     first = one-law now next ws xs a n ranges rules size h.0 h.1.0 valid
 
-    to : (b : List Bool) → ValuesFollowedBy (AreStepBits ranges rules ws xs) (λ b _. AreSteps ranges rules (xs ∷ run)) b → AreSteps ranges rules (ws ∷ xs ∷ run) b
+    to : (b : List Bool) → AreValuesOfConsecutiveParts (AreStepBits ranges rules ws xs) (λ b _. AreSteps ranges rules (xs ∷ run)) b → AreSteps ranges rules (ws ∷ xs ∷ run) b
     to b k =
         (k.3.0 ∷ k.4.0, (k.3.1, k.4.1), k.2 ∙ ap (λ (u : List Bool). u ++ k.1) k.3.2 ∙ ap (λ (u : List Bool). step_bits ranges rules ws k.3.0 ++ u) k.4.2)
 
-    split : (b : List Bool) (chosen : List ℕ) → Joined rules (ws ∷ xs ∷ run) chosen → b ≡ steps_bits ranges rules (ws ∷ xs ∷ run) chosen → ValuesFollowedBy (AreStepBits ranges rules ws xs) (λ b _. AreSteps ranges rules (xs ∷ run)) b
+    split : (b : List Bool) (chosen : List ℕ) → Joined rules (ws ∷ xs ∷ run) chosen → b ≡ steps_bits ranges rules (ws ∷ xs ∷ run) chosen → AreValuesOfConsecutiveParts (AreStepBits ranges rules ws xs) (λ b _. AreSteps ranges rules (xs ∷ run)) b
     split b [] j e = absurd j
     split b (rule ∷ chosen) j e = (step_bits ranges rules ws rule, steps_bits ranges rules (xs ∷ run) chosen, e, (rule, j.0, refl), (chosen, j.1, refl))
 
 pub steps-say :
-    (tables : List (List VarLits)) (run : List (List ℕ)) (chosen : List ℕ) (a c : List Bool) (n : ℕ)
+    (tables : List (List VarValueAndBoundLits)) (run : List (List ℕ)) (chosen : List ℕ) (a c : List Bool) (n : ℕ)
     (ranges : List ℕ) (rules : List PlainRule) → length a ≡ n →
     TablesSay a n ranges tables run → list_all (rule_valid ranges) rules ≡ true → Joined rules run chosen →
-    ChoosesEach (a ++ (steps_bits ranges rules run chosen ++ c)) (step_choice_variables rules tables n) chosen
+    StepsChooseTheseRules (a ++ (steps_bits ranges rules run chosen ++ c)) (step_choice_variables rules tables n) chosen
 steps-say [] [] chosen a c n ranges rules size h valid j = j
 steps-say [] (values ∷ run) chosen a c n ranges rules size h valid j = absurd h
 steps-say (now ∷ tables) [] chosen a c n ranges rules size h valid j = absurd h
@@ -155,27 +156,27 @@ steps-say (now ∷ next ∷ tables) (ws ∷ xs ∷ run) (rule ∷ chosen) a c n 
     let first : Chooses (a ++ (e ++ (d ++ c))) (n + 1) (length rules) rule = (step-below rules ws xs rule j.0, step-says ranges rules ws a (d ++ c) n rule size) in
     let rest = steps-say (next ∷ tables) (xs ∷ run) chosen (a ++ e) c p.vars ranges rules long (tables_say-more (next ∷ tables) (xs ∷ run) a e n p.vars ranges size fits.low h.1) valid j.1 in (
       subst (λ (u : List Bool). Chooses u (n + 1) (length rules) rule) whole first,
-      subst (λ (u : List Bool). ChoosesEach u (step_choice_variables rules (next ∷ tables) p.vars) chosen) (append_assoc a e (d ++ c) ∙ whole) rest,
+      subst (λ (u : List Bool). StepsChooseTheseRules u (step_choice_variables rules (next ∷ tables) p.vars) chosen) (append_assoc a e (d ++ c) ∙ whole) rest,
     )
 
-pub choices-numbered : (tables : List (List VarLits)) (ranges : List ℕ) (rules : List PlainRule) (n m : ℕ) →
-    are_copies_over n tables ≡ true → HaveRanges ranges tables → list_all (rule_valid ranges) rules ≡ true →
-    (steps_part rules tables n).vars ≤ m → choices_begin_by m (step_choice_variables rules tables n) ≡ true
+pub choices-numbered : (tables : List (List VarValueAndBoundLits)) (ranges : List ℕ) (rules : List PlainRule) (n m : ℕ) →
+    are_copies_within_vars n tables ≡ true → CopiesHaveRanges ranges tables → list_all (rule_valid ranges) rules ≡ true →
+    (steps_part rules tables n).vars ≤ m → choices_begin_at_or_before m (step_choice_variables rules tables n) ≡ true
 choices-numbered [] ranges rules n m h r valid high = refl
 choices-numbered (now ∷ []) ranges rules n m h r valid high = refl
 choices-numbered (now ∷ next ∷ tables) ranges rules n m h r valid high =
-    let parts = and_parts (has_lits_within_vars n now) (are_copies_over n (next ∷ tables)) h in
-    let more = and_parts (has_lits_within_vars n next) (are_copies_over n tables) parts.1 in
+    let parts = and_parts (has_lits_within_vars n now) (are_copies_within_vars n (next ∷ tables)) h in
+    let more = and_parts (has_lits_within_vars n next) (are_copies_within_vars n tables) parts.1 in
     let p = step_part rules now next n in
     let one = one-fits now next ranges rules n parts.0 more.0 r.0 r.1.0 valid in
     let low = one.low in
-    let next_in = are_copies_over-more n p.vars (next ∷ tables) low parts.1 in
+    let next_in = are_copies_within_vars-more n p.vars (next ∷ tables) low parts.1 in
     let rest = (steps-fits (next ∷ tables) ranges rules p.vars next_in r.1 valid).low in
     and_from _ _ (le-leb (n + 1) (m + 1) (omega arith)) (choices-numbered (next ∷ tables) ranges rules p.vars m next_in r.1 valid high)
 
 pub steps-next :
     (f g : Formula) (rules : List PlainRule) (choices whole : List Choice) (choice : Choice) (end : Formula)
-    (all : List (List VarLits)) (now next : List VarLits) (tables : List (List VarLits)) (k : ℕ) →
+    (all : List (List VarValueAndBoundLits)) (now next : List VarValueAndBoundLits) (tables : List (List VarValueAndBoundLits)) (k : ℕ) →
     all ≡ now ∷ next ∷ tables → k ≡ length rules → choice ≡ record { first = f.vars + 1; rules = k } →
     g ≡ with_part f (step_part rules now next f.vars) → choices ++ step_choice_variables rules all f.vars ≡ whole →
     with_part f (steps_part rules all f.vars) ≡ end →
@@ -186,18 +187,18 @@ steps-next f g rules choices whole choice end all now next tables k split count 
       append_assoc choices (choice ∷ []) (step_choice_variables rules (next ∷ tables) g.vars)
           ∙ ap (λ (c : Choice). choices ++ c ∷ step_choice_variables rules (next ∷ tables) g.vars) (is ∙ ap (λ (i : ℕ). record { first = f.vars + 1; rules = i }) count)
           ∙ ap (λ (e : Formula). choices ++ (record { first = f.vars + 1; rules = length rules }) ∷ step_choice_variables rules (next ∷ tables) e.vars) made
-          ∙ ap (λ (ts : List (List VarLits)). choices ++ step_choice_variables rules ts f.vars) (sym split)
+          ∙ ap (λ (ts : List (List VarValueAndBoundLits)). choices ++ step_choice_variables rules ts f.vars) (sym split)
           ∙ seen,
       ap (λ (e : Formula). with_part e (steps_part rules (next ∷ tables) e.vars)) made
           ∙ with_part-and_then f p (steps_part rules (next ∷ tables))
-          ∙ ap (λ (ts : List (List VarLits)). with_part f (steps_part rules ts f.vars)) (sym split)
+          ∙ ap (λ (ts : List (List VarValueAndBoundLits)). with_part f (steps_part rules ts f.vars)) (sym split)
           ∙ h,
     )
 
-pub few-steps : (rules : List PlainRule) (tables : List (List VarLits)) (n : ℕ) → length tables ≤ 1 → (steps_part rules tables n ≡ empty_part n) × (step_choice_variables rules tables n ≡ [])
+pub few-steps : (rules : List PlainRule) (tables : List (List VarValueAndBoundLits)) (n : ℕ) → length tables ≤ 1 → (steps_part rules tables n ≡ empty_part n) × (step_choice_variables rules tables n ≡ [])
 few-steps rules [] n h = (refl, refl)
 few-steps rules (now ∷ []) n h = (refl, refl)
 few-steps rules (now ∷ next ∷ tables) n h = absurd (omega arith)
 
-pub few-left : (tables : List (List VarLits)) (i : ℕ) → length tables ≤ i → length (drop (i - 1) tables) ≤ 1
+pub few-left : (tables : List (List VarValueAndBoundLits)) (i : ℕ) → length tables ≤ i → length (drop (i - 1) tables) ≤ 1
 few-left tables i h = omega (arith, length-drop (i - 1) tables)

@@ -1,4 +1,4 @@
--- The demands of a query on the copies of a run: the forms of a goal, each in some copies.
+-- The forms that a query demands, each with the copy (moment of a run) to which it refers.
 use Rattle.std.specs.Prelude.{ℕ, ◌+◌, Bool, true, false, List, [], ◌∷◌, ◌++◌, ◌&&◌, map, nat_lt, nat_le}
 use Rattle.std.specs.List.{list_all, range_with_len, flat_map}
 use Rattle.ilk_ir.specs.Tree.{Tree, all_of, negation, trees_from_list, tree_valid}
@@ -7,57 +7,60 @@ use Rattle.ilk_unroll.specs.declared.queries.Goal.{Goal}
 use Rattle.ilk_unroll.specs.declared.queries.Wanted.{Wanted}
 use Rattle.ilk_unroll.specs.declared.queries.Wanted.TheVariants.{Hazard, Breach, Step}
 
--- A goal with trees for forms.
+-- The forms of a goal (`Goal`) as trees.
 pub record PlainGoal : Type 0 where
   pub start : Tree
   pub hazard : Tree
   pub wellformed : Tree
   pub families : List Tree
 
+-- The forms of goal `g` as trees.
 abbrev pub plain_goal : Goal → PlainGoal
 plain_goal g =
     record { start = tree_of g.start; hazard = tree_of g.hazard; wellformed = tree_of g.wellformed; families = map tree_of g.families }
 
--- Returns whether each form is valid over the ranges.
+-- Returns whether each form of the goal is valid over variables with these ranges.
 abbrev pub goal_valid : List ℕ → PlainGoal → Bool
 goal_valid ranges g =
     tree_valid ranges g.start && tree_valid ranges g.hazard && tree_valid ranges g.wellformed && list_all (tree_valid ranges) g.families
 
--- The number of steps of the runs that a query asks for.
+-- The number of steps of the runs for which a query asks.
 abbrev pub step_count : Wanted → ℕ
 step_count (Hazard n) = n
 step_count (Breach n) = n
 step_count (Step n) = n
 
--- Returns whether the query has at most 16 steps, and at least one if it is a step query.
+-- Returns whether a query has at most 16 steps, and at least one if it asks for an induction step.
 abbrev pub step_count_is_allowed : Wanted → Bool
 step_count_is_allowed (Hazard n) = nat_le n 16
 step_count_is_allowed (Breach n) = nat_le n 16
 step_count_is_allowed (Step n) = nat_lt 0 n && nat_le n 16
 
--- A form that has to hold, or to fail, in copy number `copy`.
+-- A form that has to hold (`holds`), or to fail, in copy number `copy` of a run.
 pub record CopyDemand : Type 0 where
   pub copy : ℕ
   pub form : Tree
   pub holds : Bool
 
+-- The demand that form `t` holds in copy `j`.
 abbrev pub must_hold_in : ℕ → Tree → CopyDemand
 must_hold_in j t = record { copy = j; form = t; holds = true }
 
+-- The demand that form `t` fails in copy `j`.
 abbrev pub must_fail_in : ℕ → Tree → CopyDemand
 must_fail_in j t = record { copy = j; form = t; holds = false }
 
--- The demand that the form holds in each copy below `n`.
+-- The demands that form `t` holds in each copy below `n`.
 abbrev pub must_hold_below : Tree → ℕ → List CopyDemand
 must_hold_below t n = map (λ j. must_hold_in j t) (range_with_len 0 n)
 
--- The demands of a query.
+-- All demands of a query, by the forms of goal `g`.
 abbrev pub demands_of : PlainGoal → Wanted → List CopyDemand
 -- From the start by `n` steps to a hazard, through states without one.
 demands_of g (Hazard n) = must_hold_in 0 g.start ∷ must_hold_below g.wellformed n ++ must_hold_in n g.hazard ∷ []
--- From the start by `n` steps to a broken family, and no state has a hazard.
+-- From the start by `n` steps to a broken family; no state has a hazard.
 demands_of g (Breach n) = must_hold_in 0 g.start ∷ must_hold_below g.wellformed (n + 1) ++ must_fail_in n (all_of (trees_from_list g.families)) ∷ []
--- From anywhere by `n` steps to a hazard or a broken family, through states without either.
+-- From anywhere by `n` steps to a hazard or broken family, through states without either.
 demands_of g (Step n) =
     must_hold_below g.wellformed n ++ flat_map (λ t. must_hold_below t n) g.families
     ++ must_fail_in n (all_of (trees_from_list (negation g.hazard ∷ g.families))) ∷ []

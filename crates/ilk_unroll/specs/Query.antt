@@ -1,62 +1,67 @@
--- The formula of a query: copies of the system's values, steps between them, and demands. Each part
--- depends only on the ranges, the rules or its one form, and on the first of its variables.
+-- The formula of a query: a copy (time frame) of the system's values for each moment of a run, the
+-- steps between them, and the demands. Each part depends only on the ranges, the rules or its form,
+-- and on its first variable.
 use Rattle.std.specs.Prelude.{ℕ, zero, suc, List, [], ◌∷◌, ◌++◌, slice_index_or, if◌then◌else◌}
 use Rattle.ilk_cnf.specs.Formula.{Formula}
 use Rattle.ilk_cnf.specs.Part.{FormulaPart, empty_part, and_then, with_part}
 use Rattle.ilk_ir.specs.System.{PlainRule, PlainSystem}
-use Rattle.ilk_forms.specs.declared.copy.VarLits.{VarLits}
-use Rattle.ilk_forms.specs.Copy.{PartWithColumns, copy_part}
-use Rattle.ilk_forms.specs.Demand.{lit_or_form_part}
-use Rattle.ilk_forms.specs.Violated.{violated_part}
+use Rattle.ilk_forms.specs.declared.copy.VarValueAndBoundLits.{VarValueAndBoundLits}
+use Rattle.ilk_forms.specs.Copy.{PartWithAllVarLits, copy_part}
+use Rattle.ilk_forms.specs.Demand.{some_lit_or_form_part}
+use Rattle.ilk_forms.specs.Violated.{form_fails_part}
 use Rattle.ilk_step.specs.Step.{step_part}
 use Rattle.ilk_unroll.specs.Goal.{PlainGoal, CopyDemand, step_count, demands_of}
 use Rattle.ilk_unroll.specs.declared.queries.Wanted.{Wanted}
 
--- A part, and the literals of each copy that it adds.
-pub record PartWithTables : Type 0 where
+-- A formula part, and the literals of each copy that it adds (`tables`).
+pub record PartWithCopyLits : Type 0 where
   pub part : FormulaPart
-  pub tables : List (List VarLits)
+  pub tables : List (List VarValueAndBoundLits)
 
--- A copy's clauses and literals before those of the later copies, and its variables after theirs.
-abbrev pub prepend_copy : PartWithColumns → PartWithTables → PartWithTables
+-- Puts one copy before the later ones: its clauses and literals come before theirs, its variables
+-- after theirs.
+abbrev pub prepend_copy : PartWithAllVarLits → PartWithCopyLits → PartWithCopyLits
 prepend_copy one later =
     record {
       part = record { vars = one.part.vars; clauses = one.part.clauses ++ later.part.clauses };
       tables = one.columns ∷ later.tables;
     }
 
--- `count` copies with these ranges after `n` variables, from the first moment's to the last's.
--- Their variables are in reverse order: the last copy has the lowest.
-abbrev pub copies_part : List ℕ → ℕ → ℕ → PartWithTables
+-- The formula part with `count` copies, from the first moment to the last, after the first `n`
+-- variables. Their variables are in reverse order: the last copy has the lowest.
+abbrev pub copies_part : List ℕ → ℕ → ℕ → PartWithCopyLits
 copies_part ranges zero n = record { part = empty_part n; tables = [] }
 copies_part ranges (suc count) n = prepend_copy (copy_part ranges (copies_part ranges count n).part.vars) (copies_part ranges count n)
 
--- A step from each copy to the next, after `n` variables.
-abbrev pub steps_part : List PlainRule → List (List VarLits) → ℕ → FormulaPart
+-- The formula part with a step from each copy to the next, after the first `n` variables.
+abbrev pub steps_part : List PlainRule → List (List VarValueAndBoundLits) → ℕ → FormulaPart
 steps_part rules [] n = empty_part n
 steps_part rules (now ∷ []) n = empty_part n
 steps_part rules (now ∷ next ∷ tables) n = and_then (step_part rules now next n) (steps_part rules (next ∷ tables))
 
--- The literals of copy number `j`, which depend only on the ranges and the copy's first variable.
-abbrev pub table_at : List (List VarLits) → ℕ → List VarLits
-table_at tables j = slice_index_or tables j []
+-- The literals of copy number `j`, or none if there is no such copy.
+abbrev pub copy_lits_at : List (List VarValueAndBoundLits) → ℕ → List VarValueAndBoundLits
+copy_lits_at tables j = slice_index_or tables j []
 
--- The demand, after `n` variables, that the form holds, or fails, in its copy.
-abbrev pub demanded_part : List (List VarLits) → CopyDemand → ℕ → FormulaPart
+-- The formula part, after the first `n` variables, that says that the form of demand `d` holds, or
+-- fails, in its copy.
+abbrev pub demanded_part : List (List VarValueAndBoundLits) → CopyDemand → ℕ → FormulaPart
 demanded_part tables d n =
-    if d.holds then lit_or_form_part (table_at tables d.copy) [] d.form n else violated_part (table_at tables d.copy) d.form n
+    if d.holds then some_lit_or_form_part (copy_lits_at tables d.copy) [] d.form n else form_fails_part (copy_lits_at tables d.copy) d.form n
 
-abbrev pub demands_part : List (List VarLits) → List CopyDemand → ℕ → FormulaPart
+-- The formula part with all demands, after the first `n` variables.
+abbrev pub demands_part : List (List VarValueAndBoundLits) → List CopyDemand → ℕ → FormulaPart
 demands_part tables [] n = empty_part n
 demands_part tables (d ∷ ds) n = and_then (demanded_part tables d n) (demands_part tables ds)
 
--- A copy for the first values and after each step, the steps, and the query's demands.
+-- The formula part of query `q`: a copy for the first values and one after each step, the steps,
+-- and the query's demands.
 abbrev pub query_part : PlainSystem → PlainGoal → Wanted → FormulaPart
 query_part s g q = after (copies_part s.ranges (suc (step_count q)) 0)
   where
-    after : PartWithTables → FormulaPart
+    after : PartWithCopyLits → FormulaPart
     after copies = and_then copies.part (λ m. and_then (steps_part s.rules copies.tables m) (demands_part copies.tables (demands_of g q)))
 
--- The formula of a query: its copies, its steps and its demands, and nothing else.
+-- The whole formula of query `q`: its copies, steps and demands.
 abbrev pub query_formula : PlainSystem → PlainGoal → Wanted → Formula
 query_formula s g q = with_part (record { vars = 0; clauses = [] }) (query_part s g q)

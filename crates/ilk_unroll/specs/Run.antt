@@ -1,4 +1,4 @@
--- Runs of a system over value lists, and those that a query asks for.
+-- Runs of a system over lists of values, and those for which a query asks.
 use Rattle.std.specs.Prelude.{ℕ, Bool, List, [], ◌∷◌, ◌==◌, ◌&&◌, length, Option, Some, slice_get, option_map, option_and_then}
 use Rattle.std.specs.List.{list_all}
 use Rattle.ilk_base.specs.Option.{is_some_and}
@@ -8,20 +8,20 @@ use Rattle.ilk_forms.specs.Gathered.{bool_equals}
 use Rattle.ilk_unroll.specs.Goal.{PlainGoal, CopyDemand, step_count, demands_of}
 use Rattle.ilk_unroll.specs.declared.queries.Wanted.{Wanted}
 
--- The value lists of the run that begins with `values` and fires `rules` in order, if each guard
--- holds.
+-- Returns the value lists of the run that begins with `values` and fires the rules with these
+-- numbers in order. Returns `None` if some guard does not hold.
 abbrev pub run_firing_rules : PlainSystem → List ℕ → List ℕ → Option (List (List ℕ))
 run_firing_rules s values [] = Some (values ∷ [])
 run_firing_rules s values (rule ∷ rules) =
     option_map (λ run. values ∷ run) (option_and_then (λ next. run_firing_rules s next rules) (after_rule_number s rule values))
 
--- Returns whether the value lists meet the demand.
-abbrev pub is_met_by : List (List ℕ) → CopyDemand → Bool
-is_met_by run d = is_some_and (slice_get run d.copy) (λ values. bool_equals d.holds (tree_holds values d.form))
+-- Returns whether the value lists of a run meet demand `d`.
+abbrev pub demand_is_met_by_run : List (List ℕ) → CopyDemand → Bool
+demand_is_met_by_run run d = is_some_and (slice_get run d.copy) (λ values. bool_equals d.holds (tree_holds values d.form))
 
--- Returns whether a run with these first values and rules exists and is one that the query asks
--- for.
+-- Returns whether the system has a run that begins with the values `first` and fires `rules`, and
+-- query `q` asks for it.
 abbrev pub is_wanted_run : PlainSystem → PlainGoal → Wanted → List ℕ → List ℕ → Bool
 is_wanted_run s g q first rules =
     in_ranges first s.ranges && length rules == step_count q
-    && is_some_and (run_firing_rules s first rules) (λ run. list_all (is_met_by run) (demands_of g q))
+    && is_some_and (run_firing_rules s first rules) (λ run. list_all (demand_is_met_by_run run) (demands_of g q))

@@ -5,12 +5,12 @@ ghost use Rattle.ilk_ir.specs.Form.{tree_of, trees_of};
 ghost use Rattle.ilk_ir.specs.Tree.{all_of, more, negation};
 ghost use Rattle.ilk_unroll.specs.Goal.{must_hold_in, must_fail_in, must_hold_below, demands_of, plain_goal, step_count};
 ghost use Rattle.ilk_unroll.specs.Query.{demands_part};
-ghost use Rattle.ilk_unroll.specs.Tables.{are_copies_over, is_valid_in_each};
+ghost use Rattle.ilk_unroll.specs.Tables.{are_copies_within_vars, is_valid_in_each};
 
 use crate::queries::{Goal, Wanted};
 use crate::unroll::RunLits;
 use ilk_cnf::Cnf;
-use ilk_forms::{demand_form_or_some_fail, demand_lit_or_form, demand_some_fails};
+use ilk_forms::{demand_form_or_some_fail, demand_some_form_fails, demand_some_lit_or_form};
 use ilk_ir::{Form, Forms};
 use std::alloc::{AllocError, Global};
 
@@ -22,15 +22,15 @@ fn demand_in(
     copy: u32,
 ) -> Result<(), AllocError>
     requires copy { copy < length tables.now }
-    requires within { IsTrue (are_copies_over cnf.old.vars tables.now) }
+    requires within { IsTrue (are_copies_within_vars cnf.old.vars tables.now) }
     requires valid { IsTrue (is_valid_in_each tables.now (tree_of form.now)) }
     ensures made { OnOk result
         (cnf.new
         ≡ with_part cnf.old
         (demands_part tables.now (must_hold_in copy (tree_of form.now) ∷ []) cnf.old.vars)) }
-    ensures within { OnOk result (IsTrue (are_copies_over cnf.new.vars tables.now)) }
+    ensures within { OnOk result (IsTrue (are_copies_within_vars cnf.new.vars tables.now)) }
 {
-    demand_lit_or_form(alloc, cnf, tables.at(u64::from(copy)), &[], form)?;
+    demand_some_lit_or_form(alloc, cnf, tables.at(u64::from(copy)), &[], form)?;
     Ok(())
 }
 
@@ -42,13 +42,13 @@ fn demand_below(
     count: u32,
 ) -> Result<(), AllocError>
     requires count { count ≤ length tables.now }
-    requires within { IsTrue (are_copies_over cnf.old.vars tables.now) }
+    requires within { IsTrue (are_copies_within_vars cnf.old.vars tables.now) }
     requires valid { IsTrue (is_valid_in_each tables.now (tree_of form.now)) }
     ensures made { OnOk result
         (cnf.new
         ≡ with_part cnf.old
         (demands_part tables.now (must_hold_below (tree_of form.now) count) cnf.old.vars)) }
-    ensures within { OnOk result (IsTrue (are_copies_over cnf.new.vars tables.now)) }
+    ensures within { OnOk result (IsTrue (are_copies_within_vars cnf.new.vars tables.now)) }
 {
     for copy in 0..count {
         demand_in(alloc, cnf, tables, form, copy)?;
@@ -64,14 +64,14 @@ fn demand_each_below(
     count: u32,
 ) -> Result<(), AllocError>
     requires count { count ≤ length tables.now }
-    requires within { IsTrue (are_copies_over cnf.old.vars tables.now) }
+    requires within { IsTrue (are_copies_within_vars cnf.old.vars tables.now) }
     requires valid { IsTrue (list_all (is_valid_in_each tables.now) (map tree_of forms.now)) }
     ensures made { OnOk result
         (cnf.new
         ≡ with_part cnf.old
         (demands_part tables.now
         (flat_map (λ t. must_hold_below t count) (map tree_of forms.now)) cnf.old.vars)) }
-    ensures within { OnOk result (IsTrue (are_copies_over cnf.new.vars tables.now)) }
+    ensures within { OnOk result (IsTrue (are_copies_within_vars cnf.new.vars tables.now)) }
 {
     for form in forms {
         demand_below(alloc, cnf, tables, form, count)?;
@@ -79,7 +79,6 @@ fn demand_each_below(
     Ok(())
 }
 
-// Demands that some of the forms fails in copy number `copy`.
 fn demand_violated(
     alloc: Global,
     cnf: &mut Cnf,
@@ -88,7 +87,7 @@ fn demand_violated(
     copy: u32,
 ) -> Result<(), AllocError>
     requires copy { copy < length tables.now }
-    requires within { IsTrue (are_copies_over cnf.old.vars tables.now) }
+    requires within { IsTrue (are_copies_within_vars cnf.old.vars tables.now) }
     requires valid { IsTrue (is_valid_in_each tables.now (all_of (trees_of forms.now))) }
     ensures { OnOk result
         (cnf.new
@@ -96,11 +95,10 @@ fn demand_violated(
         (demands_part tables.now (must_fail_in copy (all_of (trees_of forms.now)) ∷ [])
         cnf.old.vars)) }
 {
-    demand_some_fails(alloc, cnf, tables.at(u64::from(copy)), forms.as_slice())?;
+    demand_some_form_fails(alloc, cnf, tables.at(u64::from(copy)), forms.as_slice())?;
     Ok(())
 }
 
-// Demands that `form` holds in copy number `copy`, or some of `forms` fails there.
 fn demand_or_violated(
     alloc: Global,
     cnf: &mut Cnf,
@@ -110,7 +108,7 @@ fn demand_or_violated(
     copy: u32,
 ) -> Result<(), AllocError>
     requires copy { copy < length tables.now }
-    requires within { IsTrue (are_copies_over cnf.old.vars tables.now) }
+    requires within { IsTrue (are_copies_within_vars cnf.old.vars tables.now) }
     requires valid { IsTrue
         (is_valid_in_each tables.now (all_of
         (more (negation (tree_of form.now)) (trees_of forms.now)))) }
@@ -135,7 +133,7 @@ fn add_hazard(
     steps: u32,
 ) -> Result<(), AllocError>
     requires steps { steps < length tables.now }
-    requires within { IsTrue (are_copies_over cnf.old.vars tables.now) }
+    requires within { IsTrue (are_copies_within_vars cnf.old.vars tables.now) }
     requires start { IsTrue (is_valid_in_each tables.now (tree_of goal.now.start)) }
     requires hazard { IsTrue (is_valid_in_each tables.now (tree_of goal.now.hazard)) }
     requires wellformed { IsTrue (is_valid_in_each tables.now (tree_of goal.now.wellformed)) }
@@ -160,7 +158,7 @@ fn add_breach(
 ) -> Result<(), AllocError>
     requires steps { steps < length tables.now }
     requires few { steps ≤ 16 }
-    requires within { IsTrue (are_copies_over cnf.old.vars tables.now) }
+    requires within { IsTrue (are_copies_within_vars cnf.old.vars tables.now) }
     requires start { IsTrue (is_valid_in_each tables.now (tree_of goal.now.start)) }
     requires wellformed { IsTrue (is_valid_in_each tables.now (tree_of goal.now.wellformed)) }
     requires families { IsTrue (is_valid_in_each tables.now (all_of (trees_of goal.now.families))) }
@@ -184,7 +182,7 @@ fn add_step_query(
     steps: u32,
 ) -> Result<(), AllocError>
     requires steps { steps < length tables.now }
-    requires within { IsTrue (are_copies_over cnf.old.vars tables.now) }
+    requires within { IsTrue (are_copies_within_vars cnf.old.vars tables.now) }
     requires wellformed { IsTrue (is_valid_in_each tables.now (tree_of goal.now.wellformed)) }
     requires each { IsTrue (list_all (is_valid_in_each tables.now)
         (map tree_of goal.now.families)) }
@@ -203,8 +201,9 @@ fn add_step_query(
     Ok(())
 }
 
-/// Adds what the query demands of the copies. If memory runs out, `cnf` may have grown.
-pub fn add_demands(
+/// Adds to `cnf` the clauses for what query `q` demands of the copies: which forms of `goal` hold
+/// or fail in which copy. `tables` has the copies' literals. On error, `cnf` may have grown.
+pub(crate) fn add_query_demands(
     alloc: Global,
     cnf: &mut Cnf,
     tables: &RunLits,
@@ -213,7 +212,7 @@ pub fn add_demands(
 ) -> Result<(), AllocError>
     requires steps { step_count q < length tables.now }
     requires few { step_count q ≤ 16 }
-    requires within { IsTrue (are_copies_over cnf.old.vars tables.now) }
+    requires within { IsTrue (are_copies_within_vars cnf.old.vars tables.now) }
     requires start { IsTrue (is_valid_in_each tables.now (tree_of goal.now.start)) }
     requires hazard { IsTrue (is_valid_in_each tables.now (tree_of goal.now.hazard)) }
     requires wellformed { IsTrue (is_valid_in_each tables.now (tree_of goal.now.wellformed)) }

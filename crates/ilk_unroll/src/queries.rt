@@ -3,20 +3,21 @@ ghost use Rattle.ilk_unroll.specs.Goal.{step_count};
 
 use ilk_ir::{Form, Forms};
 
-/// The kind of run that a query asks for, with its number of steps.
+/// A query: the kind of run that it asks for, with the number of steps.
 #[derive(Clone, Copy)]
 pub enum Wanted {
-    /// A run from the start to a hazard, through well-formed values.
+    /// A run from the start to a hazard, through values of hazard-free states.
     Hazard(u32),
-    /// A run from the start through well-formed values to values that break a family.
+    /// A run from the start, through values of hazard-free states, to such values that break a
+    /// family of the invariant.
     Breach(u32),
-    /// A run from anywhere, through well-formed values that keep all families, to a hazard or to
-    /// values that break a family.
+    /// A counterexample to induction: a run from anywhere, through values of hazard-free states
+    /// that keep all families, to a hazard or to values that break a family.
     Step(u32),
 }
 
 impl Wanted {
-    /// Returns the number of steps of the runs.
+    /// Returns the number of steps of the run.
     pub fn steps(self) -> u32
         ensures { result ≡ step_count self }
     {
@@ -28,15 +29,15 @@ impl Wanted {
     }
 }
 
-/// The forms that queries use.
+/// The forms over a system's values that queries use.
 #[derive(Drop)]
 pub struct Goal {
-    /// The form of the first values.
+    /// Holds for the values at the start.
     pub start: Form,
-    /// The form of values with a hazard.
+    /// Holds for values with a hazard.
     pub hazard: Form,
-    /// The form of values of a state without hazard.
+    /// Holds for values that are those of a state without hazard.
     pub wellformed: Form,
-    /// The form of values that keep the family, for each family.
+    /// For each family of the invariant, a form that holds for values that keep it.
     pub families: Forms,
 }

@@ -6,11 +6,11 @@ ghost use Rattle.ilk_unroll.specs.Goal.{plain_goal, goal_valid, step_count_is_al
 ghost use Rattle.ilk_unroll.specs.Run.{is_wanted_run};
 ghost use Rattle.ilk_unroll.specs.Query.{query_formula};
 ghost use Rattle.ilk_unroll.specs.Assignment.{run_assignment};
-ghost use Rattle.ilk_unroll.specs.Represented.{RepresentValues};
-ghost use Rattle.ilk_unroll.specs.Tables.{ChoosesEach, choices_begin_by};
+ghost use Rattle.ilk_unroll.specs.Represented.{BitsEncodeInRangeValues};
+ghost use Rattle.ilk_unroll.specs.Tables.{StepsChooseTheseRules, choices_begin_at_or_before};
 
 use crate::queries::{Goal, Wanted};
-use crate::unroll::{Choices, unroll};
+use crate::unroll::{StepRuleChoices, unroll};
 use ilk_base::Row;
 use ilk_cnf::{Assignment, Cnf};
 use ilk_ints::{Bounded, bit_count, value_of};
@@ -18,10 +18,10 @@ use ilk_ir::{Ranges, System, Values};
 use ilk_step::chosen_rule;
 use std::alloc::{AllocError, Global};
 
-/// Numbers of rules.
+/// A list of rule numbers, in the order in which the rules fire.
 pub type Rows = Row<u32>;
 
-/// A run: its first values, and the rules that fire, in order.
+/// A run of a system: its first values, and the numbers of the rules that fire, in order.
 #[derive(Drop)]
 pub struct Trace {
     pub first: Values,
@@ -38,9 +38,9 @@ fn read_values(
     requires from_1 { 0 < from }
     requires numbered { from + copy_bit_count ranges.now ≤ 2 ^ 62 + 1 }
     requires reached { from + copy_bit_count ranges.now ≤ length a.now + 1 }
-    requires told { (values : List ℕ) × RepresentValues a.now from ranges.now values }
+    requires told { (values : List ℕ) × BitsEncodeInRangeValues a.now from ranges.now values }
     ensures { IfOk result
-        (λ read. (values : List ℕ) → RepresentValues a.now from ranges.now values →
+        (λ read. (values : List ℕ) → BitsEncodeInRangeValues a.now from ranges.now values →
         read ≡ values) }
 {
     let mut values = Values::new(alloc);
@@ -58,11 +58,11 @@ fn read_values(
     Ok(values)
 }
 
-fn read_rules(alloc: Global, choices: &Choices, a: &Assignment) -> Result<Rows, AllocError>
-    requires numbered { IsTrue (choices_begin_by (2 ^ 62) choices.now) }
-    requires chosen { (rules : List ℕ) × ChoosesEach a.now choices.now rules }
+fn read_rules(alloc: Global, choices: &StepRuleChoices, a: &Assignment) -> Result<Rows, AllocError>
+    requires numbered { IsTrue (choices_begin_at_or_before (2 ^ 62) choices.now) }
+    requires chosen { (rules : List ℕ) × StepsChooseTheseRules a.now choices.now rules }
     ensures { IfOk result
-        (λ read. (rules : List ℕ) → ChoosesEach a.now choices.now rules → read ≡ rules) }
+        (λ read. (rules : List ℕ) → StepsChooseTheseRules a.now choices.now rules → read ≡ rules) }
 {
     let mut rules = Rows::new(alloc);
     for choice in choices.as_slice() {
@@ -71,9 +71,9 @@ fn read_rules(alloc: Global, choices: &Choices, a: &Assignment) -> Result<Rows, 
     Ok(rules)
 }
 
-/// Returns the run of an assignment that satisfies the formula of `query` for the same arguments.
-/// It unrolls the formula again to find its variables. No other run has this assignment, so two
-/// satisfying assignments with the same run are equal.
+/// Returns the run that a satisfying assignment of `query`'s formula, for the same arguments,
+/// represents. It unrolls the formula again to find its variables. Two satisfying assignments with
+/// the same run are equal.
 pub fn read_back(
     alloc: Global,
     system: &System,

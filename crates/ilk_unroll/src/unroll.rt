@@ -1,33 +1,33 @@
 ghost use Rattle.std.specs.Prelude.{◌≡◌, ◌+◌, ◌*◌, ◌<◌, ◌≤◌, ◌^◌, [], nat_lt, map, OnOk, IfOk, IsTrue};
 ghost use Rattle.std.specs.List.{list_all};
-ghost use Rattle.ilk_cnf.specs.Formula.{with_clauses, with_var_count};
+ghost use Rattle.ilk_cnf.specs.Formula.{with_vars_and_clauses, with_var_count};
 ghost use Rattle.ilk_cnf.specs.Part.{with_part, clauses_from_lists};
 ghost use Rattle.ilk_ir.specs.System.{plain_rule, plain_system, system_valid};
 ghost use Rattle.ilk_forms.specs.Copy.{copy_bit_count, copy_var_count};
 ghost use Rattle.ilk_unroll.specs.Query.{copies_part, steps_part};
 ghost use Rattle.ilk_unroll.specs.Represented.{run_choices, run_copies, run_part};
-ghost use Rattle.ilk_unroll.specs.Tables.{are_copies_over, HaveRanges, step_choice_variables, choices_begin_by};
+ghost use Rattle.ilk_unroll.specs.Tables.{are_copies_within_vars, CopiesHaveRanges, step_choice_variables, choices_begin_at_or_before};
 
 use ilk_base::Row;
 use ilk_cnf::Cnf;
-use ilk_forms::{CopyLits, add_copy, reserve_copy};
+use ilk_forms::{CopyLits, add_copy_clauses, reserve_copy};
 use ilk_ir::{Ranges, System};
 use ilk_step::{Choice, add_step};
 use std::alloc::{AllocError, Global};
 
-/// The literals of the copy of each moment, from the first on.
-pub type RunLits = Row<CopyLits>;
+/// The literals of the copy (time frame) of each moment of a run, from the first on.
+pub(crate) type RunLits = Row<CopyLits>;
 
-/// The variables that say which rule is chosen, for each step.
-pub type Choices = Row<Choice>;
+/// For each step of a run, the variables that say which rule is chosen.
+pub(crate) type StepRuleChoices = Row<Choice>;
 
-/// An unrolled system: its literals, and the variables from which a run is read.
+/// An unrolled system: the literals of its copies, and the variables from which a run is read.
 #[derive(Drop)]
-pub struct Unrolled {
+pub(crate) struct Unrolled {
     pub tables: RunLits,
-    /// The first variable of the first values' copy.
+    /// The first variable of the copy of the first values.
     pub first: u64,
-    pub choices: Choices,
+    pub choices: StepRuleChoices,
 }
 
 fn take_copies(cnf: &mut Cnf, ranges: &Ranges, count: u32) -> Result<(), AllocError>
@@ -40,8 +40,6 @@ fn take_copies(cnf: &mut Cnf, ranges: &Ranges, count: u32) -> Result<(), AllocEr
     Ok(())
 }
 
-// Adds the clauses of `count` copies, from the first moment's to the last's. Each has `width`
-// variables, and those of the last moment come first.
 fn add_copies(
     alloc: Global,
     cnf: &mut Cnf,
@@ -54,27 +52,26 @@ fn add_copies(
     ensures tables { IfOk result (λ tables. tables ≡ (copies_part ranges.now count 0).tables) }
     ensures made { OnOk result
         (cnf.new
-        ≡ with_clauses cnf.old cnf.old.vars
+        ≡ with_vars_and_clauses cnf.old cnf.old.vars
         (clauses_from_lists (copies_part ranges.now count 0).part.clauses)) }
 {
     let mut tables = RunLits::new(alloc);
     let mut before = cnf.vars();
     for _ in 0..count {
         before -= width;
-        tables.push(add_copy(alloc, cnf, ranges, before)?)?;
+        tables.push(add_copy_clauses(alloc, cnf, ranges, before)?)?;
     }
     Ok(tables)
 }
 
-// Adds a step from each copy to the next.
 fn add_steps(
     alloc: Global,
     cnf: &mut Cnf,
     system: &System,
     tables: &RunLits,
-) -> Result<Choices, AllocError>
-    requires within { IsTrue (are_copies_over cnf.old.vars tables.now) }
-    requires ranges { HaveRanges system.now.ranges tables.now }
+) -> Result<StepRuleChoices, AllocError>
+    requires within { IsTrue (are_copies_within_vars cnf.old.vars tables.now) }
+    requires ranges { CopiesHaveRanges system.now.ranges tables.now }
     requires valid { IsTrue (system_valid (plain_system system.now)) }
     ensures choices { IfOk result
         (λ choices. choices
@@ -84,7 +81,7 @@ fn add_steps(
         ≡ with_part cnf.old
         (steps_part (map plain_rule system.now.rules) tables.now cnf.old.vars)) }
 {
-    let mut choices = Choices::new(alloc);
+    let mut choices = StepRuleChoices::new(alloc);
     for i in 1..tables.len() {
         let choice = add_step(alloc, cnf, tables.at(i - 1), tables.at(i), &system.rules)?;
         choices.push(choice)?;
@@ -92,7 +89,6 @@ fn add_steps(
     Ok(choices)
 }
 
-// Returns the ranges unchanged; each is a byte.
 fn bytes_of(ranges: &[u8]) -> &[u8]
     ensures items { result.now ≡ ranges.now }
     ensures bytes { IsTrue (list_all (λ range. nat_lt range 256) ranges.now) }
@@ -100,10 +96,11 @@ fn bytes_of(ranges: &[u8]) -> &[u8]
     ranges
 }
 
-/// Adds a copy for the first values and after each step, and then the steps. The copies' variables
-/// come before all others, those of the last moment first. If memory runs out, `cnf` may have
-/// grown.
-pub fn unroll(
+/// Adds to `cnf` a copy of the system's values for the start and one after each of `steps` steps,
+/// and then the steps. The copies' variables come before all others, those of the last moment
+/// first. Returns the copies' literals and the variables of the chosen rules. On error, `cnf` may
+/// have grown.
+pub(crate) fn unroll(
     alloc: Global,
     cnf: &mut Cnf,
     system: &System,
@@ -123,10 +120,10 @@ pub fn unroll(
         ≡ with_part (record { vars = 0; clauses = [] })
         (run_part (plain_system system.now) steps)) }
     ensures within { IfOk result
-        (λ unrolled. IsTrue (are_copies_over cnf.new.vars unrolled.tables)) }
-    ensures ranges { IfOk result (λ unrolled. HaveRanges system.now.ranges unrolled.tables) }
+        (λ unrolled. IsTrue (are_copies_within_vars cnf.new.vars unrolled.tables)) }
+    ensures ranges { IfOk result (λ unrolled. CopiesHaveRanges system.now.ranges unrolled.tables) }
     ensures numbered { IfOk result
-        (λ unrolled. IsTrue (choices_begin_by (2 ^ 62) unrolled.choices)) }
+        (λ unrolled. IsTrue (choices_begin_at_or_before (2 ^ 62) unrolled.choices)) }
     ensures reach { IfOk result
         (λ unrolled. unrolled.first + copy_bit_count system.now.ranges ≤ 2 ^ 62 + 1) }
     ensures bytes { OnOk result (IsTrue (list_all (λ range. nat_lt range 256) system.now.ranges)) }

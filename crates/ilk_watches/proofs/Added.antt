@@ -1,4 +1,3 @@
--- The queue after a clause was added.
 use Rattle.std.proofs.Common.{◌≡◌, ◌≢◌, ◌⊎◌, ◌<◌, ◌≤◌, ◌+◌, ℕ, inl, inr, true, false, List, [], ◌∷◌, ◌++◌, length, Some, refl, sym, ap, ◌∙◌, subst, arith, length-append}
 use Rattle.std.specs.List.{slice_get}
 use Rattle.std.proofs.lemmas.Bool.{and_parts, and_from, cases_Bool, true≢false}
@@ -13,14 +12,14 @@ use Rattle.ilk_log.specs.Propagation.{is_false, is_falsified}
 use Rattle.ilk_trail.specs.declared.entry.Entry.{Entry}
 use Rattle.ilk_trail.specs.Laws.{is_set, lits_of}
 use Rattle.ilk_trail.proofs.Entries.{set-at}
-use Rattle.ilk_arena.specs.Arena.{ArenaLists, with_clause_added, chain_of, literals_of, number_of_clause, is_listed_in}
+use Rattle.ilk_arena.specs.Arena.{ArenaLists, with_clause_added, chain_of, literals_of, number_of_clause, contains_reference}
 use Rattle.ilk_arena.proofs.Watching.{stands-with_clause_added}
 use Rattle.ilk_watches.specs.Chained.{IsClauses, IsClauseAdded}
 use Rattle.ilk_watches.proofs.Chained.{by-number, placed}
-use Rattle.ilk_watches.specs.Watched.{is_satisfied, FirstTwoAreWatchable, IsCovered, IsQueue, MayForce}
+use Rattle.ilk_watches.specs.Watched.{is_satisfied, FirstTwoAreWatchable, IsCovered, IsPropagationInvariant, MayForce}
 use Rattle.ilk_watches.proofs.Covers.{stands-either, stands-one}
 
-chains-old : (a : ArenaLists) (clause : List Literal) (r s d : ℕ) (p : Literal) → d ≢ r → is_listed_in d (chain_of (with_clause_added a clause r s) p) ≡ true → is_listed_in d (chain_of a p) ≡ true
+chains-old : (a : ArenaLists) (clause : List Literal) (r s d : ℕ) (p : Literal) → d ≢ r → contains_reference d (chain_of (with_clause_added a clause r s) p) ≡ true → contains_reference d (chain_of a p) ≡ true
 chains-old a [] r s d p ne h = h
 chains-old a (l ∷ []) r s d p ne h = h
 chains-old a (l ∷ (m ∷ ls)) r s d p ne h = elim (stands-with_clause_added a l m ls r s d p h) [ inl q ↦ q | inr q ↦ absurd (ne q.0) ]
@@ -29,7 +28,7 @@ pub record Same (a b : ArenaLists) (c : ℕ) : Type 0 where
   pub literals : literals_of b c ≡ literals_of a c
   pub number : number_of_clause b c ≡ number_of_clause a c
 
-old-same : (a : ArenaLists) (clause : List Literal) (r s c : ℕ) → IsClauses a → IsClauses (with_clause_added a clause r s) → is_listed_in c a.references ≡ true → Same a (with_clause_added a clause r s) c
+old-same : (a : ArenaLists) (clause : List Literal) (r s c : ℕ) → IsClauses a → IsClauses (with_clause_added a clause r s) → contains_reference c a.references ≡ true → Same a (with_clause_added a clause r s) c
 old-same a clause r s c ka kb known =
     let p = placed a.references c known in
     let old = by-number a p.index c ka p.stands in
@@ -64,7 +63,8 @@ falsified-other_lits set l (m ∷ ls) h =
 not-made : (es : List Entry) (i : ℕ) (e : Entry) (l : Literal) → is_set es l.var ≡ false → slice_get es i ≡ Some e → e.lit ≢ negated_lit l
 not-made es i e l u s q = true≢false (sym (set-at es i e s) ∙ ap (λ (m : Literal). is_set es m.var) q ∙ u)
 
-new-watches : (a : ArenaLists) (l m : Literal) (ls : List Literal) (r s : ℕ) (p : Literal) → IsClauses a → is_listed_in r a.references ≡ false → is_listed_in r (chain_of (with_clause_added a (l ∷ (m ∷ ls)) r s) p) ≡ true → (p ≡ l) ⊎ (p ≡ m)
+new-watches : (a : ArenaLists) (l m : Literal) (ls : List Literal) (r s : ℕ) (p : Literal) → IsClauses a → contains_reference r a.references ≡ false → contains_reference r (chain_of (with_clause_added a (l ∷ (m ∷ ls)) r s) p) ≡ true →
+    (p ≡ l) ⊎ (p ≡ m)
 new-watches a l m ls r s p k fresh h =
     elim (stands-with_clause_added a l m ls r s r p h) [
       | inl q ↦ absurd (true≢false (sym (k.arena.held p r q) ∙ fresh))
@@ -72,8 +72,8 @@ new-watches a l m ls r s p k fresh h =
     ]
 
 new-covered : (a : ArenaLists) (es : List Entry) (h s r sp : ℕ) (clause : List Literal) → IsClauses a →
-    IsClauses (with_clause_added a clause r sp) → is_listed_in r a.references ≡ false →
-    is_listed_in r (with_clause_added a clause r sp).references ≡ true → s ≤ length a.clauses → FirstTwoAreWatchable es clause →
+    IsClauses (with_clause_added a clause r sp) → contains_reference r a.references ≡ false →
+    contains_reference r (with_clause_added a clause r sp).references ≡ true → s ≤ length a.clauses → FirstTwoAreWatchable es clause →
     IsCovered (with_clause_added a clause r sp) es h r
     ⊎
     ((s < number_of_clause (with_clause_added a clause r sp) r) ×
@@ -108,8 +108,8 @@ new-covered a es h s r sp (l ∷ (m ∷ ls)) ka kb fresh known le ok =
       )
     ]
 
-old-covered : (a : ArenaLists) (es : List Entry) (h s r sp c : ℕ) (clause : List Literal) → IsQueue a es h s →
-    IsClauses a → IsClauses (with_clause_added a clause r sp) → is_listed_in c a.references ≡ true → c ≢ r →
+old-covered : (a : ArenaLists) (es : List Entry) (h s r sp c : ℕ) (clause : List Literal) → IsPropagationInvariant a es h s →
+    IsClauses a → IsClauses (with_clause_added a clause r sp) → contains_reference c a.references ≡ true → c ≢ r →
     IsCovered (with_clause_added a clause r sp) es h c
     ⊎
     ((s < number_of_clause (with_clause_added a clause r sp) c) ×
@@ -133,10 +133,11 @@ old-covered a es h s r sp c clause q ka kb known ne =
       )
     ]
 
-grown : (a : ArenaLists) (es : List Entry) (h s r sp : ℕ) (clause : List Literal) → IsQueue a es h s → IsClauses a → IsClauses (with_clause_added a clause r sp) → is_listed_in r a.references ≡ false → FirstTwoAreWatchable es clause
-    → IsQueue (with_clause_added a clause r sp) es h s
+grown : (a : ArenaLists) (es : List Entry) (h s r sp : ℕ) (clause : List Literal) → IsPropagationInvariant a es h s → IsClauses a → IsClauses (with_clause_added a clause r sp) → contains_reference r a.references ≡ false →
+    FirstTwoAreWatchable es clause
+    → IsPropagationInvariant (with_clause_added a clause r sp) es h s
 grown a es h s r sp clause q ka kb fresh ok =
-    let other : (c : ℕ) → is_listed_in c a.references ≡ true → c ≢ r = λ c known e. true≢false (sym known ∙ ap (λ (x : ℕ). is_listed_in x a.references) e ∙ fresh) in
+    let other : (c : ℕ) → contains_reference c a.references ≡ true → c ≢ r = λ c known e. true≢false (sym known ∙ ap (λ (x : ℕ). contains_reference x a.references) e ∙ fresh) in
     record {
       head_in = q.head_in;
       settled_in = omega (arith, q.settled_in, length-append a.clauses (clause ∷ []));
@@ -145,7 +146,7 @@ grown a es h s r sp clause q ka kb fresh ok =
         | inl old ↦ old-covered a es h s r sp c clause q ka kb old (other c old)
         | inr new ↦ (let e = stands-one c r new in
             let P : ℕ → Type 0 = λ d. IsCovered (with_clause_added a clause r sp) es h d ⊎ ((s < number_of_clause (with_clause_added a clause r sp) d) × ((x y : Literal) × MayForce (with_clause_added a clause r sp) es h d x y)) in
-            subst P (sym e) (new-covered a es h s r sp clause ka kb fresh (ap (λ (d : ℕ). is_listed_in d (a.references ++ r ∷ [])) (sym e) ∙ known) q.settled_in ok))
+            subst P (sym e) (new-covered a es h s r sp clause ka kb fresh (ap (λ (d : ℕ). contains_reference d (a.references ++ r ∷ [])) (sym e) ∙ known) q.settled_in ok))
       ];
       short = λ c known few b. elim (stands-either c a.references (r ∷ []) known) [
         | inl old ↦ (let same = old-same a clause r sp c ka kb old in
@@ -157,8 +158,9 @@ grown a es h s r sp clause q ka kb fresh ok =
       ];
     }
 
-pub queue-with_clause_added : (a b : ArenaLists) (es : List Entry) (h s : ℕ) (clause : List Literal) → IsQueue a es h s → IsClauses a → IsClauses b → IsClauseAdded a clause b → FirstTwoAreWatchable es clause → IsQueue b es h s
+pub queue-with_clause_added : (a b : ArenaLists) (es : List Entry) (h s : ℕ) (clause : List Literal) → IsPropagationInvariant a es h s → IsClauses a → IsClauses b → IsClauseAdded a clause b → FirstTwoAreWatchable es clause →
+    IsPropagationInvariant b es h s
 queue-with_clause_added a b es h s clause q ka kb n ok =
     let C : ArenaLists → Type 0 = λ x. IsClauses x in
-    let Q : ArenaLists → Type 0 = λ x. IsQueue x es h s in
+    let Q : ArenaLists → Type 0 = λ x. IsPropagationInvariant x es h s in
     subst Q (sym n.is) (grown a es h s n.reference b.spare clause q ka (subst C n.is kb) n.fresh ok)

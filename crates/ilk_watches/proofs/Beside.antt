@@ -6,14 +6,13 @@ use Rattle.ilk_cnf.specs.Literal.{Literal, negated_lit, same_lit, has_distinct_v
 use Rattle.ilk_log.specs.Propagation.{is_false}
 use Rattle.ilk_trail.specs.declared.entry.Entry.{Entry}
 use Rattle.ilk_trail.specs.Laws.{lits_of}
-use Rattle.ilk_arena.specs.Arena.{ArenaLists, place, chain_of, chains_with_first, with_watch_moved, is_listed_in, chains_without, without_reference}
+use Rattle.ilk_arena.specs.Arena.{ArenaLists, place, chain_of, chains_with_first, with_watch_moved, contains_reference, chains_without, without_reference}
 use Rattle.ilk_arena.proofs.Watching.{place-one, stands-with_watch_moved}
 use Rattle.ilk_watches.specs.Chained.{SameClauses}
-use Rattle.ilk_watches.specs.Visits.{AtMostOneLeftChain, CoveredExceptInChains, IsWalkAt, count_rest_of_chain, rest_from}
+use Rattle.ilk_watches.specs.Visits.{AtMostOneLeftChain, CoveredExceptInChains, OtherWatchesTrueBefore, count_rest_of_chain, rest_from}
 use Rattle.ilk_watches.proofs.Entries.{lit-kept, not-both}
 use Rattle.ilk_watches.proofs.Covers.{but-chains, but-more, but-with_watch_moved}
 
--- The effect of a step along the chain of `f`.
 pub record StepAt (a b : ArenaLists) (es fs : List Entry) (f : Literal) : Type 0 where
   pub same : SameClauses a b
   pub kept : take (length es) fs ≡ es
@@ -35,20 +34,21 @@ chain-beside a b es fs f g s fg n = elim s.chains [
 
 still-true : (a b : ArenaLists) (es fs : List Entry) (f g : Literal) (c : ℕ) (l : Literal) →
     StepAt a b es fs f →
-    ((m : Literal) → is_listed_in c (chain_of a m) ≡ true → m ≢ g →
+    ((m : Literal) → contains_reference c (chain_of a m) ≡ true → m ≢ g →
     Rattle.ilk_cnf.specs.Literal.has_lit m (lits_of es) ≡ true) → g ≢ f →
-    is_listed_in c (chain_of b l) ≡ true → l ≢ g → Rattle.ilk_cnf.specs.Literal.has_lit l (lits_of fs) ≡ true
+    contains_reference c (chain_of b l) ≡ true → l ≢ g → Rattle.ilk_cnf.specs.Literal.has_lit l (lits_of fs) ≡ true
 still-true a b es fs f g c l s h n st ne = elim s.chains [
-  | inl e ↦ lit-kept es fs l s.kept (h l (ap (λ (ch : List (List ℕ)). is_listed_in c (get_or ch (place l) [])) (sym e) ∙ st) ne)
-  | inr m ↦ (let r : is_listed_in c (chain_of (with_watch_moved a m.clause f m.to) l) ≡ true = ap (λ (ch : List (List ℕ)). is_listed_in c (get_or ch (place l) [])) (sym m.chains) ∙ st in
+  | inl e ↦ lit-kept es fs l s.kept (h l (ap (λ (ch : List (List ℕ)). contains_reference c (get_or ch (place l) [])) (sym e) ∙ st) ne)
+  | inr m ↦ (let r : contains_reference c (chain_of (with_watch_moved a m.clause f m.to) l) ≡ true = ap (λ (ch : List (List ℕ)). contains_reference c (get_or ch (place l) [])) (sym m.chains) ∙ st in
       elim (stands-with_watch_moved a m.clause f m.to c l r) [
         | inl q ↦ lit-kept es fs l s.kept (h l q ne)
-        | inr q ↦ absurd (let here : is_listed_in c (chain_of a f) ≡ true = ap (λ (x : ℕ). is_listed_in x (chain_of a f)) q.0 ∙ m.stood in
+        | inr q ↦ absurd (let here : contains_reference c (chain_of a f) ≡ true = ap (λ (x : ℕ). contains_reference x (chain_of a f)) q.0 ∙ m.stood in
             not-both es f s.once (h f here (λ x. n (sym x))) s.denied)
       ])
 ]
 
-pub walking-beside : (a b : ArenaLists) (es fs : List Entry) (f g : Literal) (before next : Option ℕ) → StepAt a b es fs f → is_false (lits_of es) g ≡ true → g ≢ f → IsWalkAt a es g before next → IsWalkAt b fs g before next
+pub walking-beside : (a b : ArenaLists) (es fs : List Entry) (f g : Literal) (before next : Option ℕ) → StepAt a b es fs f → is_false (lits_of es) g ≡ true → g ≢ f → OtherWatchesTrueBefore a es g before next →
+    OtherWatchesTrueBefore b fs g before next
 walking-beside a b es fs f g before next s fg n w = record {
   passed = w.passed;
   rest = w.rest;

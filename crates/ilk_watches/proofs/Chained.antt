@@ -1,4 +1,3 @@
--- Clauses by number and by reference.
 use Rattle.std.proofs.Common.{◌≡◌, ◌==◌, ℕ, zero, suc, ◌+◌, ◌^◌, ◌<◌, ◌≤◌, inl, inr, true, false, eqb, List, [], ◌∷◌, ◌++◌, length, get_or, refl, sym, ap, ◌∙◌, subst, arith, Some, length-append}
 use Rattle.std.specs.List.{IsDistinct, AllByRecursion, position_or_len, slice_get, list_all}
 use Rattle.std.proofs.lemmas.Bool.{or_parts, eq-eqb, eqb-false, ne_eqb}
@@ -9,8 +8,8 @@ use Rattle.ilk_base.proofs.Lists.{item_at}
 use Rattle.ilk_base.proofs.Tested.{list_all-more}
 use Rattle.ilk_cnf.specs.Literal.{Literal, has_distinct_vars}
 use Rattle.ilk_cnf.specs.Formula.{is_clause_over, are_clauses_over}
-use Rattle.ilk_arena.specs.Arena.{ArenaLists, with_clause_added, literals_of, number_of_clause, item_for_reference, with_watch_moved, set_for_reference, is_listed_in}
-use Rattle.ilk_arena.specs.Chains.{IsArena}
+use Rattle.ilk_arena.specs.Arena.{ArenaLists, with_clause_added, literals_of, number_of_clause, item_at_reference_or_default, with_watch_moved, set_for_reference, contains_reference}
+use Rattle.ilk_arena.specs.Chains.{EachLongClauseWatchesTwo}
 use Rattle.ilk_arena.proofs.Watching.{once-head}
 use Rattle.ilk_watches.specs.Reasons.{nth_clause_or_empty}
 use Rattle.ilk_watches.specs.Chained.{IsClauses, IsClauseAdded}
@@ -18,17 +17,17 @@ use Rattle.ilk_watches.specs.Held.{AreClauseReferences}
 
 -- The item at the position of the reference at an index.
 pub record Paired {A : Type 0} (rs : List ℕ) (xs : List A) (d : A) (i r : ℕ) : Type 0 where
-  pub stands : is_listed_in r rs ≡ true
-  pub item : item_for_reference r rs xs d ≡ get_or xs i d
+  pub stands : contains_reference r rs ≡ true
+  pub item : item_at_reference_or_default r rs xs d ≡ get_or xs i d
   pub place : position_or_len (λ x. x == r) rs ≡ i
 
-stands-later : (r x : ℕ) (rs : List ℕ) (i : ℕ) → slice_get rs i ≡ Some r → is_listed_in x rs ≡ false → eqb x r ≡ false
+stands-later : (r x : ℕ) (rs : List ℕ) (i : ℕ) → slice_get rs i ≡ Some r → contains_reference x rs ≡ false → eqb x r ≡ false
 stands-later r x [] i s h = absurd (cc)
 stands-later r x (y ∷ rs) zero s h =
     let e : y ≡ r = cc in
-    let p = or_parts (eqb y x) (is_listed_in x rs) h in
+    let p = or_parts (eqb y x) (contains_reference x rs) h in
     ne_eqb x r (λ q. eqb-false y x p.0 (e ∙ sym q))
-stands-later r x (y ∷ rs) (suc i) s h = stands-later r x rs i s (or_parts (eqb y x) (is_listed_in x rs) h).1
+stands-later r x (y ∷ rs) (suc i) s h = stands-later r x rs i s (or_parts (eqb y x) (contains_reference x rs) h).1
 
 pub paired : {A : Type 0} (rs : List ℕ) (xs : List A) (d : A) (i r : ℕ) → IsDistinct eqb rs → length rs ≡ length xs → slice_get rs i ≡ Some r → Paired rs xs d i r
 paired [] xs d i r u n s = absurd (cc)
@@ -46,7 +45,7 @@ pub record Placed (rs : List ℕ) (r : ℕ) : Type 0 where
   pub stands : slice_get rs index ≡ Some r
   pub within : index < length rs
 
-pub placed : (rs : List ℕ) (r : ℕ) → is_listed_in r rs ≡ true → Placed rs r
+pub placed : (rs : List ℕ) (r : ℕ) → contains_reference r rs ≡ true → Placed rs r
 placed [] r h = absurd (cc)
 placed (x ∷ rs) r h =
     elim (eqb_tells x r) [
@@ -55,7 +54,7 @@ placed (x ∷ rs) r h =
     ]
 
 pub record ByNumber (a : ArenaLists) (c r : ℕ) : Type 0 where
-  pub known : is_listed_in r a.references ≡ true
+  pub known : contains_reference r a.references ≡ true
   pub literals : literals_of a r ≡ nth_clause_or_empty a.clauses c
   pub number : number_of_clause a r ≡ c + 1
 
@@ -70,7 +69,7 @@ pub record ByReference (a : ArenaLists) (r : ℕ) : Type 0 where
   pub within : index < length a.clauses
   pub literals : nth_clause_or_empty a.clauses index ≡ literals_of a r
 
-pub by-reference : (a : ArenaLists) (r : ℕ) → IsClauses a → is_listed_in r a.references ≡ true → ByReference a r
+pub by-reference : (a : ArenaLists) (r : ℕ) → IsClauses a → contains_reference r a.references ≡ true → ByReference a r
 by-reference a r k h =
     let p = placed a.references r h in
     let b = by-number a p.index r k p.stands in
@@ -90,7 +89,7 @@ none-twice : IsDistinct eqb []
 unfolding IsDistinct
 none-twice = tt
 
-pub held-none : (a : ArenaLists) → a.vars ≤ 2 ^ 62 → a.references ≡ [] → a.clauses ≡ [] → IsArena a → AreClauseReferences a []
+pub held-none : (a : ArenaLists) → a.vars ≤ 2 ^ 62 → a.references ≡ [] → a.clauses ≡ [] → EachLongClauseWatchesTwo a → AreClauseReferences a []
 held-none a few rs cs k = record {
   row = sym rs;
   clauses = record {
@@ -101,11 +100,11 @@ held-none a few rs cs k = record {
   };
 }
 
-once-push : (rs : List ℕ) (r : ℕ) → IsDistinct eqb rs → is_listed_in r rs ≡ false → IsDistinct eqb (rs ++ r ∷ [])
+once-push : (rs : List ℕ) (r : ℕ) → IsDistinct eqb rs → contains_reference r rs ≡ false → IsDistinct eqb (rs ++ r ∷ [])
 unfolding IsDistinct
 once-push [] r u h = (tt, tt)
 once-push (x ∷ rs) r u h =
-    let p = or_parts (eqb x r) (is_listed_in r rs) h in
+    let p = or_parts (eqb x r) (contains_reference r rs) h in
     IsDistinct-cons eqb x (rs ++ r ∷ []) (all-push rs (IsDistinct-head eqb x rs u) p.0) (once-push rs r (IsDistinct-tail eqb x rs u) p.1)
   where
     all-push : (ys : List ℕ) → AllByRecursion (λ y. eqb x y ≡ false) ys → eqb x r ≡ false → AllByRecursion (λ y. eqb x y ≡ false) (ys ++ r ∷ [])
@@ -113,8 +112,8 @@ once-push (x ∷ rs) r u h =
     all-push (y ∷ ys) k e = (k.0, all-push ys k.1 e)
 
 pub held-with_clause_added : (a : ArenaLists) (rs : List ℕ) (clause : List Literal) (r s : ℕ) → AreClauseReferences a rs →
-    is_clause_over a.vars clause ≡ true → has_distinct_vars clause ≡ true → is_listed_in r a.references ≡ false →
-    IsArena (with_clause_added a clause r s) → AreClauseReferences (with_clause_added a clause r s) (rs ++ r ∷ [])
+    is_clause_over a.vars clause ≡ true → has_distinct_vars clause ≡ true → contains_reference r a.references ≡ false →
+    EachLongClauseWatchesTwo (with_clause_added a clause r s) → AreClauseReferences (with_clause_added a clause r s) (rs ++ r ∷ [])
 held-with_clause_added a rs clause r s h w d f k = record {
   row = ap (λ (xs : List ℕ). xs ++ r ∷ []) h.row;
   clauses = record {
@@ -129,7 +128,7 @@ held-with_clause_added a rs clause r s h w d f k = record {
   };
 }
 
-pub held-with_watch_moved : (a : ArenaLists) (rs : List ℕ) (c : ℕ) (f t : Literal) → AreClauseReferences a rs → IsArena (with_watch_moved a c f t) → AreClauseReferences (with_watch_moved a c f t) rs
+pub held-with_watch_moved : (a : ArenaLists) (rs : List ℕ) (c : ℕ) (f t : Literal) → AreClauseReferences a rs → EachLongClauseWatchesTwo (with_watch_moved a c f t) → AreClauseReferences (with_watch_moved a c f t) rs
 held-with_watch_moved a rs c f t h k = record {
   row = h.row;
   clauses = record { formula = h.clauses.formula; arena = k; paired = h.clauses.paired; once = h.clauses.once };
@@ -197,18 +196,18 @@ read-reference a rs c r h w e =
 
 pub held-grown : (a b n : ArenaLists) (rs : List ℕ) (clause : List Literal) (r : ℕ) → AreClauseReferences a rs →
     b ≡ record a { spare = b.spare } → is_clause_over a.vars clause ≡ true → has_distinct_vars clause ≡ true →
-    is_listed_in r b.references ≡ false → n ≡ with_clause_added b clause r n.spare → IsArena n →
+    contains_reference r b.references ≡ false → n ≡ with_clause_added b clause r n.spare → EachLongClauseWatchesTwo n →
     AreClauseReferences n (rs ++ r ∷ [])
 held-grown a b n rs clause r h e w d f g k =
     let H : ArenaLists → Type 0 = λ x. AreClauseReferences x rs in
     let G : ArenaLists → Type 0 = λ x. AreClauseReferences x (rs ++ r ∷ []) in
-    let A : ArenaLists → Type 0 = λ x. IsArena x in
+    let A : ArenaLists → Type 0 = λ x. EachLongClauseWatchesTwo x in
     let wide : is_clause_over b.vars clause ≡ true = ap (λ (x : ArenaLists). is_clause_over x.vars clause) e ∙ w in
     subst G (sym g) (held-with_clause_added b rs clause r n.spare (subst H (sym e) (held-room a rs b.spare h)) wide d f (subst A g k))
 
-pub with_clause_added-is : (a b n : ArenaLists) (clause : List Literal) (r : ℕ) → b ≡ record a { spare = b.spare } → is_listed_in r b.references ≡ false → n ≡ with_clause_added b clause r n.spare → IsClauseAdded a clause n
+pub with_clause_added-is : (a b n : ArenaLists) (clause : List Literal) (r : ℕ) → b ≡ record a { spare = b.spare } → contains_reference r b.references ≡ false → n ≡ with_clause_added b clause r n.spare → IsClauseAdded a clause n
 with_clause_added-is a b n clause r e f g = record {
   reference = r;
-  fresh = ap (λ (x : ArenaLists). is_listed_in r x.references) (sym e) ∙ f;
+  fresh = ap (λ (x : ArenaLists). contains_reference r x.references) (sym e) ∙ f;
   is = g ∙ ap (λ (x : ArenaLists). with_clause_added x clause r n.spare) e;
 }

@@ -1,4 +1,3 @@
--- True and false literals of a trail, and of a longer one.
 use Rattle.std.proofs.Common.{◌≡◌, ◌||◌, ◌+◌, ◌<◌, ◌≤◌, ℕ, Bool, zero, suc, inl, inr, true, false, not, List, [], ◌∷◌, ◌++◌, length, take, drop, Option, Some, None, refl, sym, ap, ◌∙◌, subst, arith}
 use Rattle.std.specs.Prelude.{nat_le}
 use Rattle.std.specs.List.{slice_get}
@@ -80,7 +79,6 @@ not-both es l d h k = (let t = value-tells es l d in both (value_of_literal es l
 pub true-not-false : (es : List Entry) (l : Literal) → has_distinct_vars (lits_of es) ≡ true → has_lit l (lits_of es) ≡ true → is_false (lits_of es) l ≡ false
 true-not-false es l d h = elim (cases_Bool (is_false (lits_of es) l)) [ inl t ↦ absurd (not-both es l d h t) | inr f ↦ f ]
 
--- The entry of a literal in the trail.
 pub record EntryOf (es : List Entry) (l : Literal) : Type 0 where
   pub index : ℕ
   pub entry : Entry

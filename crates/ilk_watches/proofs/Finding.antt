@@ -1,4 +1,3 @@
--- Consequences of a look at a clause, and of looks at all clauses.
 use Rattle.std.proofs.Common.{◌≡◌, ◌&&◌, ◌+◌, ◌<◌, ℕ, Bool, true, false, not, inl, inr, List, [], ◌∷◌, length, take, Option, Some, None, refl, sym, ap, ◌∙◌, subst}
 use Rattle.std.specs.Prelude.{is_none}
 use Rattle.std.specs.List.{filter}
@@ -15,7 +14,7 @@ use Rattle.ilk_log.specs.Propagation.{is_saturated, is_false, is_falsified, only
 use Rattle.ilk_trail.specs.declared.entry.Entry.{Entry}
 use Rattle.ilk_trail.specs.Trail.{value_of_literal}
 use Rattle.ilk_trail.specs.Laws.{is_set, lits_of}
-use Rattle.ilk_watches.specs.Reasons.{nth_clause_or_empty, is_conflict, is_reason}
+use Rattle.ilk_watches.specs.Reasons.{nth_clause_or_empty, is_conflict, clause_forces_lit}
 use Rattle.ilk_watches.proofs.Forced.{unit-forces}
 use Rattle.ilk_watches.proofs.Values.{value-none, value-tells}
 use Rattle.ilk_watches.proofs.Within.{clause-in}
@@ -97,7 +96,7 @@ unit-unset es c l d u =
 pub forced-is : (f : Formula) (es : List Entry) (c : ℕ) (l : Literal) → IsFormula f →
     has_distinct_vars (lits_of es) ≡ true → c < length f.clauses →
     clause_state (lits_of es) (nth_clause_or_empty f.clauses c) ≡ Unit l →
-    (is_reason f.clauses (lits_of es) l c ≡ true) ×
+    (clause_forces_lit f.clauses (lits_of es) l c ≡ true) ×
     ((is_lit_over f.vars (positive_lit l.var) && not (is_set es l.var)) ≡ true)
 forced-is f es c l k d w h =
     let clause = nth_clause_or_empty f.clauses c in

@@ -9,12 +9,12 @@ use Rattle.ilk_cnf.proofs.Gates.{negated_lit-negated_lit}
 use Rattle.ilk_cnf.proofs.SameLiterals.{lit-is, same-lit}
 use Rattle.ilk_trail.specs.declared.entry.Entry.{Entry}
 use Rattle.ilk_trail.specs.Trail.{TrailList, level_of}
-use Rattle.ilk_trail.specs.Laws.{has_rising_levels, lits_of}
-use Rattle.ilk_arena.specs.Arena.{ArenaLists, chain_of, first_of, is_listed_in}
+use Rattle.ilk_trail.specs.Laws.{each_may_follow_level, lits_of}
+use Rattle.ilk_arena.specs.Arena.{ArenaLists, chain_of, first_of, contains_reference}
 use Rattle.ilk_watches.specs.Chained.{SameClauses}
 use Rattle.ilk_watches.specs.Propagated.{ExtendsByPropagation}
 use Rattle.ilk_watches.specs.Watched.{AllCovered, is_true_by_level}
-use Rattle.ilk_watches.specs.Visits.{CoveredExceptInChains, IsMadeFalseBy, IsWalkAt}
+use Rattle.ilk_watches.specs.Visits.{CoveredExceptInChains, IsMadeFalseBy, OtherWatchesTrueBefore}
 use Rattle.ilk_watches.specs.declared.walk.Walk.{Walk}
 use Rattle.ilk_watches.proofs.Beside.{StepAt, but-step, walking-beside}
 use Rattle.ilk_watches.proofs.Covers.{but-turned, walk-end, walk-start}
@@ -24,7 +24,6 @@ use Rattle.ilk_watches.proofs.Propagations.{propagated-join, propagated-same, pr
 use Rattle.ilk_watches.proofs.Visiting.{still-false}
 use Rattle.ilk_watches.proofs.Walks.{all-passed}
 
--- The changes since the beginning.
 pub record Sofar (a0 a : ArenaLists) (t0 t : TrailList) : Type 0 where
   pub trail : t ≡ record t0 { entries = t.entries }
   pub same : SameClauses a0 a
@@ -57,7 +56,7 @@ pub record Going (a : ArenaLists) (es : List Entry) (head next : ℕ) (w : Walk)
   pub level : (e : Entry) → slice_get es index ≡ Some e → e.level ≡ level_of es
   pub low : head ≤ index
   pub high : index < next
-  pub walking : IsWalkAt a es w.f w.before w.next
+  pub walking : OtherWatchesTrueBefore a es w.f w.before w.next
 
 pub record Alone (a : ArenaLists) (es : List Entry) (head next : ℕ) (w : Walk) : Type 0 where
   pub going : Going a es head next w
@@ -132,9 +131,9 @@ both-start a es head next v w o d m level low before first =
     newest : (i : ℕ) (e : Entry) → i ≡ next → slice_get es i ≡ Some e → negated_lit e.lit ≡ w.f
     newest i e q s = (let one : Some e ≡ Some m.entry = sym s ∙ ap (slice_get es) q ∙ m.stands in let same : e ≡ m.entry = cc in ap (λ (x : Entry). negated_lit x.lit) same ∙ m.is)
 
-going-own : {a b : ArenaLists} {es fs : List Entry} {head next : ℕ} {v w : Walk} → Going a es head next v → StepAt a b es fs v.f → level_of fs ≡ level_of es → w.f ≡ v.f → IsWalkAt b fs v.f w.before w.next → Going b fs head next w
+going-own : {a b : ArenaLists} {es fs : List Entry} {head next : ℕ} {v w : Walk} → Going a es head next v → StepAt a b es fs v.f → level_of fs ≡ level_of es → w.f ≡ v.f → OtherWatchesTrueBefore b fs v.f w.before w.next → Going b fs head next w
 going-own {a} {b} {es} {fs} {head} {next} {v} {w} g s level f walking =
-    let P : Literal → Type 0 = λ x. IsWalkAt b fs x w.before w.next in
+    let P : Literal → Type 0 = λ x. OtherWatchesTrueBefore b fs x w.before w.next in
     let M : Literal → Type 0 = λ x. IsMadeFalseBy b.vars fs g.index x in
     let made = still-false {a = a} {b = b} {es = es} {fs = fs} g.made s.same s.kept in
     record {
@@ -163,7 +162,7 @@ going-beside {a} {b} {es} {fs} {head} {next} {w} f g s level n = record {
   walking = walking-beside a b es fs f w.f w.before w.next s g.made.denied n g.walking;
 }
 
-pub alone-step : {a b : ArenaLists} {es fs : List Entry} {head next : ℕ} {v w : Walk} → Alone a es head next v → StepAt a b es fs v.f → level_of fs ≡ level_of es → w.f ≡ v.f → IsWalkAt b fs v.f w.before w.next → Alone b fs head next w
+pub alone-step : {a b : ArenaLists} {es fs : List Entry} {head next : ℕ} {v w : Walk} → Alone a es head next v → StepAt a b es fs v.f → level_of fs ≡ level_of es → w.f ≡ v.f → OtherWatchesTrueBefore b fs v.f w.before w.next → Alone b fs head next w
 alone-step {a} {b} {es} {fs} {head} {next} {v} {w} o s level f walking =
     let C : Literal → Type 0 = λ x. CoveredExceptInChains b fs next x x in
     let longer = length-kept es fs s.kept in
@@ -173,7 +172,8 @@ alone-step {a} {b} {es} {fs} {head} {next} {v} {w} o s level f walking =
       next_in = omega (arith, longer, o.next_in);
     }
 
-pub both-step : {a b : ArenaLists} {es fs : List Entry} {head next : ℕ} {v w u : Walk} → Both a es head next v u → StepAt a b es fs v.f → level_of fs ≡ level_of es → w.f ≡ v.f → IsWalkAt b fs v.f w.before w.next → Both b fs head next w u
+pub both-step : {a b : ArenaLists} {es fs : List Entry} {head next : ℕ} {v w u : Walk} → Both a es head next v u → StepAt a b es fs v.f → level_of fs ≡ level_of es → w.f ≡ v.f → OtherWatchesTrueBefore b fs v.f w.before w.next →
+    Both b fs head next w u
 both-step {a} {b} {es} {fs} {head} {next} {v} {w} {u} o s level f walking =
     let C : Literal → Type 0 = λ x. CoveredExceptInChains b fs next x u.f in
     let longer = length-kept es fs s.kept in
@@ -192,16 +192,16 @@ same-or-not f g = elim (cases_Bool (same_lit f g)) [
 ]
 
 ended : (a : ArenaLists) (es : List Entry) (head next : ℕ) (w : Walk) → Going a es head next w →
-    w.next ≡ None → has_distinct_vars (lits_of es) ≡ true → has_rising_levels 0 es ≡ true →
+    w.next ≡ None → has_distinct_vars (lits_of es) ≡ true → each_may_follow_level 0 es ≡ true →
     (c i : ℕ) (e : Entry) (l : Literal) → slice_get es i ≡ Some e → negated_lit e.lit ≡ w.f →
-    is_listed_in c (chain_of a (negated_lit e.lit)) ≡ true → is_listed_in c (chain_of a l) ≡ true →
+    contains_reference c (chain_of a (negated_lit e.lit)) ≡ true → contains_reference c (chain_of a l) ≡ true →
     l ≢ negated_lit e.lit → is_true_by_level es e.level l ≡ true
 ended a es head next w g none d climb c i e l s is w1 w2 ne =
     let k = one-index a.vars g.index i es w.f e d g.made s is in
     let level : e.level ≡ level_of es = g.level e (ap (slice_get es) (sym k) ∙ s) in
     walk-end a es w.f g.walking.passed (all-passed a es w.f w.before w.next g.walking none) climb c e l is level w1 w2 ne
 
-pub both-ended : {a : ArenaLists} {es : List Entry} {head next : ℕ} {v w : Walk} → Both a es head next v w → v.next ≡ None → has_distinct_vars (lits_of es) ≡ true → has_rising_levels 0 es ≡ true → Alone a es head next w
+pub both-ended : {a : ArenaLists} {es : List Entry} {head next : ℕ} {v w : Walk} → Both a es head next v w → v.next ≡ None → has_distinct_vars (lits_of es) ≡ true → each_may_follow_level 0 es ≡ true → Alone a es head next w
 both-ended {a} {es} {head} {next} {v} {w} b none d climb = record {
   going = b.two;
   covered = λ c known i e l below s nw nw2 w1 w2 ne. elim (same-or-not (negated_lit e.lit) v.f) [
@@ -211,7 +211,7 @@ both-ended {a} {es} {head} {next} {v} {w} b none d climb = record {
   next_in = b.next_in;
 }
 
-pub alone-ended : {a : ArenaLists} {es : List Entry} {head next : ℕ} {w : Walk} → Alone a es head next w → w.next ≡ None → has_distinct_vars (lits_of es) ≡ true → has_rising_levels 0 es ≡ true → AllCovered a es next
+pub alone-ended : {a : ArenaLists} {es : List Entry} {head next : ℕ} {w : Walk} → Alone a es head next w → w.next ≡ None → has_distinct_vars (lits_of es) ≡ true → each_may_follow_level 0 es ≡ true → AllCovered a es next
 alone-ended {a} {es} {head} {next} {w} o none d climb = λ c known i e l below s w1 w2 ne. elim (same-or-not (negated_lit e.lit) w.f) [
   | inl q ↦ ended a es head next w o.going none d climb c i e l s q w1 w2 ne
   | inr q ↦ o.covered c known i e l below s q q w1 w2 ne

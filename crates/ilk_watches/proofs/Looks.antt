@@ -1,4 +1,3 @@
--- A look at a clause that was not examined yet.
 use Rattle.std.proofs.Common.{◌≡◌, ◌<◌, ◌≤◌, ◌+◌, ℕ, inl, inr, true, List, [], ◌∷◌, length, take, Some, refl, sym, ap, ◌∙◌, arith}
 use Rattle.std.proofs.lemmas.Bool.{and_parts, and_from, or_cases, or_left, or_right}
 use Rattle.std.proofs.Math.Seq.{take-length}
@@ -10,9 +9,9 @@ use Rattle.ilk_log.specs.Fresh.{other_lits}
 use Rattle.ilk_log.specs.Propagation.{is_false, is_falsified}
 use Rattle.ilk_trail.specs.declared.entry.Entry.{Entry}
 use Rattle.ilk_trail.specs.Trail.{with_assignment, level_of}
-use Rattle.ilk_trail.specs.Laws.{has_rising_levels, lits_of}
+use Rattle.ilk_trail.specs.Laws.{each_may_follow_level, lits_of}
 use Rattle.ilk_trail.proofs.Levels.{entries_up_to-all}
-use Rattle.ilk_arena.specs.Arena.{ArenaLists, literals_of, number_of_clause, is_listed_in}
+use Rattle.ilk_arena.specs.Arena.{ArenaLists, literals_of, number_of_clause, contains_reference}
 use Rattle.ilk_watches.specs.Reasons.{nth_clause_or_empty}
 use Rattle.ilk_watches.specs.Chained.{IsClauses}
 use Rattle.ilk_watches.proofs.Chained.{by-reference}
@@ -21,7 +20,7 @@ use Rattle.ilk_watches.proofs.Within.{clause-there}
 use Rattle.ilk_watches.specs.Look.{clause_state}
 use Rattle.ilk_watches.specs.declared.look.ClauseState.TheVariants.{Open, Unit}
 use Rattle.ilk_watches.specs.Propagated.{ExtendsByPropagation}
-use Rattle.ilk_watches.specs.Watched.{is_true_by_level, is_satisfied, IsCovered, IsQueue, MayForce}
+use Rattle.ilk_watches.specs.Watched.{is_true_by_level, is_satisfied, IsCovered, IsPropagationInvariant, MayForce}
 use Rattle.ilk_watches.proofs.Entries.{at-old, length-kept, lit-kept, true-pushed}
 use Rattle.ilk_watches.proofs.Covers.{covered-more}
 use Rattle.ilk_watches.proofs.Finding.{left-open, lone-open, open-told, unit-told}
@@ -66,15 +65,14 @@ may-more a es fs n c x y p le m = record {
   possible = λ i e b s. m.possible i e b (at-old es fs i e p.kept (omega (arith, b, le)) s);
 }
 
--- Obligations of a look at the next clause.
 pub record Looked (a : ArenaLists) (fs : List Entry) (h c : ℕ) : Type 0 where
   pub covered : IsCovered a fs h c
   pub short : length (literals_of a c) < 2 → is_satisfied fs (literals_of a c) ≡ true
 
-pub queue-next : (a : ArenaLists) (es fs : List Entry) (h s : ℕ) → IsQueue a es h s → s < length a.clauses →
+pub queue-next : (a : ArenaLists) (es fs : List Entry) (h s : ℕ) → IsPropagationInvariant a es h s → s < length a.clauses →
     ExtendsByPropagation a.clauses es fs →
-    ((c : ℕ) → is_listed_in c a.references ≡ true → number_of_clause a c ≡ s + 1 → Looked a fs h c) →
-    IsQueue a fs h (s + 1)
+    ((c : ℕ) → contains_reference c a.references ≡ true → number_of_clause a c ≡ s + 1 → Looked a fs h c) →
+    IsPropagationInvariant a fs h (s + 1)
 queue-next a es fs h s k w p here = record {
   head_in = (let m = length-kept es fs p.kept in omega (arith, m, k.head_in));
   settled_in = omega (arith, w);
@@ -95,7 +93,7 @@ queue-next a es fs h s k w p here = record {
   ];
 }
 
-pub at-number : (a : ArenaLists) (c s : ℕ) → IsClauses a → is_listed_in c a.references ≡ true → number_of_clause a c ≡ s + 1 → literals_of a c ≡ nth_clause_or_empty a.clauses s
+pub at-number : (a : ArenaLists) (c s : ℕ) → IsClauses a → contains_reference c a.references ≡ true → number_of_clause a c ≡ s + 1 → literals_of a c ≡ nth_clause_or_empty a.clauses s
 at-number a c s k known n =
     let b = by-reference a c k known in
     let same : b.index ≡ s = omega (arith, b.number, n) in
@@ -104,9 +102,9 @@ at-number a c s k known n =
 pub differ-at : (a : ArenaLists) (s : ℕ) → IsClauses a → s < length a.clauses → has_distinct_vars (nth_clause_or_empty a.clauses s) ≡ true
 differ-at a s k w = list_all-slice_get has_distinct_vars a.clauses s (nth_clause_or_empty a.clauses s) k.formula.differ (clause-there a.clauses s w)
 
-pub queue-unit : (a : ArenaLists) (es : List Entry) (h s : ℕ) (l : Literal) → IsQueue a es h s → IsClauses a →
+pub queue-unit : (a : ArenaLists) (es : List Entry) (h s : ℕ) (l : Literal) → IsPropagationInvariant a es h s → IsClauses a →
     has_distinct_vars (lits_of es) ≡ true → s < length a.clauses →
-    clause_state (lits_of es) (nth_clause_or_empty a.clauses s) ≡ Unit l → IsQueue a (with_assignment es l s) h (s + 1)
+    clause_state (lits_of es) (nth_clause_or_empty a.clauses s) ≡ Unit l → IsPropagationInvariant a (with_assignment es l s) h (s + 1)
 queue-unit a es h s l k cl d w look =
     let set = lits_of es in
     let clause = nth_clause_or_empty a.clauses s in
@@ -130,7 +128,8 @@ queue-unit a es h s l k cl d w look =
       short = λ b. satisfied-by (with_assignment es l s) (literals_of a c) l inside (pushed-true es e);
     }))
 
-pub queue-open : (a : ArenaLists) (es : List Entry) (h s : ℕ) → IsQueue a es h s → IsClauses a → has_rising_levels 0 es ≡ true → s < length a.clauses → clause_state (lits_of es) (nth_clause_or_empty a.clauses s) ≡ Open → IsQueue a es h (s + 1)
+pub queue-open : (a : ArenaLists) (es : List Entry) (h s : ℕ) → IsPropagationInvariant a es h s → IsClauses a → each_may_follow_level 0 es ≡ true → s < length a.clauses → clause_state (lits_of es) (nth_clause_or_empty a.clauses s) ≡ Open →
+    IsPropagationInvariant a es h (s + 1)
 queue-open a es h s k cl climb w look =
     let set = lits_of es in
     let o = open-told set (nth_clause_or_empty a.clauses s) look in

@@ -1,4 +1,3 @@
--- A clause in the chain of a false literal: its other watch, and the literal that it forces.
 use Rattle.std.proofs.Common.{◌≡◌, ◌≢◌, ◌⊎◌, ◌+◌, ◌-◌, ◌&&◌, ◌==◌, ℕ, suc, inl, inr, Bool, true, false, not, List, [], ◌∷◌, ◌++◌, length, Option, Some, None, refl, sym, ap, ◌∙◌, subst, arith}
 use Rattle.std.specs.Prelude.{nat_lt, IsSomeAnd}
 use Rattle.std.specs.List.{find, position_or_len, slice_get}
@@ -9,9 +8,9 @@ use Rattle.ilk_cnf.specs.Literal.{Literal, same_lit, has_lit}
 use Rattle.ilk_cnf.proofs.SameLiterals.{same-lit, lit-is, is_lit_over-clause}
 use Rattle.ilk_log.specs.Fresh.{other_lits}
 use Rattle.ilk_log.specs.Propagation.{is_false, is_falsified}
-use Rattle.ilk_arena.specs.Arena.{ArenaLists, chain_of, literals_of, number_of_clause, other_watch_of, with_watch_moved, is_listed_in}
+use Rattle.ilk_arena.specs.Arena.{ArenaLists, chain_of, literals_of, number_of_clause, other_watch_of, with_watch_moved, contains_reference}
 use Rattle.ilk_arena.specs.Chains.{WatchesTwo}
-use Rattle.ilk_watches.specs.Reasons.{nth_clause_or_empty, is_conflict, is_reason}
+use Rattle.ilk_watches.specs.Reasons.{nth_clause_or_empty, is_conflict, clause_forces_lit}
 use Rattle.ilk_watches.specs.Chained.{IsClauses, SameClauses, formula_of}
 use Rattle.ilk_watches.proofs.Within.{clause-in}
 use Rattle.ilk_cnf.specs.Formula.{is_clause_over, is_lit_over}
@@ -30,15 +29,14 @@ find-passes p (m ∷ c) l h =
       | inr f ↦ find-passes p c l (rw f at h)
     ]
 
--- `m` is the watch of `c` besides `f`.
 pub record Other (a : ArenaLists) (c : ℕ) (f m : Literal) : Type 0 where
-  pub known : is_listed_in c a.references ≡ true
-  pub stands : is_listed_in c (chain_of a m) ≡ true
+  pub known : contains_reference c a.references ≡ true
+  pub stands : contains_reference c (chain_of a m) ≡ true
   pub differs : m ≢ f
   pub has : has_lit m (literals_of a c) ≡ true
-  pub only : (l : Literal) → is_listed_in c (chain_of a l) ≡ true → l ≢ f → l ≡ m
+  pub only : (l : Literal) → contains_reference c (chain_of a l) ≡ true → l ≢ f → l ≡ m
 
-of-two : (a : ArenaLists) (c : ℕ) (f m x y : Literal) → is_listed_in c a.references ≡ true → WatchesTwo a c x y → is_listed_in c (chain_of a f) ≡ true → is_listed_in c (chain_of a m) ≡ true → m ≢ f → Other a c f m
+of-two : (a : ArenaLists) (c : ℕ) (f m x y : Literal) → contains_reference c a.references ≡ true → WatchesTwo a c x y → contains_reference c (chain_of a f) ≡ true → contains_reference c (chain_of a m) ≡ true → m ≢ f → Other a c f m
 of-two a c f m x y k w sf sm ne = record {
   known = k;
   stands = sm;
@@ -59,10 +57,10 @@ of-two a c f m x y k w sf sm ne = record {
     other-is l x y f (inr p) (inl q) e nl nm = absurd (nm (q ∙ sym e))
     other-is l x y f (inr p) (inr q) e nl nm = p ∙ sym q
 
-pub other-facts : (a : ArenaLists) (c : ℕ) (f m : Literal) → IsClauses a → is_listed_in c (chain_of a f) ≡ true → other_watch_of a c f ≡ Some m → Other a c f m
+pub other-facts : (a : ArenaLists) (c : ℕ) (f m : Literal) → IsClauses a → contains_reference c (chain_of a f) ≡ true → other_watch_of a c f ≡ Some m → Other a c f m
 other-facts a c f m k s e =
     let known = k.arena.held f c s in
-    let p = and_parts (is_listed_in c (chain_of a m)) (not (same_lit f m)) (find-passes (λ l. is_listed_in c (chain_of a l) && not (same_lit f l)) (literals_of a c) m e) in
+    let p = and_parts (contains_reference c (chain_of a m)) (not (same_lit f m)) (find-passes (λ l. contains_reference c (chain_of a l) && not (same_lit f l)) (literals_of a c) m e) in
     let differs : m ≢ f = λ q. true≢false (sym (ap (same_lit f) q ∙ same-lit f) ∙ not-true (same_lit f m) p.1) in
     elim (below_or_past (length (literals_of a c)) 2) [
       | inl b ↦ absurd (true≢false (sym s ∙ k.arena.short c known b f))
@@ -72,21 +70,21 @@ other-facts a c f m k s e =
 pub number-same : (a b : ArenaLists) (c : ℕ) → b.references ≡ a.references → number_of_clause b c ≡ number_of_clause a c
 number-same a b c e = ap (λ (rs : List ℕ). position_or_len (λ x. x == c) rs + 1) e
 
-pub clause-within : (a : ArenaLists) (c : ℕ) → IsClauses a → is_listed_in c a.references ≡ true → is_clause_over a.vars (literals_of a c) ≡ true
+pub clause-within : (a : ArenaLists) (c : ℕ) → IsClauses a → contains_reference c a.references ≡ true → is_clause_over a.vars (literals_of a c) ≡ true
 clause-within a c k s =
     let b = by-reference a c k s in
     ap (is_clause_over a.vars) (sym b.literals) ∙ clause-in (formula_of a) b.index k.formula b.within
 
-pub literal-within : (a : ArenaLists) (c i : ℕ) (l : Literal) → IsClauses a → is_listed_in c a.references ≡ true → slice_get (literals_of a c) i ≡ Some l → is_lit_over a.vars l ≡ true
+pub literal-within : (a : ArenaLists) (c i : ℕ) (l : Literal) → IsClauses a → contains_reference c a.references ≡ true → slice_get (literals_of a c) i ≡ Some l → is_lit_over a.vars l ≡ true
 literal-within a c i l k s e = list_all-slice_get (is_lit_over a.vars) (literals_of a c) i l (clause-within a c k s) e
 
 pub other-within : (a : ArenaLists) (c : ℕ) (f m : Literal) → IsClauses a → Other a c f m → is_lit_over a.vars m ≡ true
 other-within a c f m k o = is_lit_over-clause a.vars (literals_of a c) m (clause-within a c k o.known) o.has
 
 pub reason-of : (a : ArenaLists) (c : ℕ) (set : List Literal) (m : Literal) → IsClauses a →
-    is_listed_in c a.references ≡ true → has_lit m (literals_of a c) ≡ true →
+    contains_reference c a.references ≡ true → has_lit m (literals_of a c) ≡ true →
     is_falsified set (other_lits m (literals_of a c)) ≡ true →
-    is_reason a.clauses set m (number_of_clause a c - 1) ≡ true
+    clause_forces_lit a.clauses set m (number_of_clause a c - 1) ≡ true
 reason-of a c set m k s h o =
     let b = by-reference a c k s in
     let n : number_of_clause a c - 1 ≡ b.index = omega (arith, b.number) in
@@ -102,7 +100,7 @@ falsified-whole set m (l ∷ c) h f =
     ]
 
 pub conflict-of : (a : ArenaLists) (c : ℕ) (set : List Literal) (m : Literal) → IsClauses a →
-    is_listed_in c a.references ≡ true → is_falsified set (other_lits m (literals_of a c)) ≡ true →
+    contains_reference c a.references ≡ true → is_falsified set (other_lits m (literals_of a c)) ≡ true →
     is_false set m ≡ true → is_conflict a.clauses set (number_of_clause a c - 1) ≡ true
 conflict-of a c set m k s o f =
     let b = by-reference a c k s in
@@ -162,9 +160,9 @@ may-watch-at set other ls i l s f n =
     let P : Option Literal → Type 0 = λ o. IsSomeAnd o (λ m. may_watch set other m ≡ true) in
     subst P (sym s) (and_from (not (same_lit other l)) (not (is_false set l)) (not_from_false (same_lit other l) n) (not_from_false (is_false set l) f))
 
-pub unwatched : (a : ArenaLists) (c : ℕ) (f m t : Literal) (set : List Literal) → Other a c f m → is_false set f ≡ true → same_lit m t ≡ false → is_false set t ≡ false → is_listed_in c (chain_of a t) ≡ false
+pub unwatched : (a : ArenaLists) (c : ℕ) (f m t : Literal) (set : List Literal) → Other a c f m → is_false set f ≡ true → same_lit m t ≡ false → is_false set t ≡ false → contains_reference c (chain_of a t) ≡ false
 unwatched a c f m t set o ff n ft =
-    elim (cases_Bool (is_listed_in c (chain_of a t))) [
+    elim (cases_Bool (contains_reference c (chain_of a t))) [
       | inl s ↦ absurd (let apart : t ≢ f = λ q. true≢false (sym ff ∙ ap (is_false set) (sym q) ∙ ft) in
           let e = o.only t s apart in
           true≢false (sym (ap (same_lit m) e ∙ same-lit m) ∙ n))

@@ -1,4 +1,3 @@
--- The entries up to a level come first.
 use Rattle.std.proofs.Common.{◌≡◌, ◌<◌, ◌≤◌, ℕ, zero, suc, inl, inr, true, false, List, [], ◌∷◌, ◌++◌, length, take, Some, refl, sym, ap, ◌∙◌, arith}
 use Rattle.std.specs.Prelude.{nat_le}
 use Rattle.std.specs.List.{slice_get}
@@ -7,27 +6,26 @@ use Rattle.std.proofs.lemmas.Bool.Decides.{nat_tests}
 use Rattle.std.proofs.Math.Seq.{take-append_seam}
 use Rattle.ilk_trail.specs.declared.entry.Entry.{Entry}
 use Rattle.ilk_trail.specs.Trail.{entries_up_to}
-use Rattle.ilk_trail.specs.Laws.{has_rising_levels, is_next_level}
+use Rattle.ilk_trail.specs.Laws.{each_may_follow_level, may_follow_level}
 use Rattle.ilk_trail.proofs.Levels.{next-level}
 
-none-up : (j k : ℕ) (es : List Entry) → has_rising_levels j es ≡ true → k < j → entries_up_to k es ≡ []
+none-up : (j k : ℕ) (es : List Entry) → each_may_follow_level j es ≡ true → k < j → entries_up_to k es ≡ []
 none-up j k [] c h = refl
 none-up j k (x ∷ es) c h =
-    let p = and_parts (is_next_level j x) (has_rising_levels x.level es) c in
+    let p = and_parts (may_follow_level j x) (each_may_follow_level x.level es) c in
     let n = next-level j x p.0 in
     let high : k < x.level = omega (arith, n.0, h) in
     let t : nat_le x.level k ≡ false = grind (arith, nat_tests) in
     rw t (none-up x.level k es p.1 high)
 
--- The entries after those up to level `k`.
 pub record Front (k : ℕ) (es : List Entry) : Type 0 where
   pub rest : List Entry
   pub is : entries_up_to k es ++ rest ≡ es
 
-pub front : (j k : ℕ) (es : List Entry) → has_rising_levels j es ≡ true → Front k es
+pub front : (j k : ℕ) (es : List Entry) → each_may_follow_level j es ≡ true → Front k es
 front j k [] c = record { rest = []; is = refl }
 front j k (x ∷ es) c =
-    let p = and_parts (is_next_level j x) (has_rising_levels x.level es) c in
+    let p = and_parts (may_follow_level j x) (each_may_follow_level x.level es) c in
     elim (cases_Bool (nat_le x.level k)) [
       | inl t ↦ (let r = front x.level k es p.1 in record { rest = r.rest; is = rw t (ap (λ ys. x ∷ ys) r.is) })
       | inr t ↦ (let high : k < x.level = grind (arith, nat_tests) in
@@ -35,7 +33,7 @@ front j k (x ∷ es) c =
           record { rest = x ∷ es; is = rw (t, none) refl })
     ]
 
-pub front-kept : (k : ℕ) (es : List Entry) → has_rising_levels 0 es ≡ true → take (length (entries_up_to k es)) es ≡ entries_up_to k es
+pub front-kept : (k : ℕ) (es : List Entry) → each_may_follow_level 0 es ≡ true → take (length (entries_up_to k es)) es ≡ entries_up_to k es
 front-kept k es c = (let f = front 0 k es c in ap (take (length (entries_up_to k es))) (sym f.is) ∙ take-append_seam (entries_up_to k es) f.rest)
 
 by-index : (k : ℕ) (x e : Entry) (xs : List Entry) (i : ℕ) → ((j : ℕ) → slice_get xs j ≡ Some e → e.level ≤ k) → slice_get (x ∷ xs) i ≡ Some e → nat_le x.level k ≡ true → e.level ≤ k

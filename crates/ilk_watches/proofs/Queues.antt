@@ -1,4 +1,3 @@
--- The queue at its start, after a walk, and after a decision.
 use Rattle.std.proofs.Common.{◌≡◌, ◌≤◌, ◌+◌, ℕ, zero, suc, inl, inr, true, not, List, [], ◌∷◌, ◌++◌, length, take, drop, Option, Some, None, refl, sym, ap, ◌∙◌, subst, arith, length-append}
 use Rattle.std.specs.Prelude.{IsSomeAnd, IfNone, IfSome, is_none, nat_lt}
 use Rattle.std.specs.List.{slice_get}
@@ -15,21 +14,21 @@ use Rattle.ilk_log.specs.Propagation.{is_saturated, is_falsified, unit_lit}
 use Rattle.ilk_trail.specs.declared.entry.Entry.{Entry}
 use Rattle.ilk_trail.specs.Trail.{with_decision, level_of}
 use Rattle.ilk_trail.specs.Laws.{lits_of}
-use Rattle.ilk_trail.proofs.Levels.{last_level-push}
-use Rattle.ilk_arena.specs.Arena.{ArenaLists, literals_of, number_of_clause, item_for_reference, is_listed_in}
-use Rattle.ilk_watches.specs.Reasons.{nth_clause_or_empty, is_conflict, is_reason}
+use Rattle.ilk_trail.proofs.Levels.{last_level_or-push}
+use Rattle.ilk_arena.specs.Arena.{ArenaLists, literals_of, number_of_clause, item_at_reference_or_default, contains_reference}
+use Rattle.ilk_watches.specs.Reasons.{nth_clause_or_empty, is_conflict, clause_forces_lit}
 use Rattle.ilk_watches.specs.Chained.{IsClauses, SameClauses}
 use Rattle.ilk_watches.proofs.Chained.{by-reference}
 use Rattle.ilk_watches.proofs.Within.{clause-there}
 use Rattle.ilk_watches.specs.Propagated.{ExtendsByPropagation}
-use Rattle.ilk_watches.specs.Watched.{AllCovered, is_satisfied, IsQueue}
+use Rattle.ilk_watches.specs.Watched.{AllCovered, is_satisfied, IsPropagationInvariant}
 use Rattle.ilk_watches.proofs.Entries.{at-old, entry-of-lit, one-entry, at-kept}
 use Rattle.ilk_watches.proofs.Covers.{covered-more}
 use Rattle.ilk_watches.proofs.Others.{number-same}
 use Rattle.ilk_watches.proofs.Satisfied.{closed-all, is_open, open-true}
 use Rattle.ilk_watches.proofs.Looks.{differ-at, satisfied-kept}
 
-pub queue-start : (a : ArenaLists) → IsQueue a [] 0 0
+pub queue-start : (a : ArenaLists) → IsPropagationInvariant a [] 0 0
 queue-start a = record {
   head_in = omega arith;
   settled_in = omega arith;
@@ -42,15 +41,15 @@ queue-start a = record {
     nothing i e s = absurd (cc)
 
 pub literals-same : (a b : ArenaLists) (c : ℕ) → SameClauses a b → literals_of b c ≡ literals_of a c
-literals-same a b c s = ap (λ (rs : List ℕ). item_for_reference c rs b.clauses []) s.references ∙ ap (λ (cs : List (List Literal)). item_for_reference c a.references cs []) s.clauses
+literals-same a b c s = ap (λ (rs : List ℕ). item_at_reference_or_default c rs b.clauses []) s.references ∙ ap (λ (cs : List (List Literal)). item_at_reference_or_default c a.references cs []) s.clauses
 
-pub all-covered : (a : ArenaLists) (es : List Entry) (h s : ℕ) → IsQueue a es h s → IsClauses a → s ≡ length a.clauses → AllCovered a es h
+pub all-covered : (a : ArenaLists) (es : List Entry) (h s : ℕ) → IsPropagationInvariant a es h s → IsClauses a → s ≡ length a.clauses → AllCovered a es h
 all-covered a es h s k cl all = λ c known. elim (k.watched c known) [
   | inl v ↦ v
   | inr m ↦ absurd (let b = by-reference a c cl known in omega (arith, m.0, b.number, b.within, all))
 ]
 
-pub queue-walked : (a b : ArenaLists) (es fs : List Entry) (h n s : ℕ) → IsQueue a es h s → AllCovered b fs n → ExtendsByPropagation a.clauses es fs → SameClauses a b → h ≤ n → n ≤ length fs → IsQueue b fs n s
+pub queue-walked : (a b : ArenaLists) (es fs : List Entry) (h n s : ℕ) → IsPropagationInvariant a es h s → AllCovered b fs n → ExtendsByPropagation a.clauses es fs → SameClauses a b → h ≤ n → n ≤ length fs → IsPropagationInvariant b fs n s
 queue-walked a b es fs h n s k v p same le m = record {
   head_in = m;
   settled_in = omega (arith, k.settled_in, ap length same.clauses);
@@ -62,18 +61,19 @@ queue-walked a b es fs h n s k v p same le m = record {
   short = λ c known few b2.
       (let ls = literals-same a b c same in
       let number = number-same a b c same.references in
-      let there : is_listed_in c a.references ≡ true = ap (is_listed_in c) (sym same.references) ∙ known in
+      let there : contains_reference c a.references ≡ true = ap (contains_reference c) (sym same.references) ∙ known in
       ap (is_satisfied fs) ls ∙ satisfied-kept es fs (literals_of a c) p.kept (k.short c there (omega (arith, few, number)) (omega (arith, b2, ap length ls))));
 }
 
-pub queue-closed : (a : ArenaLists) (es : List Entry) (h s : ℕ) → IsQueue a es h s → IsClauses a → has_distinct_vars (lits_of es) ≡ true → s ≡ length a.clauses → length es ≤ h → (is_saturated a.clauses (lits_of es) ≡ true) × (h ≡ length es)
+pub queue-closed : (a : ArenaLists) (es : List Entry) (h s : ℕ) → IsPropagationInvariant a es h s → IsClauses a → has_distinct_vars (lits_of es) ≡ true → s ≡ length a.clauses → length es ≤ h → (is_saturated a.clauses (lits_of es) ≡ true) ×
+    (h ≡ length es)
 queue-closed a es h s k cl d all past =
     let here : h ≡ length es = omega (arith, past, k.head_in) in
     let P : ℕ → Type 0 = λ n. AllCovered a es n in
-    let count : (c : ℕ) → is_listed_in c a.references ≡ true → number_of_clause a c ≤ s = λ c known. (let b = by-reference a c cl known in omega (arith, b.number, b.within, all)) in
+    let count : (c : ℕ) → contains_reference c a.references ≡ true → number_of_clause a c ≤ s = λ c known. (let b = by-reference a c cl known in omega (arith, b.number, b.within, all)) in
     (closed-all a es cl d (subst P here (all-covered a es h s k cl all)) (λ c known n. k.short c known (count c known) n), here)
 
-pub queue-with_decision : (a : ArenaLists) (es : List Entry) (h s : ℕ) (l : Literal) → IsQueue a es h s → IsClauses a → s ≡ length a.clauses → h ≡ length es → IsQueue a (with_decision es l) h s
+pub queue-with_decision : (a : ArenaLists) (es : List Entry) (h s : ℕ) (l : Literal) → IsPropagationInvariant a es h s → IsClauses a → s ≡ length a.clauses → h ≡ length es → IsPropagationInvariant a (with_decision es l) h s
 queue-with_decision a es h s l k cl all here =
     let e : Entry = record { lit = l; level = level_of es + 1; reason = None } in
     let kept : take (length es) (with_decision es l) ≡ es = take-append_seam es (e ∷ []) in
@@ -87,7 +87,7 @@ queue-with_decision a es h s l k cl all here =
           let last : i ≡ length es = omega (arith, w, more, b, here) in
           let z : Some x ≡ Some e = sym t ∙ ap (slice_get (with_decision es l)) last ∙ end-of es e in
           let same : x ≡ e = cc in
-          ap (λ (y : Entry). y.level) same ∙ sym (last_level-push 0 es e));
+          ap (λ (y : Entry). y.level) same ∙ sym (last_level_or-push 0 es e));
       watched = λ c known. inl (covered-more a es (with_decision es l) h c kept k.head_in (v c known));
       short = λ c known le n. satisfied-kept es (with_decision es l) (literals_of a c) kept (k.short c known le n);
     }
@@ -96,7 +96,7 @@ queue-with_decision a es h s l k cl all here =
     end-of [] x = refl
     end-of (y ∷ xs) x = end-of xs x
 
-forced-open : (a : ArenaLists) (es : List Entry) (l : Literal) (c : ℕ) → IsClauses a → is_saturated a.clauses (lits_of es) ≡ true → is_reason a.clauses (lits_of es) l c ≡ true → has_lit l (lits_of es) ≡ true
+forced-open : (a : ArenaLists) (es : List Entry) (l : Literal) (c : ℕ) → IsClauses a → is_saturated a.clauses (lits_of es) ≡ true → clause_forces_lit a.clauses (lits_of es) l c ≡ true → has_lit l (lits_of es) ≡ true
 forced-open a es l c k closed r =
     let clause = nth_clause_or_empty a.clauses c in
     let p = and_parts (has_lit l clause) (is_falsified (lits_of es) (other_lits l clause)) r in
@@ -116,7 +116,7 @@ nothing-forced a es fs k closed p d =
     elim (below_or_past (length es) (length fs)) [
       | inl b ↦ absurd (let x = item_at fs (length es) b in
           let e = x.0 in
-          let r : IsSomeAnd e.reason (λ c. is_reason a.clauses (lits_of (take (length es) fs)) e.lit c ≡ true) = p.reasons (length es) e (omega arith) x.1 in
+          let r : IsSomeAnd e.reason (λ c. clause_forces_lit a.clauses (lits_of (take (length es) fs)) e.lit c ≡ true) = p.reasons (length es) e (omega arith) x.1 in
           let t = reason-true e e.reason r in
           let old = entry-of-lit es e.lit t in
           let one = one-entry fs old.index (length es) old.entry e d (at-kept es fs old.index old.entry p.kept old.stands) x.1 (ap (λ (l : Literal). l.var) old.is) in
@@ -125,9 +125,9 @@ nothing-forced a es fs k closed p d =
       | inr b ↦ sym (take-append-drop (length es) fs) ∙ ap (λ (xs : List Entry). xs ++ drop (length es) fs) p.kept ∙ ap (λ (xs : List Entry). es ++ xs) (drop-past fs (length es) b) ∙ append-nil es
     ]
   where
-    reason-true : (e : Entry) (o : Option ℕ) → IsSomeAnd o (λ c. is_reason a.clauses (lits_of (take (length es) fs)) e.lit c ≡ true) → has_lit e.lit (lits_of es) ≡ true
+    reason-true : (e : Entry) (o : Option ℕ) → IsSomeAnd o (λ c. clause_forces_lit a.clauses (lits_of (take (length es) fs)) e.lit c ≡ true) → has_lit e.lit (lits_of es) ≡ true
     reason-true e None r = absurd r
-    reason-true e (Some c) r = forced-open a es e.lit c k closed (ap (λ (xs : List Entry). is_reason a.clauses (lits_of xs) e.lit c) (sym p.kept) ∙ r)
+    reason-true e (Some c) r = forced-open a es e.lit c k closed (ap (λ (xs : List Entry). clause_forces_lit a.clauses (lits_of xs) e.lit c) (sym p.kept) ∙ r)
 
 pub no-conflict : (cs : List (List Literal)) (set : List Literal) (o : Option ℕ) (E : Type 0) → is_saturated cs set ≡ true → IfSome o (λ c. is_conflict cs set c ≡ true) → IfNone o E → E
 no-conflict cs set None E closed f e = e

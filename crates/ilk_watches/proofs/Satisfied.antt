@@ -1,4 +1,3 @@
--- Clauses that are neither false nor unit.
 use Rattle.std.proofs.Common.{eqb, ◌≡◌, ◌≢◌, ◌&&◌, ◌<◌, ℕ, inl, inr, Bool, true, false, not, List, [], ◌∷◌, length, Option, Some, None, refl, sym, ap, ◌∙◌, arith}
 use Rattle.std.specs.Prelude.{is_none}
 use Rattle.std.specs.List.{filter}
@@ -13,7 +12,7 @@ use Rattle.ilk_log.specs.Fresh.{other_lits}
 use Rattle.ilk_log.specs.Propagation.{is_saturated, is_false, is_falsified, unit_lit}
 use Rattle.ilk_trail.specs.declared.entry.Entry.{Entry}
 use Rattle.ilk_trail.specs.Laws.{lits_of}
-use Rattle.ilk_arena.specs.Arena.{ArenaLists, chain_of, literals_of, is_listed_in}
+use Rattle.ilk_arena.specs.Arena.{ArenaLists, chain_of, literals_of, contains_reference}
 use Rattle.ilk_arena.specs.Chains.{WatchesTwo}
 use Rattle.ilk_watches.specs.Chained.{IsClauses}
 use Rattle.ilk_watches.proofs.Chained.{referred}
@@ -130,16 +129,16 @@ watched-open a es c x y d w fx fy =
     ]
 
 pub other-holds : (a : ArenaLists) (es : List Entry) (c : ℕ) (x y : Literal) →
-    is_listed_in c a.references ≡ true → AllCovered a es (length es) → is_listed_in c (chain_of a x) ≡ true →
-    is_listed_in c (chain_of a y) ≡ true → y ≢ x → is_false (lits_of es) x ≡ true → has_lit y (lits_of es) ≡ true
+    contains_reference c a.references ≡ true → AllCovered a es (length es) → contains_reference c (chain_of a x) ≡ true →
+    contains_reference c (chain_of a y) ≡ true → y ≢ x → is_false (lits_of es) x ≡ true → has_lit y (lits_of es) ≡ true
 other-holds a es c x y known h sx sy ne f =
     let e = entry-of-lit es (negated_lit x) f in
     let same : negated_lit e.entry.lit ≡ x = ap negated_lit e.is ∙ negated_lit-negated_lit x in
-    true-somewhere es e.entry.level y (h c known e.index e.entry y (slice_get_within es e.index e.entry e.stands) e.stands (ap (λ (l : Literal). is_listed_in c (chain_of a l)) same ∙ sx) sy (λ q. ne (q ∙ same)))
+    true-somewhere es e.entry.level y (h c known e.index e.entry y (slice_get_within es e.index e.entry e.stands) e.stands (ap (λ (l : Literal). contains_reference c (chain_of a l)) same ∙ sx) sy (λ q. ne (q ∙ same)))
 
 pub closed-all : (a : ArenaLists) (es : List Entry) → IsClauses a → has_distinct_vars (lits_of es) ≡ true →
     AllCovered a es (length es) →
-    ((c : ℕ) → is_listed_in c a.references ≡ true → length (literals_of a c) < 2 →
+    ((c : ℕ) → contains_reference c a.references ≡ true → length (literals_of a c) < 2 →
     is_satisfied es (literals_of a c) ≡ true) →
     is_saturated a.clauses (lits_of es) ≡ true
 closed-all a es k d h short = all-pass (is_open (lits_of es)) a.clauses (λ i x s.
@@ -147,7 +146,7 @@ closed-all a es k d h short = all-pass (is_open (lits_of es)) a.clauses (λ i x 
     let same : literals_of a r.reference ≡ x = r.is.literals ∙ get_or_from_slice_get a.clauses i x [] s in
     ap (is_open (lits_of es)) (sym same) ∙ one r.reference r.is.known))
   where
-    one : (c : ℕ) → is_listed_in c a.references ≡ true → is_open (lits_of es) (literals_of a c) ≡ true
+    one : (c : ℕ) → contains_reference c a.references ≡ true → is_open (lits_of es) (literals_of a c) ≡ true
     one c known = elim (below_or_past (length (literals_of a c)) 2) [
       | inl b ↦ satisfied-open es (literals_of a c) d (short c known b)
       | inr b ↦ (let w = k.arena.long c known b in

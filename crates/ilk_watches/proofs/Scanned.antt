@@ -1,4 +1,3 @@
--- One scan of the literals of a clause.
 use Rattle.std.proofs.Common.{◌≡◌, ◌⊎◌, ◌+◌, ◌≤◌, length, arith, zero, suc, is_some, ℕ, Bool, true, false, not, inl, inr, cond, drop, List, [], ◌∷◌, Option, Some, None, refl, sym, ap, ◌∙◌}
 use Rattle.std.specs.List.{slice_get, filter}
 use Rattle.std.specs.Option.{option_map_or}
@@ -36,7 +35,6 @@ pub scan-next : (es : List Entry) (first : Option Literal) (clause : List Litera
 scan-next es first clause i l e =
     ap (scan es first) (drop_at clause i l (slice_get_within clause i l e) (sym (get_or_from_slice_get clause i l l e)))
 
--- The result for the literals that aren't false.
 meaning : List Literal → List Literal → ClauseState
 meaning set [] = Conflict
 meaning set (l ∷ []) = cond (has_lit l set) Open (Unit l)

@@ -1,4 +1,3 @@
--- The values of a trail, and the literals that are true or false.
 use Rattle.std.proofs.Common.{◌≡◌, ◌&&◌, ◌||◌, ℕ, Bool, true, false, not, inl, inr, eqb, cond, List, [], ◌∷◌, Some, None, refl, sym, ◌∙◌, subst}
 use Rattle.std.specs.Bool.{beq}
 use Rattle.std.proofs.lemmas.Bool.{and_parts, cases_Bool, not-true, true≢false, ne_eqb, eqb-false, eq-eqb}

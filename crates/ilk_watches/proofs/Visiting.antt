@@ -1,4 +1,3 @@
--- Facts at a step of a walk along the chain of a literal that an entry makes false.
 use Rattle.std.proofs.Common.{◌≡◌, ◌<◌, ℕ, List, length, take, Some, arith, sym, ap, ◌∙◌}
 use Rattle.std.specs.List.{slice_get}
 use Rattle.std.specs.Option.{option_map}

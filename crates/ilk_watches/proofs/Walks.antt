@@ -1,4 +1,3 @@
--- A walk along a chain, clause by clause.
 use Rattle.std.proofs.Common.{◌≡◌, ◌<◌, ℕ, true, false, eqb, List, [], ◌∷◌, ◌++◌, length, take, Option, Some, None, refl, sym, ap, ◌∙◌, subst, arith, append_assoc, ◌&&◌}
 use Rattle.std.specs.List.{slice_get, last_or, IsDistinct, AllByRecursion}
 use Rattle.std.specs.Option.{option_map}
@@ -9,10 +8,10 @@ use Rattle.ilk_cnf.specs.Literal.{Literal}
 use Rattle.ilk_log.specs.Propagation.{is_false}
 use Rattle.ilk_trail.specs.declared.entry.Entry.{Entry}
 use Rattle.ilk_trail.specs.Laws.{lits_of}
-use Rattle.ilk_arena.specs.Arena.{ArenaLists, reference_after, chain_of, first_of, directly_follows, is_listed_in}
-use Rattle.ilk_arena.specs.Chains.{IsArena}
+use Rattle.ilk_arena.specs.Arena.{ArenaLists, reference_after, chain_of, first_of, follows_or_is_first, contains_reference}
+use Rattle.ilk_arena.specs.Chains.{EachLongClauseWatchesTwo}
 use Rattle.ilk_arena.proofs.Watching.{once-head, stands-front}
-use Rattle.ilk_watches.specs.Visits.{rest_from_reference, count_rest_of_chain, rest_from, IsVisitResult, IsWalk, IsWalkAt}
+use Rattle.ilk_watches.specs.Visits.{rest_from_reference, count_rest_of_chain, rest_from, IsVisitResult, OtherWatchesTrueInPassed, OtherWatchesTrueBefore}
 use Rattle.ilk_watches.specs.declared.visit.Visited.TheVariants.{Stays, Moves}
 use Rattle.ilk_watches.proofs.Covers.{walk-stays, walk-moves}
 
@@ -28,29 +27,29 @@ entry-at es i l h = go (slice_get es i) refl h
     go None e h = absurd (cc)
     go (Some x) e h = record { entry = x; stands = e; is = cc }
 
-directly_follows-last : (x : ℕ) (xs : List ℕ) (c : ℕ) (rest : List ℕ) → directly_follows (last_or (Some x) xs) c (x ∷ xs ++ c ∷ rest) ≡ true
-directly_follows-last x [] c rest = or_left (eqb x x && eqb c c) (directly_follows (Some x) c (c ∷ rest)) (and_from (eqb x x) (eqb c c) (eq-eqb x x refl) (eq-eqb c c refl))
-directly_follows-last x (y ∷ xs) c rest =
+follows_or_is_first-last : (x : ℕ) (xs : List ℕ) (c : ℕ) (rest : List ℕ) → follows_or_is_first (last_or (Some x) xs) c (x ∷ xs ++ c ∷ rest) ≡ true
+follows_or_is_first-last x [] c rest = or_left (eqb x x && eqb c c) (follows_or_is_first (Some x) c (c ∷ rest)) (and_from (eqb x x) (eqb c c) (eq-eqb x x refl) (eq-eqb c c refl))
+follows_or_is_first-last x (y ∷ xs) c rest =
     let b = last-some y xs in
-    let r : directly_follows (Some b.0) c (y ∷ xs ++ c ∷ rest) ≡ true = ap (λ (o : Option ℕ). directly_follows o c (y ∷ xs ++ c ∷ rest)) (sym b.1) ∙ directly_follows-last y xs c rest in
-    ap (λ (o : Option ℕ). directly_follows o c (x ∷ (y ∷ xs ++ c ∷ rest))) b.1 ∙ or_right (eqb x b.0 && directly_follows None c (y ∷ xs ++ c ∷ rest)) (directly_follows (Some b.0) c (y ∷ xs ++ c ∷ rest)) r
+    let r : follows_or_is_first (Some b.0) c (y ∷ xs ++ c ∷ rest) ≡ true = ap (λ (o : Option ℕ). follows_or_is_first o c (y ∷ xs ++ c ∷ rest)) (sym b.1) ∙ follows_or_is_first-last y xs c rest in
+    ap (λ (o : Option ℕ). follows_or_is_first o c (x ∷ (y ∷ xs ++ c ∷ rest))) b.1 ∙ or_right (eqb x b.0 && follows_or_is_first None c (y ∷ xs ++ c ∷ rest)) (follows_or_is_first (Some b.0) c (y ∷ xs ++ c ∷ rest)) r
 
-directly_follows-is : (passed : List ℕ) (c : ℕ) (rest : List ℕ) → directly_follows (last_or None passed) c (passed ++ c ∷ rest) ≡ true
-directly_follows-is [] c rest = eq-eqb c c refl
-directly_follows-is (x ∷ passed) c rest = directly_follows-last x passed c rest
+follows_or_is_first-is : (passed : List ℕ) (c : ℕ) (rest : List ℕ) → follows_or_is_first (last_or None passed) c (passed ++ c ∷ rest) ≡ true
+follows_or_is_first-is [] c rest = eq-eqb c c refl
+follows_or_is_first-is (x ∷ passed) c rest = follows_or_is_first-last x passed c rest
 
 last-push : (o : Option ℕ) (xs : List ℕ) (c : ℕ) → last_or o (xs ++ c ∷ []) ≡ Some c
 last-push o [] c = refl
 last-push o (x ∷ xs) c = last-push (Some x) xs c
 
-in-middle : (xs : List ℕ) (c : ℕ) (ys : List ℕ) → is_listed_in c (xs ++ c ∷ ys) ≡ true
-in-middle [] c ys = or_left (eqb c c) (is_listed_in c ys) (eq-eqb c c refl)
-in-middle (x ∷ xs) c ys = or_right (eqb x c) (is_listed_in c (xs ++ c ∷ ys)) (in-middle xs c ys)
+in-middle : (xs : List ℕ) (c : ℕ) (ys : List ℕ) → contains_reference c (xs ++ c ∷ ys) ≡ true
+in-middle [] c ys = or_left (eqb c c) (contains_reference c ys) (eq-eqb c c refl)
+in-middle (x ∷ xs) c ys = or_right (eqb x c) (contains_reference c (xs ++ c ∷ ys)) (in-middle xs c ys)
 
 apart : (x c : ℕ) (xs ys : List ℕ) → IsDistinct eqb (x ∷ xs ++ c ∷ ys) → eqb x c ≡ false
 apart x c xs ys d =
     let away = stands-front x xs (c ∷ ys) (once-head x (xs ++ c ∷ ys) d) in
-    ne_eqb x c (λ q. eqb-false c x (or_parts (eqb c x) (is_listed_in x ys) away.1).0 (sym q))
+    ne_eqb x c (λ q. eqb-false c x (or_parts (eqb c x) (contains_reference x ys) away.1).0 (sym q))
 
 reference_after-is : (passed : List ℕ) (c : ℕ) (rest : List ℕ) → IsDistinct eqb (passed ++ c ∷ rest) → reference_after c (passed ++ c ∷ rest) ≡ first_of rest
 reference_after-is [] c rest d = (let e = eq-eqb c c refl in rw e refl)
@@ -76,38 +75,37 @@ pub record AtHand (a : ArenaLists) (es : List Entry) (f : Literal) (before : Opt
   pub passed : List ℕ
   pub rest : List ℕ
   pub before_is : before ≡ last_or None passed
-  pub is : IsWalk a es f passed (c ∷ rest)
+  pub is : OtherWatchesTrueInPassed a es f passed (c ∷ rest)
 
-pub at-hand : (a : ArenaLists) (es : List Entry) (f : Literal) (before next : Option ℕ) (c : ℕ) → IsWalkAt a es f before next → next ≡ Some c → AtHand a es f before c
+pub at-hand : (a : ArenaLists) (es : List Entry) (f : Literal) (before next : Option ℕ) (c : ℕ) → OtherWatchesTrueBefore a es f before next → next ≡ Some c → AtHand a es f before c
 at-hand a es f before next c w h = go w.rest w.is (sym w.next_is ∙ h)
   where
-    go : (rest : List ℕ) → IsWalk a es f w.passed rest → first_of rest ≡ Some c → AtHand a es f before c
+    go : (rest : List ℕ) → OtherWatchesTrueInPassed a es f w.passed rest → first_of rest ≡ Some c → AtHand a es f before c
     go [] i e = absurd (cc)
     go (x ∷ rest) i e =
         let same : x ≡ c = cc in
-        let P : ℕ → Type 0 = λ y. IsWalk a es f w.passed (y ∷ rest) in
+        let P : ℕ → Type 0 = λ y. OtherWatchesTrueInPassed a es f w.passed (y ∷ rest) in
         record { passed = w.passed; rest = rest; before_is = w.before_is; is = subst P same i }
 
-pub hand-stands : (a : ArenaLists) (es : List Entry) (f : Literal) (before : Option ℕ) (c : ℕ) → AtHand a es f before c → is_listed_in c (chain_of a f) ≡ true
-hand-stands a es f before c h = ap (is_listed_in c) h.is.split ∙ in-middle h.passed c h.rest
+pub hand-stands : (a : ArenaLists) (es : List Entry) (f : Literal) (before : Option ℕ) (c : ℕ) → AtHand a es f before c → contains_reference c (chain_of a f) ≡ true
+hand-stands a es f before c h = ap (contains_reference c) h.is.split ∙ in-middle h.passed c h.rest
 
-pub hand-directly_follows : (a : ArenaLists) (es : List Entry) (f : Literal) (before : Option ℕ) (c : ℕ) → AtHand a es f before c → directly_follows before c (chain_of a f) ≡ true
-hand-directly_follows a es f before c h = ap (directly_follows before c) h.is.split ∙ ap (λ (o : Option ℕ). directly_follows o c (h.passed ++ c ∷ h.rest)) h.before_is ∙ directly_follows-is h.passed c h.rest
+pub hand-follows_or_is_first : (a : ArenaLists) (es : List Entry) (f : Literal) (before : Option ℕ) (c : ℕ) → AtHand a es f before c → follows_or_is_first before c (chain_of a f) ≡ true
+hand-follows_or_is_first a es f before c h = ap (follows_or_is_first before c) h.is.split ∙ ap (λ (o : Option ℕ). follows_or_is_first o c (h.passed ++ c ∷ h.rest)) h.before_is ∙ follows_or_is_first-is h.passed c h.rest
 
--- A step of a walk, after which less is left.
 pub record Stepped (a b : ArenaLists) (fs : List Entry) (f : Literal) (now before next : Option ℕ) : Type 0 where
-  pub walking : IsWalkAt b fs f before next
+  pub walking : OtherWatchesTrueBefore b fs f before next
   pub smaller : count_rest_of_chain b f next < count_rest_of_chain a f now
 
-distinct-of : (a : ArenaLists) (es : List Entry) (f : Literal) (passed rest : List ℕ) → IsArena a → IsWalk a es f passed rest → IsDistinct eqb (passed ++ rest)
+distinct-of : (a : ArenaLists) (es : List Entry) (f : Literal) (passed rest : List ℕ) → EachLongClauseWatchesTwo a → OtherWatchesTrueInPassed a es f passed rest → IsDistinct eqb (passed ++ rest)
 distinct-of a es f passed rest k w = (let D : List ℕ → Type 0 = λ xs. IsDistinct eqb xs in subst D w.split (k.once f))
 
-left-is : (a : ArenaLists) (es : List Entry) (f : Literal) (passed rest : List ℕ) → IsWalk a es f passed rest → IsDistinct eqb (passed ++ rest) → rest_from (first_of rest) (chain_of a f) ≡ rest
+left-is : (a : ArenaLists) (es : List Entry) (f : Literal) (passed rest : List ℕ) → OtherWatchesTrueInPassed a es f passed rest → IsDistinct eqb (passed ++ rest) → rest_from (first_of rest) (chain_of a f) ≡ rest
 left-is a es f passed rest w d = ap (rest_from (first_of rest)) w.split ∙ rest-is passed rest d
 
 pub step-stays :
     (a b : ArenaLists) (es fs : List Entry) (f : Literal) (before now : Option ℕ) (c : ℕ) (next : Option ℕ) →
-    AtHand a es f before c → now ≡ Some c → next ≡ reference_after c (chain_of a f) → IsArena a →
+    AtHand a es f before c → now ≡ Some c → next ≡ reference_after c (chain_of a f) → EachLongClauseWatchesTwo a →
     IsVisitResult a es b fs c f Stays → take (length es) fs ≡ es → Stepped a b fs f now (Some c) next
 step-stays a b es fs f before now c next h at e k v p =
     let d = distinct-of a es f h.passed (c ∷ h.rest) k h.is in
@@ -125,7 +123,7 @@ step-stays a b es fs f before now c next h at e k v p =
 
 pub step-moves :
     (a b : ArenaLists) (es fs : List Entry) (f : Literal) (before now : Option ℕ) (c : ℕ) (next : Option ℕ) →
-    AtHand a es f before c → now ≡ Some c → next ≡ reference_after c (chain_of a f) → IsArena a →
+    AtHand a es f before c → now ≡ Some c → next ≡ reference_after c (chain_of a f) → EachLongClauseWatchesTwo a →
     IsVisitResult a es b fs c f Moves → take (length es) fs ≡ es → is_false (lits_of es) f ≡ true →
     Stepped a b fs f now before next
 step-moves a b es fs f before now c next h at e k v p denied =
@@ -141,9 +139,9 @@ step-moves a b es fs f before now c next h at e k v p denied =
       smaller = omega (arith, left_a, left_b, na, nb);
     }
 
-pub all-passed : (a : ArenaLists) (es : List Entry) (f : Literal) (before next : Option ℕ) → (w : IsWalkAt a es f before next) → next ≡ None → IsWalk a es f w.passed []
+pub all-passed : (a : ArenaLists) (es : List Entry) (f : Literal) (before next : Option ℕ) → (w : OtherWatchesTrueBefore a es f before next) → next ≡ None → OtherWatchesTrueInPassed a es f w.passed []
 all-passed a es f before next w h = go w.rest w.is (sym w.next_is ∙ h)
   where
-    go : (rest : List ℕ) → IsWalk a es f w.passed rest → first_of rest ≡ None → IsWalk a es f w.passed []
+    go : (rest : List ℕ) → OtherWatchesTrueInPassed a es f w.passed rest → first_of rest ≡ None → OtherWatchesTrueInPassed a es f w.passed []
     go [] i e = i
     go (x ∷ rest) i e = absurd (cc)

@@ -1,29 +1,30 @@
--- The clauses of a search, with the chains of those that watch each literal.
 use Rattle.std.specs.Prelude.{ℕ, ◌≡◌, false, eqb, List, length}
 use Rattle.std.specs.List.{IsDistinct}
 use Rattle.ilk_cnf.specs.Literal.{Literal}
 use Rattle.ilk_cnf.specs.Formula.{Formula, IsFormula}
-use Rattle.ilk_arena.specs.Arena.{ArenaLists, with_clause_added, is_listed_in}
-use Rattle.ilk_arena.specs.Chains.{IsArena}
+use Rattle.ilk_arena.specs.Arena.{ArenaLists, with_clause_added, contains_reference}
+use Rattle.ilk_arena.specs.Chains.{EachLongClauseWatchesTwo}
 
+-- Returns the formula of the arena's clauses.
 abbrev pub formula_of : ArenaLists → Formula
 formula_of a = record { vars = a.vars; clauses = a.clauses }
 
--- Holds for the clauses of every search: each has a reference of its own.
+-- Holds if the arena is valid, its clauses are a formula, and each has its own reference.
 pub record IsClauses (a : ArenaLists) : Type 0 where
   pub formula : IsFormula (formula_of a)
-  pub arena : IsArena a
+  pub arena : EachLongClauseWatchesTwo a
   pub paired : length a.references ≡ length a.clauses
   pub once : IsDistinct eqb a.references
 
--- Holds if the clauses are the same, though other literals may be watched.
+-- Holds if both arenas have the same clauses at the same references. Watches and cursors may
+-- differ.
 pub record SameClauses (a b : ArenaLists) : Type 0 where
   pub vars : b.vars ≡ a.vars
   pub references : b.references ≡ a.references
   pub clauses : b.clauses ≡ a.clauses
 
--- Holds if one clause was added, at a new reference.
+-- Holds if `new` is `old` with `clause` added at a new reference.
 pub record IsClauseAdded (old : ArenaLists) (clause : List Literal) (new : ArenaLists) : Type 0 where
   pub reference : ℕ
-  pub fresh : is_listed_in reference old.references ≡ false
+  pub fresh : contains_reference reference old.references ≡ false
   pub is : new ≡ with_clause_added old clause reference new.spare

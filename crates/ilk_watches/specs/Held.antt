@@ -3,7 +3,7 @@ use Rattle.std.specs.Prelude.{ℕ, ◌≡◌, List}
 use Rattle.ilk_arena.specs.Arena.{ArenaLists}
 use Rattle.ilk_watches.specs.Chained.{IsClauses}
 
--- Holds if the list has the references by number.
+-- Holds if `references` has the references of the arena's valid clauses, by number.
 pub record AreClauseReferences (a : ArenaLists) (references : List ℕ) : Type 0 where
   pub row : references ≡ a.references
   pub clauses : IsClauses a

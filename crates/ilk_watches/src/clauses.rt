@@ -1,7 +1,7 @@
 ghost use Rattle.std.specs.Prelude.{◌≡◌, ◌≤◌, ◌<◌, ◌^◌, [], false, length, slice_get, Some, IfOk, IfSome, OnOk, OnErr, IsTrue};
 ghost use Rattle.ilk_cnf.specs.Formula.{is_clause_over, is_lit_over, IsFormula};
 ghost use Rattle.ilk_cnf.specs.Literal.{has_distinct_vars};
-ghost use Rattle.ilk_arena.specs.Arena.{chain_of, directly_follows, literals_of, with_watch_moved, set_for_reference, is_listed_in};
+ghost use Rattle.ilk_arena.specs.Arena.{chain_of, follows_or_is_first, literals_of, with_watch_moved, set_for_reference, contains_reference};
 ghost use Rattle.ilk_watches.specs.Reasons.{nth_clause_or_empty};
 ghost use Rattle.ilk_watches.specs.Chained.{formula_of, IsClauses, IsClauseAdded};
 
@@ -10,15 +10,15 @@ use ilk_cnf::{Cnf, Lit};
 use std::alloc::{AllocError, Global};
 use std::marker::Model;
 
-/// Clauses over the variables 1 to `vars`, by number.
+/// The clauses of a search over the variables 1 to `vars`, by number from 0, stored in an arena.
 #[derive(Drop)]
-pub struct Clauses {
+pub struct NumberedClauses {
     arena: Arena,
     // By number: the reference of the clause in the arena.
     references: Vec<u64>,
 }
 
-impl Model for Clauses {
+impl Model for NumberedClauses {
     ghost use Rattle.ilk_arena.specs.Arena.{ArenaLists};
     ghost use Rattle.ilk_watches.specs.Held.{AreClauseReferences};
 
@@ -29,31 +29,31 @@ impl Model for Clauses {
     ghost invariant = { λ c. AreClauseReferences c.arena c.references.items };
 }
 
-impl Clauses {
+impl NumberedClauses {
     /// Creates an empty list of clauses over the variables 1 to `vars`.
-    pub fn new(alloc: Global, vars: u64) -> Result<Clauses, AllocError>
+    pub fn new(alloc: Global, vars: u64) -> Result<NumberedClauses, AllocError>
         requires { vars ≤ 2 ^ 62 }
         ensures { IfOk result (λ c. formula_of c ≡ record { vars = vars; clauses = [] }) }
     {
-        Ok(Clauses {
+        Ok(NumberedClauses {
             arena: Arena::new(alloc, vars)?,
             references: Vec::new(alloc),
         })
     }
 
-    /// Creates the clauses of the formula `cnf`.
-    pub fn from_cnf(alloc: Global, cnf: &Cnf) -> Result<Clauses, AllocError>
+    /// Creates a list of the clauses of `cnf`, in order.
+    pub fn from_cnf(alloc: Global, cnf: &Cnf) -> Result<NumberedClauses, AllocError>
         ensures { IfOk result (λ c. formula_of c ≡ cnf.now) }
     {
-        let mut clauses = Clauses::new(alloc, cnf.vars())?;
+        let mut clauses = NumberedClauses::new(alloc, cnf.vars())?;
         for c in 0..cnf.clauses() {
             clauses.add(cnf.clause(c + 1))?;
         }
         Ok(clauses)
     }
 
-    /// Adds a clause at the end. Its number is the count before the call. It watches its first two
-    /// literals, if it has two.
+    /// Adds a clause at the end, with the count before the call as its number. It watches its first
+    /// two literals, if it has two.
     pub fn add(&mut self, clause: &[Lit]) -> Result<(), AllocError>
         requires within { IsTrue (is_clause_over self.old.vars clause.now) }
         requires differ { IsTrue (has_distinct_vars clause.now) }
@@ -84,7 +84,7 @@ impl Clauses {
         self.references.len() as u64
     }
 
-    /// Returns the number of literals of clause `c`.
+    /// Returns the number of literals of clause number `c`.
     pub fn length(&self, c: u64) -> u64
         requires { c < length self.now.clauses }
         ensures { result ≡ length (nth_clause_or_empty self.now.clauses c) }
@@ -92,7 +92,7 @@ impl Clauses {
         self.arena.length(self.references[c as usize])
     }
 
-    /// Returns literal `i` of clause `c`.
+    /// Returns literal `i` of clause number `c`.
     pub fn literal(&self, c: u64, i: u64) -> Lit
         requires clause { c < length self.now.clauses }
         requires literal { i < length (nth_clause_or_empty self.now.clauses c) }
@@ -102,7 +102,7 @@ impl Clauses {
         self.arena.literal(self.references[c as usize], i)
     }
 
-    /// Returns the arena, with the clauses by reference and their chains.
+    /// Returns the arena, in which clauses are named by references.
     #[inline(always)]
     pub fn arena(&self) -> &Arena
         ensures arena { result.now ≡ self.now }
@@ -111,10 +111,10 @@ impl Clauses {
         &self.arena
     }
 
-    /// Sets the cursor of the clause at reference `c` to `i`.
+    /// Sets the cursor of the clause at reference `c` to position `i` among its literals.
     #[inline(always)]
     pub fn set_cursor(&mut self, c: u64, i: u64)
-        requires known { IsTrue (is_listed_in c self.old.references) }
+        requires known { IsTrue (contains_reference c self.old.references) }
         requires within { i ≤ length (literals_of self.old c) }
         ensures { self.new
             ≡ record self.old {
@@ -130,10 +130,10 @@ impl Clauses {
     #[inline(always)]
     pub fn rewatch(&mut self, before: Option<u64>, c: u64, from: Lit, to: u64)
         requires within { IsTrue (is_lit_over self.old.vars from) }
-        requires follows { IsTrue (directly_follows before c (chain_of self.old from)) }
+        requires follows { IsTrue (follows_or_is_first before c (chain_of self.old from)) }
         requires to_in { to < length (literals_of self.old c) }
         requires unwatched { IfSome (slice_get (literals_of self.old c) to)
-            (λ l. is_listed_in c (chain_of self.old l) ≡ false) }
+            (λ l. contains_reference c (chain_of self.old l) ≡ false) }
         ensures { IfSome (slice_get (literals_of self.old c) to)
             (λ l. self.new ≡ with_watch_moved self.old c from l) }
     {

@@ -7,11 +7,11 @@
 //! Otherwise the clause takes another literal that isn't false as its watch. If there is none, its
 //! other watch is forced, or the clause is false.
 //!
-//! A `Propagator` records the progress: which entries of the trail are still to be propagated, and
-//! which clauses were not examined yet. `propagate` examines these clauses, then walks the chain of
-//! each literal that became false. If two entries are queued it walks two chains side by side
-//! (`walk`), because most of the time goes into waiting for the next clause of a chain. `decide`
-//! and `back_to` keep the queue in step with the trail.
+//! A `PropagationProgress` records the progress: which entries of the trail are still to be
+//! propagated, and which clauses were not examined yet. `propagate` examines these clauses, then
+//! walks the chain of each literal that became false. If two entries are queued it walks two chains
+//! side by side (`walk`), because most of the time goes into waiting for the next clause of a
+//! chain. `decide` and `back_to` keep the queue in step with the trail.
 //!
 //! `specs/Watched` defines the invariant between calls. If a propagated entry made a watch false,
 //! the other watch is true at the level of that entry. So it stays true until the entry is removed.
@@ -44,7 +44,7 @@ mod scan;
 mod visit;
 mod walk;
 
-pub use clauses::Clauses;
+pub use clauses::NumberedClauses;
 pub use look::{ClauseState, clause_state};
-pub use queue::Propagator;
+pub use queue::PropagationProgress;
 pub use scan::propagate_by_scan;

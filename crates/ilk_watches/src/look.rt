@@ -3,7 +3,7 @@ ghost use Rattle.ilk_watches.specs.Reasons.{nth_clause_or_empty};
 ghost use Rattle.ilk_trail.specs.Laws.{lits_of, IsTrail};
 ghost use Rattle.ilk_watches.specs.Look.{clause_state};
 
-use crate::clauses::Clauses;
+use crate::clauses::NumberedClauses;
 use ilk_cnf::Lit;
 use ilk_trail::Trail;
 
@@ -16,8 +16,8 @@ pub enum ClauseState {
     Open,
 }
 
-/// Returns the state of clause `c` under `trail`.
-pub fn clause_state(clauses: &Clauses, trail: &Trail, c: u64) -> ClauseState
+/// Returns the state of clause number `c` under `trail`.
+pub fn clause_state(clauses: &NumberedClauses, trail: &Trail, c: u64) -> ClauseState
     requires clause { c < length clauses.now.clauses }
     requires vars { trail.now.vars ≡ clauses.now.vars }
     ensures look { result ≡ clause_state (lits_of trail.now.entries)

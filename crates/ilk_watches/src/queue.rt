@@ -6,38 +6,39 @@ ghost use Rattle.ilk_trail.specs.Laws.{is_set, lits_of};
 ghost use Rattle.ilk_watches.specs.Reasons.{is_conflict};
 ghost use Rattle.ilk_watches.specs.Chained.{SameClauses};
 ghost use Rattle.ilk_watches.specs.Propagated.{ExtendsByPropagation};
-ghost use Rattle.ilk_watches.specs.Watched.{IsQueue};
+ghost use Rattle.ilk_watches.specs.Watched.{IsPropagationInvariant};
 
-use crate::clauses::Clauses;
+use crate::clauses::NumberedClauses;
 use crate::look::{ClauseState, clause_state};
 use crate::walk::propagate_from;
 use ilk_cnf::Lit;
 use ilk_trail::Trail;
 
-/// The progress of propagation: the entries of the trail before `head` are propagated, and the
-/// clauses before `settled` were examined.
+/// The progress of propagation. The entries of the trail before `head` are propagated, and the
+/// clauses before `settled` are examined.
 #[derive(Clone, Copy)]
-pub struct Propagator {
+pub struct PropagationProgress {
     pub head: u64,
     pub settled: u64,
 }
 
-impl Propagator {
-    /// Creates the queue for the start, with nothing propagated.
-    pub fn new() -> Propagator
+impl PropagationProgress {
+    /// Creates the progress at the start, with nothing propagated.
+    pub fn new() -> PropagationProgress
         ensures { result ≡ record { head = 0; settled = 0 } }
     {
-        Propagator {
+        PropagationProgress {
             head: 0,
             settled: 0,
         }
     }
 
-    /// Assigns what the clauses force until nothing is left to assign and returns `None`, or
-    /// returns the number of a false clause. Takes no memory.
-    pub fn propagate(&mut self, clauses: &mut Clauses, trail: &mut Trail) -> Option<u64>
+    /// Assigns the literals that clauses force, until none is left, and returns `None`. Returns the
+    /// number of a clause if it becomes false. Takes no memory.
+    pub fn propagate(&mut self, clauses: &mut NumberedClauses, trail: &mut Trail) -> Option<u64>
         requires vars { trail.old.vars ≡ clauses.old.vars }
-        requires queue { IsQueue clauses.old trail.old.entries self.old.head self.old.settled }
+        requires queue { IsPropagationInvariant clauses.old trail.old.entries self.old.head
+            self.old.settled }
         ensures conflict { IfSome result
             (λ c. IsTrue (is_conflict clauses.old.clauses (lits_of trail.new.entries) c)) }
         ensures closed { IfNone result
@@ -45,7 +46,8 @@ impl Propagator {
         ensures ended { IfNone result
             ((self.new.head ≡ length trail.new.entries) ×
             (self.new.settled ≡ length clauses.old.clauses)) }
-        ensures queue { IsQueue clauses.new trail.new.entries self.new.head self.new.settled }
+        ensures queue { IsPropagationInvariant clauses.new trail.new.entries self.new.head
+            self.new.settled }
         ensures clauses { SameClauses clauses.old clauses.new }
         ensures trail { trail.new ≡ record trail.old { entries = trail.new.entries } }
         ensures propagated { ExtendsByPropagation clauses.old.clauses trail.old.entries
@@ -57,14 +59,15 @@ impl Propagator {
         }
     }
 
-    // Examines the clauses that were not examined yet, and assigns what they force.
-    fn settle(&mut self, clauses: &Clauses, trail: &mut Trail) -> Option<u64>
+    fn settle(&mut self, clauses: &NumberedClauses, trail: &mut Trail) -> Option<u64>
         requires vars { trail.old.vars ≡ clauses.now.vars }
-        requires queue { IsQueue clauses.now trail.old.entries self.old.head self.old.settled }
+        requires queue { IsPropagationInvariant clauses.now trail.old.entries self.old.head
+            self.old.settled }
         ensures conflict { IfSome result
             (λ c. IsTrue (is_conflict clauses.now.clauses (lits_of trail.new.entries) c)) }
         ensures settled { IfNone result (self.new.settled ≡ length clauses.now.clauses) }
-        ensures queue { IsQueue clauses.now trail.new.entries self.new.head self.new.settled }
+        ensures queue { IsPropagationInvariant clauses.now trail.new.entries self.new.head
+            self.new.settled }
         ensures trail { trail.new ≡ record trail.old { entries = trail.new.entries } }
         ensures propagated { ExtendsByPropagation clauses.now.clauses trail.old.entries
             trail.new.entries }
@@ -80,9 +83,10 @@ impl Propagator {
         None
     }
 
-    fn run(&mut self, clauses: &mut Clauses, trail: &mut Trail) -> Option<u64>
+    fn run(&mut self, clauses: &mut NumberedClauses, trail: &mut Trail) -> Option<u64>
         requires vars { trail.old.vars ≡ clauses.old.vars }
-        requires queue { IsQueue clauses.old trail.old.entries self.old.head self.old.settled }
+        requires queue { IsPropagationInvariant clauses.old trail.old.entries self.old.head
+            self.old.settled }
         requires settled { self.old.settled ≡ length clauses.old.clauses }
         ensures conflict { IfSome result
             (λ c. IsTrue (is_conflict clauses.old.clauses (lits_of trail.new.entries) c)) }
@@ -90,7 +94,8 @@ impl Propagator {
             (IsTrue (is_saturated clauses.old.clauses (lits_of trail.new.entries))) }
         ensures ended { IfNone result (self.new.head ≡ length trail.new.entries) }
         ensures settled { self.new.settled ≡ self.old.settled }
-        ensures queue { IsQueue clauses.new trail.new.entries self.new.head self.new.settled }
+        ensures queue { IsPropagationInvariant clauses.new trail.new.entries self.new.head
+            self.new.settled }
         ensures clauses { SameClauses clauses.old clauses.new }
         ensures trail { trail.new ≡ record trail.old { entries = trail.new.entries } }
         ensures propagated { ExtendsByPropagation clauses.old.clauses trail.old.entries
@@ -108,10 +113,11 @@ impl Propagator {
         None
     }
 
-    /// Opens the next level with `l`, after propagation has ended.
-    pub fn decide(&mut self, clauses: &mut Clauses, trail: &mut Trail, l: Lit)
+    /// Opens the next level of `trail` with the unset literal `l`. Propagation has to be complete.
+    pub fn decide(&mut self, clauses: &mut NumberedClauses, trail: &mut Trail, l: Lit)
         requires vars { trail.old.vars ≡ clauses.old.vars }
-        requires queue { IsQueue clauses.old trail.old.entries self.old.head self.old.settled }
+        requires queue { IsPropagationInvariant clauses.old trail.old.entries self.old.head
+            self.old.settled }
         requires within { IsTrue (is_lit_over trail.old.vars l) }
         requires unset { is_set trail.old.entries l.var ≡ false }
         requires closed { IsTrue (is_saturated clauses.old.clauses (lits_of trail.old.entries)) }
@@ -122,7 +128,8 @@ impl Propagator {
         ensures clauses { SameClauses clauses.old clauses.new }
         ensures ended { (self.new.head ≡ length trail.old.entries) ×
             (self.new.settled ≡ length clauses.old.clauses) }
-        ensures queue { IsQueue clauses.new trail.new.entries self.new.head self.new.settled }
+        ensures queue { IsPropagationInvariant clauses.new trail.new.entries self.new.head
+            self.new.settled }
     {
         let _ = self.propagate(clauses, trail);
         let _ = clauses.count();
@@ -130,7 +137,7 @@ impl Propagator {
         trail.decide(l);
     }
 
-    /// Adjusts the queue after levels were removed from the trail.
+    /// Adjusts the progress after levels were removed from `trail`.
     pub fn back_to(&mut self, trail: &Trail)
         ensures { self.new
             ≡ record self.old { head = min self.old.head (length trail.now.entries) } }

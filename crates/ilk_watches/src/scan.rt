@@ -5,12 +5,11 @@ ghost use Rattle.ilk_watches.specs.Reasons.{is_conflict};
 ghost use Rattle.ilk_watches.specs.Found.{IsScanResult};
 ghost use Rattle.ilk_watches.specs.Propagated.{ExtendsByPropagation};
 
-use crate::clauses::Clauses;
+use crate::clauses::NumberedClauses;
 use crate::look::{ClauseState, clause_state};
 use ilk_cnf::Lit;
 use ilk_trail::Trail;
 
-// The result of a scan: a false clause, a clause that forces a literal, or neither.
 #[derive(Clone, Copy)]
 enum Found {
     Falsified(u64),
@@ -19,7 +18,7 @@ enum Found {
 }
 
 // Returns the first clause that is false or forces a literal.
-fn find(clauses: &Clauses, trail: &Trail) -> Found
+fn find(clauses: &NumberedClauses, trail: &Trail) -> Found
     requires { trail.now.vars ≡ clauses.now.vars }
     ensures found { IsScanResult clauses.now.clauses trail.now result }
     ensures trail { IsTrail trail.now }
@@ -35,9 +34,9 @@ fn find(clauses: &Clauses, trail: &Trail) -> Found
     Found::Closed
 }
 
-/// Does the work of `Propagator::propagate` by a scan of all clauses for each literal. It is a
+/// Does the work of `PropagationProgress::propagate` by scanning all clauses for each literal. A
 /// reference for tests.
-pub fn propagate_by_scan(clauses: &Clauses, trail: &mut Trail) -> Option<u64>
+pub fn propagate_by_scan(clauses: &NumberedClauses, trail: &mut Trail) -> Option<u64>
     requires { trail.old.vars ≡ clauses.now.vars }
     ensures conflict { IfSome result
         (λ c. IsTrue (is_conflict clauses.now.clauses (lits_of trail.new.entries) c)) }

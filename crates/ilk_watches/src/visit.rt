@@ -5,14 +5,14 @@ ghost use Rattle.ilk_log.specs.Propagation.{is_false as is_false_by, is_falsifie
 ghost use Rattle.ilk_trail.specs.declared.entry.Entry.{Entry};
 ghost use Rattle.ilk_trail.specs.Trail.{level_of};
 ghost use Rattle.ilk_trail.specs.Laws.{lits_of, IsTrail};
-ghost use Rattle.ilk_arena.specs.Arena.{chain_of, directly_follows, literals_of, other_watch_of, is_listed_in};
+ghost use Rattle.ilk_arena.specs.Arena.{chain_of, follows_or_is_first, literals_of, other_watch_of, contains_reference};
 ghost use Rattle.ilk_watches.specs.Reasons.{is_conflict};
 ghost use Rattle.ilk_watches.specs.Chained.{SameClauses};
 ghost use Rattle.ilk_watches.specs.Propagated.{ExtendsByPropagation};
 ghost use Rattle.ilk_watches.specs.Watched.{AllCovered};
 ghost use Rattle.ilk_watches.specs.Visits.{IsReplacementResult, IsVisitResult, MayWatchAt, NoneMayWatch};
 
-use crate::clauses::Clauses;
+use crate::clauses::NumberedClauses;
 use ilk_cnf::Lit;
 use ilk_trail::Trail;
 
@@ -21,9 +21,10 @@ use ilk_trail::Trail;
 // literals and more general techniques", JAIR 48, 2013.
 const SHORT: u64 = 8;
 
-/// The result of a visit: the clause keeps its watch, moves it, or is false.
+/// The result of a visit of a clause with a false watch. Its other watch is true (`Stays`), the
+/// watch has moved (`Moves`), or the clause is false (`Broken`).
 #[derive(Clone, Copy)]
-pub enum Visited {
+pub(crate) enum Visited {
     Stays,
     Moves,
     Broken,
@@ -42,16 +43,16 @@ fn is_false(trail: &Trail, l: Lit) -> bool
 }
 
 // Returns the index of the first literal of the clause at reference `c`, from `from` on and before
-// `to`, that may be watched besides `other_watch_place`.
+// `to`, that may be watched besides `other`.
 fn find_between(
-    clauses: &Clauses,
+    clauses: &NumberedClauses,
     trail: &Trail,
     c: u64,
     other: Lit,
     from: u64,
     to: u64,
 ) -> Option<u64>
-    requires known { IsTrue (is_listed_in c clauses.now.references) }
+    requires known { IsTrue (contains_reference c clauses.now.references) }
     requires vars { trail.now.vars ≡ clauses.now.vars }
     requires trail { IsTrail trail.now }
     requires to { to ≤ length (literals_of clauses.now c) }
@@ -71,8 +72,14 @@ fn find_between(
 }
 
 // Returns the first such index from `start` on, then from 0.
-fn find_around(clauses: &Clauses, trail: &Trail, c: u64, other: Lit, start: u64) -> Option<u64>
-    requires known { IsTrue (is_listed_in c clauses.now.references) }
+fn find_around(
+    clauses: &NumberedClauses,
+    trail: &Trail,
+    c: u64,
+    other: Lit,
+    start: u64,
+) -> Option<u64>
+    requires known { IsTrue (contains_reference c clauses.now.references) }
     requires vars { trail.now.vars ≡ clauses.now.vars }
     requires trail { IsTrail trail.now }
     requires start { start ≤ length (literals_of clauses.now c) }
@@ -89,9 +96,8 @@ fn find_around(clauses: &Clauses, trail: &Trail, c: u64, other: Lit, start: u64)
     }
 }
 
-// Returns the index of such a literal, or `None` if there is none.
-fn find_watch(clauses: &mut Clauses, trail: &Trail, c: u64, other: Lit) -> Option<u64>
-    requires known { IsTrue (is_listed_in c clauses.old.references) }
+fn find_watch(clauses: &mut NumberedClauses, trail: &Trail, c: u64, other: Lit) -> Option<u64>
+    requires known { IsTrue (contains_reference c clauses.old.references) }
     requires vars { trail.now.vars ≡ clauses.old.vars }
     requires trail { IsTrail trail.now }
     ensures clauses { clauses.new ≡ record clauses.old { cursors = clauses.new.cursors } }
@@ -113,9 +119,9 @@ fn find_watch(clauses: &mut Clauses, trail: &Trail, c: u64, other: Lit) -> Optio
 }
 
 // Moves the watch of the clause at reference `c` from `f`, which is false, to a literal besides
-// `other_watch_place`, its other watch, that isn't false. Returns whether there is one.
+// `other`, its other watch, that isn't false. Returns whether there is one.
 fn replace_watch(
-    clauses: &mut Clauses,
+    clauses: &mut NumberedClauses,
     trail: &Trail,
     before: Option<u64>,
     c: u64,
@@ -126,8 +132,8 @@ fn replace_watch(
     requires trail { IsTrail trail.now }
     requires within { IsTrue (is_lit_over clauses.old.vars f) }
     requires denied { IsTrue (is_false_by (lits_of trail.now.entries) f) }
-    requires stands { IsTrue (is_listed_in c (chain_of clauses.old f)) }
-    requires follows { IsTrue (directly_follows before c (chain_of clauses.old f)) }
+    requires stands { IsTrue (contains_reference c (chain_of clauses.old f)) }
+    requires follows { IsTrue (follows_or_is_first before c (chain_of clauses.old f)) }
     requires other { other_watch_of clauses.old c f ≡ Some other }
     ensures replaced { IsReplacementResult clauses.old
         (lits_of trail.now.entries) clauses.new c f other
@@ -144,11 +150,12 @@ fn replace_watch(
     }
 }
 
-/// Visits the clause at reference `c` in the chain of `f`, which is false. In this chain `c`
-/// directly follows `before`, or is first.
+/// Visits the clause at reference `c`, whose watch `f` is false. Unless the other watch is true,
+/// moves the watch to a literal that isn't false. If there is none, forces the other watch or finds
+/// the clause false. In the chain of `f`, `c` directly follows `before`, or is first.
 #[inline(always)]
-pub fn visit(
-    clauses: &mut Clauses,
+pub(crate) fn visit(
+    clauses: &mut NumberedClauses,
     trail: &mut Trail,
     before: Option<u64>,
     c: u64,
@@ -157,8 +164,8 @@ pub fn visit(
     requires vars { trail.old.vars ≡ clauses.old.vars }
     requires within { IsTrue (is_lit_over clauses.old.vars f) }
     requires denied { IsTrue (is_false_by (lits_of trail.old.entries) f) }
-    requires stands { IsTrue (is_listed_in c (chain_of clauses.old f)) }
-    requires follows { IsTrue (directly_follows before c (chain_of clauses.old f)) }
+    requires stands { IsTrue (contains_reference c (chain_of clauses.old f)) }
+    requires follows { IsTrue (follows_or_is_first before c (chain_of clauses.old f)) }
     ensures visited { IsVisitResult clauses.old trail.old.entries clauses.new trail.new.entries c f
         result }
     ensures clauses { SameClauses clauses.old clauses.new }

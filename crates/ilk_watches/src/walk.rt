@@ -9,9 +9,9 @@ ghost use Rattle.ilk_watches.specs.Reasons.{is_conflict};
 ghost use Rattle.ilk_watches.specs.Chained.{SameClauses};
 ghost use Rattle.ilk_watches.specs.Propagated.{ExtendsByPropagation};
 ghost use Rattle.ilk_watches.specs.Watched.{AllCovered};
-ghost use Rattle.ilk_watches.specs.Visits.{AtMostOneLeftChain, IsMadeFalseBy, IsWalkAt, count_rest_of_chain};
+ghost use Rattle.ilk_watches.specs.Visits.{AtMostOneLeftChain, IsMadeFalseBy, OtherWatchesTrueBefore, count_rest_of_chain};
 
-use crate::clauses::Clauses;
+use crate::clauses::NumberedClauses;
 use crate::visit::{Visited, visit};
 use ilk_cnf::Lit;
 use ilk_trail::Trail;
@@ -25,8 +25,7 @@ struct Walk {
     next: Option<u64>,
 }
 
-// Starts the walk along the chain of the literal that entry `i` makes false.
-fn start(clauses: &Clauses, trail: &Trail, i: u64) -> Walk
+fn start(clauses: &NumberedClauses, trail: &Trail, i: u64) -> Walk
     requires vars { trail.now.vars ≡ clauses.now.vars }
     requires entry { i < length trail.now.entries }
     ensures literal { IsMadeFalseBy clauses.now.vars trail.now.entries i result.f }
@@ -45,17 +44,19 @@ fn start(clauses: &Clauses, trail: &Trail, i: u64) -> Walk
 
 // Visits the next clause of a walk, if there is one. Returns the number of a clause if it is false.
 #[inline(always)]
-fn step(clauses: &mut Clauses, trail: &mut Trail, walk: &mut Walk) -> Option<u64>
+fn step(clauses: &mut NumberedClauses, trail: &mut Trail, walk: &mut Walk) -> Option<u64>
     requires vars { trail.old.vars ≡ clauses.old.vars }
     requires within { IsTrue (is_lit_over clauses.old.vars walk.old.f) }
     requires denied { IsTrue (is_false_by (lits_of trail.old.entries) walk.old.f) }
-    requires walking { IsWalkAt clauses.old trail.old.entries walk.old.f walk.old.before
+    requires walking { OtherWatchesTrueBefore clauses.old trail.old.entries walk.old.f
+        walk.old.before
         walk.old.next }
     ensures conflict { IfSome result
         (λ c. IsTrue (is_conflict clauses.old.clauses (lits_of trail.new.entries) c)) }
     ensures literal { walk.new.f ≡ walk.old.f }
     ensures walking { IfNone result
-        (IsWalkAt clauses.new trail.new.entries walk.old.f walk.new.before walk.new.next) }
+        (OtherWatchesTrueBefore clauses.new trail.new.entries walk.old.f walk.new.before
+        walk.new.next) }
     ensures shorter { IfNone result
         (walk.old.next ≢ None →
         count_rest_of_chain clauses.new walk.old.f walk.new.next
@@ -82,12 +83,17 @@ fn step(clauses: &mut Clauses, trail: &mut Trail, walk: &mut Walk) -> Option<u64
     }
 }
 
-/// Walks the chains of the literals that the entries from `head` on make false, until nothing is
-/// queued. Assigns what their clauses force, or returns the number of a false clause.
+/// Propagates the entries from `head` on: walks the chains of the literals that they make false,
+/// and assigns what clauses force. Returns the number of a false clause, or `None` if nothing is
+/// left.
 ///
-/// A clause is far away in memory, and only it names the next one of its chain. So if two entries
-/// are queued, their chains are walked side by side, and both clauses are loaded at once.
-pub fn propagate_from(clauses: &mut Clauses, trail: &mut Trail, head: u64) -> Option<u64>
+/// Loading a clause takes long, and only it names the next one of its chain. So two chains are
+/// walked side by side if two entries are queued.
+pub(crate) fn propagate_from(
+    clauses: &mut NumberedClauses,
+    trail: &mut Trail,
+    head: u64,
+) -> Option<u64>
     requires vars { trail.old.vars ≡ clauses.old.vars }
     requires head { head < length trail.old.entries }
     requires queued { (i : ℕ) (e : Entry) → head ≤ i → slice_get trail.old.entries i ≡ Some e →

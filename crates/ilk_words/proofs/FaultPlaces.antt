@@ -20,8 +20,6 @@ use Rattle.ilk_words.specs.Options.{as_reference}
 use Rattle.ilk_words.specs.Places.{rule_without_addresses, rules_without_addresses, shape_without_addresses}
 use Rattle.ilk_words.proofs.WalkPlaces.{by_id, by_index, by_long, by_short, default_as, finishes, reacts, settles, value_as, values_as, walks, walks_on, word_meets}
 
--- Faults of one use.
-
 faults_of_values : (a : Rule) (values : List Text) → values_fault (rule_without_addresses a) values ≡ values_fault a values
 faults_of_values a values = values_as a.ignore_case a.parser values
 
@@ -43,8 +41,6 @@ faults_of_action other again a values rows = refl
 faults_of_use : (again : Bool) (a : Rule) (values : List Text) (rows : List Row) → use_fault again (rule_without_addresses a) values rows ≡ use_fault again a values rows
 faults_of_use again a values rows = ap (or_else (range_kinds (unwrap_or_range a.range).start_inclusive (most_values a) (length values)))
     (faults_of_action (action_of a) again a (values_or_missing a values) rows)
-
--- Faults of the walk.
 
 faults_of_found : (again : Bool) (o : Option Rule) (values : List Text) (rows : List Row) →
     option_map_or (λ (a : Rule). use_fault again a values rows) (option_map rule_without_addresses o) [] ≡ option_map_or (λ (a : Rule). use_fault again a values rows) o []
@@ -146,8 +142,6 @@ faults_of_walk s names w [] = refl
 faults_of_walk s names w (word ∷ rest) = ap₂ or_else (faults_of_turn s names w word)
     (ap (λ (v : Walk). walk_fault (shape_without_addresses s) names v rest) (walks_on s.rules names w word) ∙ faults_of_walk s names (walked s.rules names w word) rest)
 
--- Faults after the walk.
-
 faults_of_default : (rows : List Row) (a : Rule) → default_fault rows (rule_without_addresses a) ≡ default_fault rows a
 faults_of_default rows a = ap (λ (x : Kinds). if has_row a.id rows || is_empty a.defaults then [] else or_else (request_kinds (action_of a)) x) (faults_of_values a a.defaults)
 
@@ -164,7 +158,6 @@ faults_of_check s rows has_subcommand = ap (λ (b : Bool). check_kinds
     (not (s.subcommand_negates_reqs && has_subcommand) && b))
     (sym (list_any-map (λ (a : Rule). a.required && not (is_given a.id rows)) rule_without_addresses s.rules))
 
--- Checks after the arguments are read.
 abbrev faults_at_end : Shape → Bool → Held → Kinds
 faults_at_end s has_subcommand h = or_else (settle_fault s.rules s.args_override_self h)
     (or_else (defaults_fault (settled s.rules h).rows s.rules) (check_fault s (finished s.rules h) has_subcommand))

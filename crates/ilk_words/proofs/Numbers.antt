@@ -14,17 +14,15 @@ use Rattle.clap.proofs.ValueTestLemmas.{Accepts-accepts, accepts-Accepts}
 use Rattle.ilk_base.specs.Option.{◌>>=◌, then_some}
 use Rattle.ilk_base.proofs.Options.{IfSome-from, bind_some}
 use Rattle.ilk_base.proofs.Tested.{find-at}
-use Rattle.ilk_words.specs.Commands.{CommandSpec, audit_command, check_command, column_rule_mode_of, commands, demo_command, drive_command, export_command, make_command, query_of, replay_command, rup_command, table_command, verify_command}
+use Rattle.ilk_words.specs.Commands.{CommandNameAndOptions, audit_command, check_command, column_rule_mode_of, commands, demo_command, drive_command, export_command, make_command, query_kind_of, replay_command, rup_command, table_command, verify_command}
 use Rattle.ilk_words.specs.Limits.{within_option_limits, within_query_limits, within_search_limits, within_station_limits}
 use Rattle.ilk_words.specs.Options.{ParsedArgs, OptionSpec, cert_option, conflicts_option, depth_option, number_between, option_number_or_default, number_of_value, query_number_option, run_option, stations_option, option_value_or_default}
 use Rattle.ilk_words.specs.Queries.{query_exists}
-use Rattle.ilk_words.specs.Words.{command_from_args, has_only_own_options, command_if_allowed}
+use Rattle.ilk_words.specs.Words.{command_from_args, has_only_own_options, command_if_options_fit}
 use Rattle.ilk_words.specs.declared.command.Command.{Command}
 use Rattle.ilk_words.specs.declared.command.Command.TheVariants.{Check, Verify, Audit, Replay, Make, Demo, Table, Export, Rup, Drive}
 use Rattle.ilk_words.specs.declared.command.QueryKind.{QueryKind}
 use Rattle.ilk_words.specs.declared.limits.TheConstants.{DEFAULT_TOTAL_CONFLICTS, DEFAULT_DEPTH, MAX_TOTAL_CONFLICTS, MAX_DEPTH, MAX_QUERY_EVENTS, MAX_STATIONS}
-
--- Numbers of values.
 
 pub number_read : (least most : ℕ) (value : List ℕ) → IsUnsignedIn least most value → Some (digits_value 10 (without_leading_plus value)) ≡ number_of_value (number_between least most) value
 number_read least most value h = rw (Accepts-accepts false (number_between least most) value h) refl
@@ -35,8 +33,6 @@ no_number_read least most value h = go (accepts false (number_between least most
     go : (b : Bool) → accepts false (number_between least most) value ≡ b → None ≡ then_some b (digits_value 10 (without_leading_plus value))
     go true e = absurd (h (accepts-Accepts false (number_between least most) value e))
     go false e = refl
-
--- Limits that a command keeps.
 
 number_within : (least most : ℕ) (value : List ℕ) (n : ℕ) → number_of_value (number_between least most) value ≡ Some n → (least ≤ n) × (n ≤ most)
 number_within least most value n e =
@@ -52,7 +48,7 @@ option_within line o least most n same e =
 abbrev HasLimits : Command → Type 0
 HasLimits command = IsTrue (within_option_limits command)
 
-abbrev KeepsLimits : CommandSpec → Type 0
+abbrev KeepsLimits : CommandNameAndOptions → Type 0
 KeepsLimits c = (line : ParsedArgs) (command : Command) → c.command line ≡ Some command → HasLimits command
 
 check_keeps : KeepsLimits check_command
@@ -123,7 +119,7 @@ table_keeps line command e =
 export_keeps : KeepsLimits export_command
 export_keeps line command e =
     let columns = bind_some (column_rule_mode_of line) _ command e in
-    let query = bind_some (query_of line) _ command columns.2 in
+    let query = bind_some (query_kind_of line) _ command columns.2 in
     let number = bind_some (option_number_or_default line query_number_option) _ command query.2 in
     let asked = cond_some _ _ command number.2 in
     let limits : HasLimits (Export columns.0 query.0 number.0) = query_within line query.0 number.0 number.1 asked.0 in
@@ -132,7 +128,7 @@ export_keeps line command e =
 rup_keeps : KeepsLimits rup_command
 rup_keeps line command e =
     let columns = bind_some (column_rule_mode_of line) _ command e in
-    let query = bind_some (query_of line) _ command columns.2 in
+    let query = bind_some (query_kind_of line) _ command columns.2 in
     let number = bind_some (option_number_or_default line query_number_option) _ command query.2 in
     let cert = bind_some (option_value_or_default line cert_option) _ command number.2 in
     let asked = cond_some _ _ command cert.2 in
@@ -145,7 +141,7 @@ drive_keeps line command e =
     let run = bind_some (option_value_or_default line run_option) _ command columns.2 in
     subst HasLimits (same_Some (Drive columns.0 run.0) command run.2) refl
 
-keeps_limits : (i : ℕ) (c : CommandSpec) → slice_get commands i ≡ Some c → KeepsLimits c
+keeps_limits : (i : ℕ) (c : CommandNameAndOptions) → slice_get commands i ≡ Some c → KeepsLimits c
 keeps_limits zero c e = subst KeepsLimits (same_Some _ _ e) check_keeps
 keeps_limits (suc zero) c e = subst KeepsLimits (same_Some _ _ e) verify_keeps
 keeps_limits (suc (suc zero)) c e = subst KeepsLimits (same_Some _ _ e) audit_keeps
@@ -158,16 +154,13 @@ keeps_limits (suc (suc (suc (suc (suc (suc (suc (suc zero)))))))) c e = subst Ke
 keeps_limits (suc (suc (suc (suc (suc (suc (suc (suc (suc zero))))))))) c e = subst KeepsLimits (same_Some _ _ e) drive_keeps
 keeps_limits (suc (suc (suc (suc (suc (suc (suc (suc (suc (suc i)))))))))) c e = cc
 
--- The numbers of a line's command are within the limits of its options.
 pub line_limits : (line : ParsedArgs) → IfSome (command_from_args line) (λ (command : Command). IsTrue (within_option_limits command))
 line_limits line = IfSome-from (command_from_args line) (λ (command : Command). IsTrue (within_option_limits command)) (λ command e.
-    let name = bind_some (line (codes "command")) (λ name. find (λ (c : CommandSpec). bytes_eq name c.name) commands >>= command_if_allowed line) command e in
-    let chosen = bind_some (find (λ (c : CommandSpec). bytes_eq name.0 c.name) commands) (command_if_allowed line) command name.2 in
-    let place = find-at (λ (c : CommandSpec). bytes_eq name.0 c.name) commands chosen.0 chosen.1 in
+    let name = bind_some (line (codes "command")) (λ name. find (λ (c : CommandNameAndOptions). bytes_eq name c.name) commands >>= command_if_options_fit line) command e in
+    let chosen = bind_some (find (λ (c : CommandNameAndOptions). bytes_eq name.0 c.name) commands) (command_if_options_fit line) command name.2 in
+    let place = find-at (λ (c : CommandNameAndOptions). bytes_eq name.0 c.name) commands chosen.0 chosen.1 in
     let taken = bind_some (then_some (has_only_own_options line (λ option. list_any (λ (o : OptionSpec). bytes_eq option o.name) chosen.0.options)) chosen.0) (λ c. chosen.0.command line) command chosen.2 in
     keeps_limits place.0 chosen.0 place.1 line command taken.2)
-
--- Defaults.
 
 pub depth_by_default : (line : ParsedArgs) → line (codes "depth") ≡ None → Some DEFAULT_DEPTH ≡ option_number_or_default line depth_option
 unfolding digits

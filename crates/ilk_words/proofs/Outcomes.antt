@@ -32,7 +32,6 @@ stopped (x ∷ xs) words o k h = rw (not_nil x xs) refl
     not_nil : (x : ErrorKind) (xs : Kinds) → is_empty (x ∷ xs) ≡ false
     not_nil x xs = grind arith
 
--- If parsing fails for a reason other than memory, there is no command.
 pub refused : (a : App) (words : List Text) (e : Error) → app_without_addresses a ≡ app → HasKind (fault_of a words) e → (kind_of e ≡ OutOfMemory → ⊥) → None ≡ parsed_command words
 refused a words e like fails other = go (subst (λ (kinds : Kinds). HasKind kinds e) (faults_like_ours a words like) fails)
   where
@@ -45,7 +44,6 @@ given a words m like free rows =
     let line : first_value (found_of m) ≡ (λ id. first_of id (matches_of app words)) = fun_ext (λ id. first_value-rows (found_of m) id ∙ ap (first_of id) (rows ∙ rows_like_ours a words like)) in
     ap command_from_args line ∙ sym (passed (fault_of app words) words (command_from_args (λ id. first_of id (matches_of app words))) (sym (faults_like_ours a words like) ∙ free))
 
--- If it succeeds, the command is that of the matches.
 pub accepted : {E : Type 0} (r : Result (Option Command) E) (a : App) (words : List Text) (m : ArgMatches) →
     app_without_addresses a ≡ app → fault_of a words ≡ [] → rows_of (found_of m) ≡ matches_of a words →
     IfOk r (λ o. o ≡ command_from_args (first_value (found_of m))) → IfOk r (λ o. o ≡ parsed_command words)

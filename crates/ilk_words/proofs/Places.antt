@@ -17,13 +17,11 @@ use Rattle.clap.specs.declared.error.kind.ErrorKind.TheVariants as kind
 use Rattle.clap.specs.Words.{AddsArg, app_of, is_simple_and_free, rule_of, with_rule}
 use Rattle.clap.specs.declared.builder.arg.Arg.{Arg}
 use Rattle.clap.specs.declared.builder.command.Command.{Command}
-use Rattle.ilk_words.specs.Line.{app, option_arg, named_option_arg}
+use Rattle.ilk_words.specs.Line.{app, option_arg, option_arg_with_parser}
 use Rattle.ilk_words.specs.Options.{OptionSpec}
 use Rattle.ilk_words.specs.Places.{parser_without_addresses, app_without_addresses, rule_without_addresses, rules_without_addresses, shape_without_addresses}
 use Rattle.ilk_words.proofs.FaultPlaces.{same_faults}
 use Rattle.ilk_words.proofs.WalkPlaces.{same_rows}
-
--- Construction.
 
 same_default_parser : (x : ArgAction) → parser_without_addresses (parser_for x) ≡ parser_for x
 same_default_parser SetTrue = refl
@@ -45,9 +43,6 @@ with_help : (c : List Rule) → rules_without_addresses (c ++ help_rule ∷ []) 
 with_help [] = refl
 with_help (a ∷ c) = ap (λ (xs : List Rule). rule_without_addresses a ∷ xs) (with_help c)
 
--- The command line.
-
--- The line with other rules.
 abbrev of_rules : List Rule → App
 of_rules rules = record app { top = record app.top { rules = rules } }
 
@@ -83,8 +78,6 @@ rows_like_ours a words e =
     ∙ ap (λ (s : Shape). rows_after s.rules [] (drop 1 words)) (builds rules (ap (λ (x : App). x.top.rules) e))
     ∙ sym (rows_of_line app.top.rules words)
 
--- The line of the program.
-
 pub with_argument : (old new : Command) (a : Arg) (line : App) (given : Rule) → AddsArg old a new → a.global ≡ false → rule_without_addresses (rule_of a) ≡ given → app_without_addresses (app_of old) ≡ line →
     app_without_addresses (app_of new) ≡ with_rule line given
 with_argument old new a line given adds local same e = ap app_without_addresses (adds.shape local)
@@ -93,10 +86,10 @@ with_argument old new a line given adds local same e = ap app_without_addresses 
 
 pub with_option : (old new : Command) (a : Arg) (line : App) (o : OptionSpec) (values : ValueParser) →
     AddsArg old a new → a.global ≡ false →
-    rule_without_addresses (rule_of a) ≡ named_option_arg o.name (parser_without_addresses values) →
+    rule_without_addresses (rule_of a) ≡ option_arg_with_parser o.name (parser_without_addresses values) →
     parser_without_addresses values ≡ o.values → app_without_addresses (app_of old) ≡ line →
     app_without_addresses (app_of new) ≡ with_rule line (option_arg o)
-with_option old new a line o values adds local rule same e = with_argument old new a line (option_arg o) adds local (rule ∙ ap (named_option_arg o.name) same) e
+with_option old new a line o values adds local rule same e = with_argument old new a line (option_arg o) adds local (rule ∙ ap (option_arg_with_parser o.name) same) e
 
 ready_as : (s : Shape) → is_ready (shape_without_addresses s) ≡ is_ready s
 ready_as s = ap₂ (λ (simple early : Bool). s.is_plain && simple && not early)

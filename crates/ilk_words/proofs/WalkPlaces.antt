@@ -20,8 +20,6 @@ use Rattle.clap.specs.declared.error.kind.ErrorKind.TheVariants as kind
 use Rattle.ilk_words.specs.Options.{as_reference}
 use Rattle.ilk_words.specs.Places.{parser_without_addresses, rule_without_addresses, rules_without_addresses}
 
--- One value.
-
 same_reading : (o : Option ValueParser) → reading_of (parser_of_value (option_map parser_without_addresses o)) ≡ reading_of (parser_of_value o)
 same_reading None = refl
 same_reading (Some (parser.Names names)) = refl
@@ -44,8 +42,6 @@ pub values_as : (ignore_case : Bool) (o : Option ValueParser) (texts : List Text
 values_as ignore_case o [] = refl
 values_as ignore_case o (v ∷ vs) = ap₂ or_else (value_as ignore_case o v) (values_as ignore_case o vs)
 
--- The argument found.
-
 pub by_id : (c : List Rule) (id : Text) → arg_by_id (rules_without_addresses c) id ≡ option_map rule_without_addresses (arg_by_id c id)
 by_id c id = sym (find-map (λ (a : Rule). bytes_eq a.id id) rule_without_addresses c)
 
@@ -57,8 +53,6 @@ by_short c x = sym (find-map (λ (a : Rule). not (is_some a.index) && has_short 
 
 pub by_index : (c : List Rule) (i : ℕ) → arg_by_index (rules_without_addresses c) i ≡ option_map rule_without_addresses (arg_by_index c i)
 by_index c i = sym (find-map (λ (a : Rule). option_map_or (λ k. k == i) a.index false) rule_without_addresses c)
-
--- The walk.
 
 used_as_before : (a : Rule) (values : List Text) (rows : List Row) → used (rule_without_addresses a) values rows ≡ used a values rows
 used_as_before a values rows = ap (λ (how : Reading). used_as (action_of a) a.id how (values_or_missing a values) rows) (same_reading a.parser)

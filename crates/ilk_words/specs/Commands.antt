@@ -1,4 +1,4 @@
--- The table of commands: the name of each, its options, and its meaning on a line.
+-- The table of commands.
 use Rattle.std.specs.Prelude.{Option, Some, List, [], ◌∷◌, codes}
 use Rattle.clap.specs.Words.{Text}
 use Rattle.ilk_base.specs.Option.{◌>>=◌, then_some}
@@ -10,11 +10,12 @@ use Rattle.ilk_words.specs.declared.command.Command.{Command}
 use Rattle.ilk_words.specs.declared.command.Command.TheVariants.{Check, Verify, Audit, Replay, Make, Demo, Table, Export, Rup, Drive}
 use Rattle.ilk_words.specs.declared.command.QueryKind.{QueryKind}
 
--- A command: its name and its options.
-pub record CommandSpec : Type 0 where
+-- A command: its name, its options, and its meaning.
+pub record CommandNameAndOptions : Type 0 where
   pub name : Text
   pub options : List OptionSpec
-  -- The command with its options, or `None` if a required one is missing or no such query exists.
+  -- The command that a line's option values give. `None` if a required one is missing or a step
+  -- query has 0 events.
   pub command : ParsedArgs → Option Command
 
 abbrev pub column_rule_mode_of : ParsedArgs → Option ColumnRuleMode
@@ -22,12 +23,12 @@ column_rule_mode_of line = do
   value ← option_value_or_default line columns_option
   column_rule_mode_of_word value
 
-abbrev pub query_of : ParsedArgs → Option QueryKind
-query_of line = do
+abbrev pub query_kind_of : ParsedArgs → Option QueryKind
+query_kind_of line = do
   value ← option_value_or_default line query_option
   query_of_word value
 
-abbrev pub check_command : CommandSpec
+abbrev pub check_command : CommandNameAndOptions
 check_command = record {
   name = codes "check";
   options = columns_option ∷ [];
@@ -36,7 +37,7 @@ check_command = record {
     Some (Check columns);
 }
 
-abbrev pub verify_command : CommandSpec
+abbrev pub verify_command : CommandNameAndOptions
 verify_command = record {
   name = codes "verify";
   options = columns_option ∷ depth_option ∷ conflicts_option ∷ cert_option ∷ [];
@@ -48,7 +49,7 @@ verify_command = record {
     Some (Verify columns depth conflicts cert);
 }
 
-abbrev pub audit_command : CommandSpec
+abbrev pub audit_command : CommandNameAndOptions
 audit_command = record {
   name = codes "audit";
   options = columns_option ∷ cert_option ∷ [];
@@ -58,7 +59,7 @@ audit_command = record {
     Some (Audit columns cert);
 }
 
-abbrev pub replay_command : CommandSpec
+abbrev pub replay_command : CommandNameAndOptions
 replay_command = record {
   name = codes "replay";
   options = columns_option ∷ run_option ∷ [];
@@ -68,7 +69,7 @@ replay_command = record {
     Some (Replay columns run);
 }
 
-abbrev pub make_command : CommandSpec
+abbrev pub make_command : CommandNameAndOptions
 make_command = record {
   name = codes "make";
   options = stations_option ∷ [];
@@ -77,7 +78,7 @@ make_command = record {
     Some (Make stations);
 }
 
-abbrev pub demo_command : CommandSpec
+abbrev pub demo_command : CommandNameAndOptions
 demo_command = record {
   name = codes "demo";
   options = stations_option ∷ depth_option ∷ conflicts_option ∷ cert_option ∷ [];
@@ -89,7 +90,7 @@ demo_command = record {
     Some (Demo stations depth conflicts cert);
 }
 
-abbrev pub table_command : CommandSpec
+abbrev pub table_command : CommandNameAndOptions
 table_command = record {
   name = codes "table";
   options = columns_option ∷ [];
@@ -98,30 +99,30 @@ table_command = record {
     Some (Table columns);
 }
 
-abbrev pub export_command : CommandSpec
+abbrev pub export_command : CommandNameAndOptions
 export_command = record {
   name = codes "export";
   options = columns_option ∷ query_option ∷ query_number_option ∷ [];
   command = λ line. do
     columns ← column_rule_mode_of line
-    query ← query_of line
+    query ← query_kind_of line
     number ← option_number_or_default line query_number_option
     then_some (query_exists query number) (Export columns query number);
 }
 
-abbrev pub rup_command : CommandSpec
+abbrev pub rup_command : CommandNameAndOptions
 rup_command = record {
   name = codes "rup";
   options = columns_option ∷ query_option ∷ query_number_option ∷ cert_option ∷ [];
   command = λ line. do
     columns ← column_rule_mode_of line
-    query ← query_of line
+    query ← query_kind_of line
     number ← option_number_or_default line query_number_option
     cert ← option_value_or_default line cert_option
     then_some (query_exists query number) (Rup columns query number cert);
 }
 
-abbrev pub drive_command : CommandSpec
+abbrev pub drive_command : CommandNameAndOptions
 drive_command = record {
   name = codes "drive";
   options = columns_option ∷ run_option ∷ [];
@@ -131,7 +132,7 @@ drive_command = record {
     Some (Drive columns run);
 }
 
-abbrev pub commands : List CommandSpec
+abbrev pub commands : List CommandNameAndOptions
 commands =
     check_command ∷ verify_command ∷ audit_command ∷ replay_command ∷ make_command
     ∷ demo_command ∷ table_command ∷ export_command ∷ rup_command ∷ drive_command ∷ []

@@ -1,4 +1,4 @@
--- Limits of the numbers of a command: those of its options, and for a query also that it exists.
+-- The limits of a command's numbers.
 use Rattle.std.specs.Prelude.{ℕ, Bool, true, ◌&&◌, nat_le}
 use Rattle.ilk_words.specs.Queries.{query_exists}
 use Rattle.ilk_words.specs.declared.command.Command.{Command}
@@ -19,7 +19,7 @@ within_station_limits stations = nat_le 1 stations && nat_le stations MAX_STATIO
 abbrev pub within_query_limits : QueryKind → ℕ → Bool
 within_query_limits query number = nat_le number MAX_QUERY_EVENTS && query_exists query number
 
--- Returns whether a command's numbers are within the limits of its options.
+-- Returns whether all numbers of a command are within their limits.
 abbrev pub within_option_limits : Command → Bool
 within_option_limits (Verify columns depth conflicts cert) = within_search_limits depth conflicts
 within_option_limits (Make stations) = within_station_limits stations

@@ -1,4 +1,4 @@
--- The table of options: the name of each, its allowed values, its default, and its value on a line.
+-- The table of options, and their values on a line.
 use Rattle.std.specs.Prelude.{ℕ, false, Option, Some, None, List, [], ◌∷◌, codes, map}
 use Rattle.std.specs.Borrow.{Bor}
 use Rattle.std.specs.Fmt.{decimal}
@@ -14,27 +14,27 @@ use Rattle.ilk_words.specs.Queries.{all_queries, query_word}
 use Rattle.ilk_words.specs.declared.command.ColumnRuleMode.TheVariants.{Strict}
 use Rattle.ilk_words.specs.declared.limits.TheConstants.{DEFAULT_TOTAL_CONFLICTS, DEFAULT_DEPTH, MAX_TOTAL_CONFLICTS, MAX_DEPTH, MAX_QUERY_EVENTS, MAX_STATIONS}
 
--- A reference, as `clap` holds texts. The location of a text in memory doesn't affect parsing.
+-- A reference to `x`, as `clap` holds texts, at address 0. Parsing doesn't depend on the address.
 abbrev pub as_reference : {X : Type 0} → X → Bor X
 as_reference x = record { ref_ptr = (0, 0); now = x }
 
--- A parser that accepts only these values.
+-- The parser that accepts only these values.
 abbrev pub one_of_texts : List Text → ValueParser
 one_of_texts values = parser.Names (as_reference (map as_reference values))
 
--- A parser that accepts only whole numbers between these bounds.
+-- The parser that accepts only whole numbers from the first bound to the second.
 abbrev pub number_between : ℕ → ℕ → ValueParser
 number_between = parser.Unsigned
 
 abbrev pub any_text : ValueParser
 any_text = parser.String
 
--- An option: its name, the values it takes and its default. It occurs at most once.
+-- An option: its name, values and default. It occurs at most once.
 pub record OptionSpec : Type 0 where
   pub name : Text
   -- The values that `clap` accepts.
   pub values : ValueParser
-  -- The value if the option isn't on the line. An option without a default is required.
+  -- The value if the option isn't on the line. `None` if the option is required.
   pub default : Option Text
 
 abbrev pub columns_option : OptionSpec
@@ -78,26 +78,26 @@ query_option = record {
   default = None;
 }
 
--- The option for the number of events of a single query.
+-- The option `--number`: the number of events of a single query.
 abbrev pub query_number_option : OptionSpec
 query_number_option = record { name = codes "number"; values = number_between 0 MAX_QUERY_EVENTS; default = None }
 
 abbrev pub options : List OptionSpec
 options = columns_option ∷ depth_option ∷ conflicts_option ∷ cert_option ∷ run_option ∷ stations_option ∷ query_option ∷ query_number_option ∷ []
 
--- The value of each argument on the line.
+-- A parsed line: for each name of an argument its value, or `None` if the line lacks it.
 abbrev pub ParsedArgs : Type 0
 ParsedArgs = Text → Option Text
 
--- The option's value on the line, or its default.
+-- The option's value on the line, or else its default.
 abbrev pub option_value_or_default : ParsedArgs → OptionSpec → Option Text
 option_value_or_default line o = option_or (line o.name) o.default
 
--- The number of a value, if `clap` accepts the value.
+-- The number that a value denotes, or `None` if the parser rejects it.
 abbrev pub number_of_value : ValueParser → Text → Option ℕ
 number_of_value values value = then_some (accepts false values value) (digits_value 10 (without_leading_plus value))
 
--- The number in the option's value on the line, or in its default.
+-- The number that the option's value on the line, or else its default, denotes.
 abbrev pub option_number_or_default : ParsedArgs → OptionSpec → Option ℕ
 option_number_or_default line o = do
   value ← option_value_or_default line o

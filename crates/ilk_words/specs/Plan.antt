@@ -1,4 +1,3 @@
--- The plans of commands: inputs, checks and outputs. `Files` has the files that they name.
 use Rattle.std.specs.Prelude.{true, false, Some, None}
 use Rattle.ilk_words.specs.declared.command.Command.{Command}
 use Rattle.ilk_words.specs.declared.command.Command.TheVariants.{Check, Verify, Audit, Replay, Make, Demo, Table, Export, Rup, Drive}
@@ -6,8 +5,8 @@ use Rattle.ilk_words.specs.declared.lengths.TheConstants.{MAX_CERTIFICATE_BYTES,
 use Rattle.ilk_words.specs.declared.plan.CommandPlan.{CommandPlan}
 use Rattle.ilk_words.specs.declared.plan.CheckedRuleStages.TheVariants.{All, Network}
 
--- The rules checked on the configuration, the maximum length of other input, and whether a
--- certificate may be written.
+-- What a command reads, checks and writes: the rules checked on a configuration, the maximum length
+-- of a second input, and whether a certificate may be written.
 abbrev pub plan_of : Command → CommandPlan
 plan_of (Check columns) = record { stages = Some (All columns); extra = None; certifies = false }
 plan_of (Verify columns depth conflicts cert) = record { stages = Some (All columns); extra = None; certifies = true }

@@ -1,7 +1,6 @@
--- Words for the kinds of queries: one table, used for reading and given to `clap`. Also the event
--- numbers for which queries exist.
+-- The words for the kinds of queries.
 use Rattle.std.specs.Prelude.{ℕ, Bool, true, Option, List, [], ◌∷◌, codes, nat_le}
-use Rattle.ilk_base.specs.Words.{value_of_word}
+use Rattle.ilk_base.specs.Words.{first_value_with_word}
 use Rattle.ilk_words.specs.declared.command.QueryKind.{QueryKind}
 use Rattle.ilk_words.specs.declared.command.QueryKind.TheVariants.{Hazard, Breach, Step}
 
@@ -13,12 +12,12 @@ query_word Step = codes "step"
 abbrev pub all_queries : List QueryKind
 all_queries = Hazard ∷ Breach ∷ Step ∷ []
 
--- The kind with a word, or `None` if there is none.
+-- The kind of query with this word, or `None` if there is none.
 abbrev pub query_of_word : List ℕ → Option QueryKind
-query_of_word = value_of_word query_word all_queries
+query_of_word = first_value_with_word query_word all_queries
 
--- Returns whether a query of this kind exists for runs of this many events; a step has at least
--- one.
+-- Returns whether there is a query of this kind for this number of events; a step query has at
+-- least one.
 abbrev pub query_exists : QueryKind → ℕ → Bool
 query_exists Step number = nat_le 1 number
 query_exists kind number = true

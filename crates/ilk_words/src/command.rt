@@ -2,9 +2,9 @@ ghost use Rattle.std.specs.Prelude.{◌≡◌};
 ghost use Rattle.ilk_words.specs.Columns.{column_rule_mode_of_word};
 ghost use Rattle.ilk_words.specs.Queries.{query_exists, query_of_word};
 
-use ilk_base::{HasWord, Text, value_of_word};
+use ilk_base::{HasWord, Text, first_value_with_word};
 
-/// The strictness of the checks: with or without the column rules.
+/// Whether the column rules (C) of the interlocking table are checked.
 #[derive(Clone, Copy, PartialEq, Eq, Debug)]
 pub enum ColumnRuleMode {
     Strict,
@@ -15,7 +15,6 @@ const STRICT: &str = "strict";
 
 const FREE: &str = "free";
 
-// The words of all values of `ColumnRuleMode`.
 pub(crate) static COLUMNS_WORDS: [&str; 2] = [STRICT, FREE];
 
 impl HasWord for ColumnRuleMode {
@@ -32,20 +31,19 @@ impl HasWord for ColumnRuleMode {
 }
 
 impl ColumnRuleMode {
-    // Returns the value with this word. Returns `None` if there is none.
     pub(crate) fn of_word(word: &[u8]) -> Option<ColumnRuleMode>
         ensures { result ≡ column_rule_mode_of_word word.now }
     {
-        value_of_word(&[ColumnRuleMode::Strict, ColumnRuleMode::Free], word)
+        first_value_with_word(&[ColumnRuleMode::Strict, ColumnRuleMode::Free], word)
     }
 }
 
 /// The kind of run that a query asks for.
 #[derive(Clone, Copy, PartialEq, Eq, Debug)]
 pub enum QueryKind {
-    /// From the start to a hazard.
+    /// From the initial state to a hazard.
     Hazard,
-    /// From the start to a state that violates a family of the invariant.
+    /// From the initial state to a state that violates a family of the invariant.
     Breach,
     /// From any state, through states that satisfy all families, to a hazard or to a state that
     /// violates a family.
@@ -58,7 +56,6 @@ const BREACH: &str = "breach";
 
 const STEP: &str = "step";
 
-// The words of all values of `QueryKind`.
 pub(crate) static QUERY_WORDS: [&str; 3] = [HAZARD, BREACH, STEP];
 
 impl HasWord for QueryKind {
@@ -76,17 +73,15 @@ impl HasWord for QueryKind {
 }
 
 impl QueryKind {
-    // Returns the value with this word. Returns `None` if there is none.
     pub(crate) fn of_word(word: &[u8]) -> Option<QueryKind>
         ensures { result ≡ query_of_word word.now }
     {
-        value_of_word(
+        first_value_with_word(
             &[QueryKind::Hazard, QueryKind::Breach, QueryKind::Step],
             word,
         )
     }
 
-    // Returns whether a query of this kind exists for runs of `number` events.
     pub(crate) fn has_number(self, number: u32) -> bool
         ensures { result ≡ query_exists self number }
     {
@@ -97,15 +92,15 @@ impl QueryKind {
     }
 }
 
-/// The command to run.
+/// A command with its options.
 #[derive(Drop)]
 pub enum Command {
     /// Print every rule that the configuration violates.
     Check {
         columns: ColumnRuleMode,
     },
-    /// Decide whether the plant is safe, by runs of up to `depth` events and searches of at most
-    /// `conflicts` conflicts in total. The certificate is written to the file `cert`.
+    /// Decide whether the plant is safe, by runs of up to `depth` events; its searches learn at
+    /// most `conflicts` clauses in total. The certificate goes to the file `cert`.
     Verify {
         columns: ColumnRuleMode,
         depth: u32,
@@ -133,24 +128,24 @@ pub enum Command {
         conflicts: u64,
         cert: Text,
     },
-    /// Print the configuration's network with the routes that it has.
+    /// Print the configuration's network with a generated table of its routes.
     Table {
         columns: ColumnRuleMode,
     },
-    /// Print the formula of the query of this kind for runs of `number` events.
+    /// Print the formula of the query of kind `query` for runs of `number` events.
     Export {
         columns: ColumnRuleMode,
         query: QueryKind,
         number: u32,
     },
-    /// Check another solver's refutation of that query's formula, in the file `cert`.
+    /// Check another solver's refutation, in the file `cert`, of the formula that `Export` prints.
     Rup {
         columns: ColumnRuleMode,
         query: QueryKind,
         number: u32,
         cert: Text,
     },
-    /// Run the scenario in the file `run` until it terminates.
+    /// Simulate the scenario in the file `run`.
     Drive {
         columns: ColumnRuleMode,
         run: Text,

@@ -8,16 +8,16 @@ use std::alloc::{AllocError, Global};
 /// The files that a command line names besides the configuration.
 #[derive(Drop)]
 pub struct FileNames {
-    /// The file that the command reads.
+    /// The file that is read.
     pub extra: Option<Text>,
-    /// The file to which the command writes its certificate.
+    /// The file to which the certificate is written.
     pub cert: Option<Text>,
 }
 
-/// Returns the names of the files in the arguments; the first argument is the program's name. For
-/// audit and rup, `extra` is the value of `--cert`; for replay and drive, it is that of `--run`.
-/// For verify and demo, `cert` is the value of `--cert`. All other fields are `None`. Returns
-/// `None` if and only if `parse_arguments` does.
+/// Returns the names of the files in the arguments `words`, whose first is the program's name. For
+/// `audit` and `rup`, `extra` is the value of `--cert`; for `replay` and `drive`, that of `--run`.
+/// For `verify` and `demo`, `cert` is the value of `--cert`. Other fields are `None`. Returns
+/// `None` if the arguments give no command.
 pub fn names_of(alloc: Global, words: &Vec<String>) -> Result<Option<FileNames>, AllocError>
     ensures { IfOk result (λ names. names ≡ files_named (map string_bytes words.now.items)) }
 {

@@ -5,8 +5,9 @@
 //! what the command reads, checks and writes.
 //!
 //! Definitions in `specs/`: `Commands` has the table of commands, `Options` that of options, and
-//! `ParsedArgs` the resulting line for `clap`. `CommandPlan` has the table of plans, and `Files`
-//! the named files. `limits` names the limits of numbers, `lengths` those of inputs.
+//! `Line` the command line for `clap`. `Words` says what arguments mean. `Plan` has the table of
+//! plans, and `Files` the named files. `limits` names the limits of numbers, `lengths` those of
+//! inputs.
 #![tactic(auto)]
 
 mod command;
@@ -29,5 +30,5 @@ pub use limits::{
     DEFAULT_DEPTH, DEFAULT_TOTAL_CONFLICTS, MAX_DEPTH, MAX_QUERY_EVENTS, MAX_STATIONS,
     MAX_TOTAL_CONFLICTS,
 };
-pub use plan::{CheckedRuleStages, CommandPlan, files_are_planned};
+pub use plan::{CheckedRuleStages, CommandPlan, files_named_iff_planned};
 pub use read::parse_arguments;

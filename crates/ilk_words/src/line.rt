@@ -1,8 +1,8 @@
-//! The command line for `clap`. Names of commands and options occur only here. A new option needs a
-//! name, an entry in `OPTIONS`, and one `arg` in `line_command`.
+//! The command line for `clap`. A new option needs a name, an entry in `OPTIONS`, and one `arg` in
+//! `line_command`.
 ghost use Rattle.std.specs.Prelude.{◌≡◌, IfOk, false};
 ghost use Rattle.clap.specs.Words.{app_of, rule_of};
-ghost use Rattle.ilk_words.specs.Line.{app, command_arg, named_option_arg};
+ghost use Rattle.ilk_words.specs.Line.{app, command_name_arg, option_arg_with_parser};
 ghost use Rattle.ilk_words.specs.Options.{columns_option, query_option};
 ghost use Rattle.ilk_words.specs.Places.{app_without_addresses, rule_without_addresses, parser_without_addresses};
 
@@ -56,7 +56,6 @@ pub(crate) static OPTIONS: [&str; 8] = [
     COLUMNS, DEPTH, CONFLICTS, CERT, RUN, STATIONS, QUERY, NUMBER,
 ];
 
-// Creates the whole command line; its texts may be anywhere in memory.
 pub(crate) fn line_command<'a>(alloc: Global) -> Result<clap::Command<'a>, AllocError>
     ensures { IfOk result (λ c. app_without_addresses (app_of c) ≡ app) }
 {
@@ -77,7 +76,7 @@ pub(crate) fn line_command<'a>(alloc: Global) -> Result<clap::Command<'a>, Alloc
 }
 
 fn command_argument<'a>(alloc: Global) -> Arg<'a>
-    ensures rule { rule_without_addresses (rule_of result) ≡ command_arg }
+    ensures rule { rule_without_addresses (rule_of result) ≡ command_name_arg }
     ensures local { result.global ≡ false }
 {
     Arg::new(alloc, "command")
@@ -86,10 +85,9 @@ fn command_argument<'a>(alloc: Global) -> Arg<'a>
         .value_parser(COMMANDS.as_slice())
 }
 
-// Creates an option with this name that occurs at most once and takes one of these values.
 fn option_argument<'a>(alloc: Global, name: &'a str, values: ValueParser<'a>) -> Arg<'a>
     ensures rule { rule_without_addresses (rule_of result)
-        ≡ named_option_arg name.entry.now (parser_without_addresses values.entry) }
+        ≡ option_arg_with_parser name.entry.now (parser_without_addresses values.entry) }
     ensures local { result.global ≡ false }
 {
     Arg::new(alloc, name)

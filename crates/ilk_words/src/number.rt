@@ -1,8 +1,8 @@
 ghost use Rattle.std.specs.Prelude.{◌≡◌, ◌≤◌, IfSome};
 ghost use Rattle.ilk_words.specs.Options.{number_between, number_of_value};
 
-/// Returns the whole number in `value` if it is from `least` to `most`. Returns `None` if and only
-/// if `clap` rejects the value for an option with these bounds.
+/// Returns the whole number in `value`, or `None` if it isn't one from `least` to `most`, by the
+/// rules of `clap`.
 pub(crate) fn number_between(value: &str, least: u64, most: u64) -> Option<u64>
     ensures number { result ≡ number_of_value (number_between least most) value.now }
     ensures bounds { IfSome result (λ number. (least ≤ number) × (number ≤ most)) }

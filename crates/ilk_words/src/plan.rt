@@ -1,4 +1,3 @@
-//! The plan of each command: its inputs, checks and outputs. The table is in `specs/Plan.antt`.
 ghost use Rattle.std.specs.Prelude.{◌≡◌, ◌^◌, ◌<◌, IfSome, None, Some, false, is_some};
 ghost use Rattle.ilk_words.specs.Files.{files_of_command};
 ghost use Rattle.ilk_words.specs.Plan.{plan_of};
@@ -8,32 +7,28 @@ use crate::{
     MAX_SCENARIO_BYTES,
 };
 
-/// The stages of rules checked on a configuration.
+/// The stages of rules that a command checks on a configuration.
 #[derive(Clone, Copy, PartialEq, Eq, Debug)]
 pub enum CheckedRuleStages {
-    /// All rules: those of the form, the network, the interlocking table and, if strict, its
-    /// columns.
+    /// All rules: of the form, the network, the interlocking table and, if strict, its columns.
     All(ColumnRuleMode),
-    /// The rules of the form and of the network. If the columns are strict, also the one column
-    /// rule about the network alone: each border has its board. Routes are only checked for their
-    /// form.
+    /// The rules of the form and of the network. If strict, also the one column rule about the
+    /// network alone: each border has its board. Routes are only checked for their form.
     Network(ColumnRuleMode),
 }
 
-/// The inputs, checks and outputs of a command.
+/// What a command reads, checks and writes.
 #[derive(Clone, Copy, PartialEq, Eq, Debug)]
 pub struct CommandPlan {
-    /// The rules checked on the configuration, or `None` if no configuration is read.
+    /// The rules checked on the configuration, or `None` if none is read.
     pub stages: Option<CheckedRuleStages>,
-    /// The maximum number of bytes of the input besides the configuration, or `None` if there is no
-    /// such input.
+    /// The maximum number of bytes of a second input, or `None` if there is none.
     pub extra: Option<u64>,
-    /// Set if a certificate may be written.
+    /// Whether a certificate may be written.
     pub certifies: bool,
 }
 
 impl CommandPlan {
-    // Creates a plan that reads nothing.
     fn alone(certifies: bool) -> CommandPlan
         ensures { result ≡ record { stages = None; extra = None; certifies = certifies } }
     {
@@ -44,7 +39,6 @@ impl CommandPlan {
         }
     }
 
-    // Creates a plan that checks a configuration by `stages`, without other input or certificate.
     fn over(stages: CheckedRuleStages) -> CommandPlan
         ensures { result ≡ record { stages = Some stages; extra = None; certifies = false } }
     {
@@ -55,7 +49,6 @@ impl CommandPlan {
         }
     }
 
-    // Creates a plan with all stages and other input of at most `limit` bytes.
     fn beside(columns: ColumnRuleMode, limit: u64) -> CommandPlan
         ensures { result
             ≡ record {
@@ -73,8 +66,8 @@ impl CommandPlan {
 }
 
 impl Command {
-    /// Returns the plan of the command. Its input besides the configuration is shorter than 2^40
-    /// bytes.
+    /// Returns what the command reads, checks and writes. The limit of its second input is below
+    /// 2^40 bytes.
     pub fn plan(&self) -> CommandPlan
         ensures plan { result ≡ plan_of self.now }
         ensures limit { IfSome result.extra (λ limit. limit < 2 ^ 40) }
@@ -100,7 +93,7 @@ impl Command {
 
 /// A command names a file if and only if its plan reads or writes one. Proof only; no run-time
 /// effect.
-pub fn files_are_planned(command: &Command)
+pub fn files_named_iff_planned(command: &Command)
     ensures read { is_some (files_of_command command.now).extra
         ≡ is_some (plan_of command.now).extra }
     ensures written { is_some (files_of_command command.now).cert

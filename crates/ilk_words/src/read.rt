@@ -1,12 +1,12 @@
-//! The meaning of a line: `chosen` finds the command by its name. One function for each command
-//! reads its options (`options`).
+//! The meaning of a line: `chosen` finds the command, and one function for each command reads its
+//! options.
 ghost use Rattle.std.specs.Prelude.{◌≡◌, IfOk, IfSome, IsTrue, map, string_bytes};
 ghost use Rattle.clap.specs.Words.{first_value, found_of};
 ghost use Rattle.ilk_words.specs.Commands.{audit_command, check_command, demo_command, drive_command};
 ghost use Rattle.ilk_words.specs.Commands.{export_command, make_command, replay_command, rup_command};
 ghost use Rattle.ilk_words.specs.Commands.{table_command, verify_command};
 ghost use Rattle.ilk_words.specs.Limits.{within_option_limits};
-ghost use Rattle.ilk_words.specs.Words.{parsed_command, command_from_args, command_if_allowed};
+ghost use Rattle.ilk_words.specs.Words.{parsed_command, command_from_args, command_if_options_fit};
 
 use crate::Command;
 use crate::line::{
@@ -19,12 +19,12 @@ use clap::error::ErrorKind;
 use ilk_base::Text;
 use std::alloc::{AllocError, Global};
 
-/// Returns the command in the arguments; the first argument is the program's name. Its numbers are
+/// Returns the command in the arguments `words`, whose first is the program's name. Its numbers are
 /// within their limits. Returns `None` if:
 ///
-/// - `clap` rejects the arguments; a request for help counts as one such case.
+/// - `clap` rejects the arguments, as it does for a request for help.
 /// - An option belongs to another command, or a required one is missing.
-/// - No such query exists.
+/// - A step query for 0 events is asked for.
 pub fn parse_arguments(alloc: Global, words: &Vec<String>) -> Result<Option<Command>, AllocError>
     ensures command { IfOk result (λ c. c ≡ parsed_command (map string_bytes words.now.items)) }
     ensures options { IfOk result
@@ -39,7 +39,6 @@ pub fn parse_arguments(alloc: Global, words: &Vec<String>) -> Result<Option<Comm
     }
 }
 
-// Returns the command that the matches name.
 fn chosen(alloc: Global, matches: &ArgMatches<'_>) -> Result<Option<Command>, AllocError>
     ensures { IfOk result (λ c. c ≡ command_from_args (first_value (found_of matches.now))) }
 {
@@ -58,10 +57,10 @@ fn chosen(alloc: Global, matches: &ArgMatches<'_>) -> Result<Option<Command>, Al
     }
 }
 
-// Returns the command if the line has its required options and no others, as do the functions
-// below. For export and rup, the query must exist too.
+// Like the functions below, returns `None` if an option of another command is on the line, or a
+// required one is missing.
 fn check(matches: &ArgMatches<'_>) -> Option<Command>
-    ensures { result ≡ command_if_allowed (first_value (found_of matches.now)) check_command }
+    ensures { result ≡ command_if_options_fit (first_value (found_of matches.now)) check_command }
 {
     if !has_only(matches, &[COLUMNS]) {
         return None;
@@ -71,7 +70,7 @@ fn check(matches: &ArgMatches<'_>) -> Option<Command>
 }
 
 fn verify(alloc: Global, matches: &ArgMatches<'_>) -> Result<Option<Command>, AllocError>
-    ensures { IfOk result (λ c. c ≡ command_if_allowed (first_value (found_of matches.now))
+    ensures { IfOk result (λ c. c ≡ command_if_options_fit (first_value (found_of matches.now))
         verify_command) }
 {
     if !has_only(matches, &[COLUMNS, DEPTH, CONFLICTS, CERT]) {
@@ -95,7 +94,7 @@ fn verify(alloc: Global, matches: &ArgMatches<'_>) -> Result<Option<Command>, Al
 }
 
 fn audit(alloc: Global, matches: &ArgMatches<'_>) -> Result<Option<Command>, AllocError>
-    ensures { IfOk result (λ c. c ≡ command_if_allowed (first_value (found_of matches.now))
+    ensures { IfOk result (λ c. c ≡ command_if_options_fit (first_value (found_of matches.now))
         audit_command) }
 {
     if !has_only(matches, &[COLUMNS, CERT]) {
@@ -109,7 +108,7 @@ fn audit(alloc: Global, matches: &ArgMatches<'_>) -> Result<Option<Command>, All
 }
 
 fn replay(alloc: Global, matches: &ArgMatches<'_>) -> Result<Option<Command>, AllocError>
-    ensures { IfOk result (λ c. c ≡ command_if_allowed (first_value (found_of matches.now))
+    ensures { IfOk result (λ c. c ≡ command_if_options_fit (first_value (found_of matches.now))
         replay_command) }
 {
     if !has_only(matches, &[COLUMNS, RUN]) {
@@ -123,7 +122,7 @@ fn replay(alloc: Global, matches: &ArgMatches<'_>) -> Result<Option<Command>, Al
 }
 
 fn make(matches: &ArgMatches<'_>) -> Option<Command>
-    ensures { result ≡ command_if_allowed (first_value (found_of matches.now)) make_command }
+    ensures { result ≡ command_if_options_fit (first_value (found_of matches.now)) make_command }
 {
     if !has_only(matches, &[STATIONS]) {
         return None;
@@ -133,7 +132,7 @@ fn make(matches: &ArgMatches<'_>) -> Option<Command>
 }
 
 fn demo(alloc: Global, matches: &ArgMatches<'_>) -> Result<Option<Command>, AllocError>
-    ensures { IfOk result (λ c. c ≡ command_if_allowed (first_value (found_of matches.now))
+    ensures { IfOk result (λ c. c ≡ command_if_options_fit (first_value (found_of matches.now))
         demo_command) }
 {
     if !has_only(matches, &[STATIONS, DEPTH, CONFLICTS, CERT]) {
@@ -157,7 +156,7 @@ fn demo(alloc: Global, matches: &ArgMatches<'_>) -> Result<Option<Command>, Allo
 }
 
 fn table(matches: &ArgMatches<'_>) -> Option<Command>
-    ensures { result ≡ command_if_allowed (first_value (found_of matches.now)) table_command }
+    ensures { result ≡ command_if_options_fit (first_value (found_of matches.now)) table_command }
 {
     if !has_only(matches, &[COLUMNS]) {
         return None;
@@ -167,7 +166,7 @@ fn table(matches: &ArgMatches<'_>) -> Option<Command>
 }
 
 fn export(matches: &ArgMatches<'_>) -> Option<Command>
-    ensures { result ≡ command_if_allowed (first_value (found_of matches.now)) export_command }
+    ensures { result ≡ command_if_options_fit (first_value (found_of matches.now)) export_command }
 {
     if !has_only(matches, &[COLUMNS, QUERY, NUMBER]) {
         return None;
@@ -186,7 +185,7 @@ fn export(matches: &ArgMatches<'_>) -> Option<Command>
 }
 
 fn rup(alloc: Global, matches: &ArgMatches<'_>) -> Result<Option<Command>, AllocError>
-    ensures { IfOk result (λ c. c ≡ command_if_allowed (first_value (found_of matches.now))
+    ensures { IfOk result (λ c. c ≡ command_if_options_fit (first_value (found_of matches.now))
         rup_command) }
 {
     if !has_only(matches, &[COLUMNS, QUERY, NUMBER, CERT]) {
@@ -213,7 +212,7 @@ fn rup(alloc: Global, matches: &ArgMatches<'_>) -> Result<Option<Command>, Alloc
 }
 
 fn drive(alloc: Global, matches: &ArgMatches<'_>) -> Result<Option<Command>, AllocError>
-    ensures { IfOk result (λ c. c ≡ command_if_allowed (first_value (found_of matches.now))
+    ensures { IfOk result (λ c. c ≡ command_if_options_fit (first_value (found_of matches.now))
         drive_command) }
 {
     if !has_only(matches, &[COLUMNS, RUN]) {

@@ -5,19 +5,19 @@ use Rattle.ilk_words.specs.Plan.{plan_of}
 use Rattle.ilk_words.specs.Words.{parsed_command}
 use Rattle.ilk_words.specs.declared.command.Command.{Command}
 use Rattle.ilk_words.specs.declared.plan.CheckedRuleStages.{CheckedRuleStages}
-use Rattle.ilk_answers.specs.Answer.{AnswersConfBytes, IsAnswerTo}
+use Rattle.ilk_answers.specs.Answer.{AnswersIfConfExposed, IsAnswerTo}
 use Rattle.ilk_answers.specs.Report.{reply}
 use Rattle.ilk_answers.specs.declared.reply.Reply.{Reply}
 use Rattle.ilk_answers.specs.declared.status.Status.{Status}
 use Rattle.ilk_answers.specs.declared.status.Status.TheVariants.{Usage}
 use Rattle.ilk_top.specs.Outside.{WritesAnswer}
-use Rattle.irv.specs.Edge.{IsAnswered}
+use Rattle.irv.specs.Edge.{IsStatusOfSomeAnswer}
 
 answer-untold : (asked : Option Command) (extra : Option (List ℕ)) (made : Reply) → IsAnswerTo asked None extra made → IsAnswerTo asked None None made
 answer-untold None extra made is = is
 answer-untold (Some command) extra made is = of_stages (plan_of command).stages is
   where
-    of_stages : (stages : Option CheckedRuleStages) → AnswersConfBytes stages command None extra made → AnswersConfBytes stages command None None made
+    of_stages : (stages : Option CheckedRuleStages) → AnswersIfConfExposed stages command None extra made → AnswersIfConfExposed stages command None None made
     of_stages None h = h
     of_stages (Some stages) h = tt
 
@@ -26,15 +26,15 @@ pub answered :
     (out_written : O → Option (List ℕ)) (out_faults : O → ℕ) (asked : Option Command)
     (extra : Option (List ℕ)) (status : Status) (cert_old cert_new : L) (out_old out_new : O) →
     WritesAnswer (IsAnswerTo asked None extra) cert_written cert_faults out_written out_faults status cert_old cert_new out_old out_new →
-    IsAnswered asked (cert_written cert_old) (cert_written cert_new) status
+    IsStatusOfSomeAnswer asked (cert_written cert_old) (cert_written cert_new) status
 answered cert_written cert_faults out_written out_faults asked extra status cert_old cert_new out_old out_new told is =
     let t = told.whole is in (t.0, answer-untold asked extra t.0 t.1, t.2, t.3.certificate)
 
-pub answered-untold : (asked : Option Command) (old new : Option (List ℕ)) (status : Status) → IsAnswered asked old new status → IsAnswered asked None None status
+pub answered-untold : (asked : Option Command) (old new : Option (List ℕ)) (status : Status) → IsStatusOfSomeAnswer asked old new status → IsStatusOfSomeAnswer asked None None status
 answered-untold asked old new status answer is = let t = answer is in (t.0, t.1, t.2, refl)
 
-pub answered-usage : (asked : Option Command) → asked ≡ None → IsAnswered asked None None Usage
-answered-usage asked none = subst (λ a. IsAnswered a None None Usage) (sym none) (λ is. (reply Usage [], refl, refl, refl))
+pub answered-usage : (asked : Option Command) → asked ≡ None → IsStatusOfSomeAnswer asked None None Usage
+answered-usage asked none = subst (λ a. IsStatusOfSomeAnswer a None None Usage) (sym none) (λ is. (reply Usage [], refl, refl, refl))
 
 pub none-named : (words : List (List ℕ)) → None ≡ files_named words → parsed_command words ≡ None
 none-named words e = of_command (parsed_command words) e

@@ -1,16 +1,16 @@
 //! `irv` checks the configuration of an interlocking, decides whether it is safe, and checks
-//! certificates. It replays runs, drives scenarios, makes the table of routes, writes formulas for
-//! other solvers and checks their refutations, and generates configurations for tests.
+//! certificates. It replays runs, simulates scenarios, generates tables of routes and test
+//! configurations, writes formulas for other solvers and checks their refutations.
 #![tactic(auto)]
 
 ghost use Rattle.std.specs.Prelude.{◌≡◌, ◌≢◌, ◌↔◌, IsTrue, None, false, map, string_bytes};
 ghost use Rattle.std.specs.IoError.{error_kind};
 ghost use Rattle.std.specs.Option.{option_copied};
-ghost use Rattle.ilk_answers.specs.Answer.{io_plan_if_command};
-ghost use Rattle.ilk_answers.specs.Status.{reached_writing};
+ghost use Rattle.ilk_answers.specs.Answer.{command_plan_or_empty};
+ghost use Rattle.ilk_answers.specs.Status.{had_reply_to_write};
 ghost use Rattle.ilk_top.specs.Outside.{FaultsRiseOnlyWith};
 ghost use Rattle.ilk_words.specs.Words.{parsed_command};
-ghost use Rattle.irv.specs.Edge.{IsAnswered, complaint, unreadable_args_status};
+ghost use Rattle.irv.specs.Edge.{IsStatusOfSomeAnswer, complaint, unreadable_args_status};
 
 use ilk_io::{FileSink, FileSource, MemSink, Sink, StdSink, StdSource, SteadySink, SteadySource};
 use ilk_plant::Text;
@@ -26,7 +26,6 @@ const OUTPUT: i32 = 1;
 
 const LAST_STREAM: i32 = 2;
 
-// Returns the command-line arguments, the program's name first.
 fn words(rt: &HostRuntime) -> Result<Vec<String>, Status> {
     let words = match env::args(rt) {
         Ok(words) => words,
@@ -47,8 +46,7 @@ fn status_of(error: &io::Error) -> Status
     }
 }
 
-// Runs over standard input and output, `cert`, and the file named `extra`, if any. Ensures for its
-// status and `cert` what `run` does.
+// Runs over standard input and output, `cert`, and the file named `extra`, if any.
 fn run_over<L: Sink>(
     rt: &HostRuntime,
     words: &Vec<String>,
@@ -58,11 +56,11 @@ fn run_over<L: Sink>(
     ensures usage { let asked = parsed_command (map string_bytes words.now.items) in
         result ≢ Status.OutOfMemory → (result ≡ Status.Usage) ↔ (asked ≡ None) }
     ensures answer { let asked = parsed_command (map string_bytes words.now.items) in
-        IsAnswered asked (L.written cert.old) (L.written cert.new) result }
+        IsStatusOfSomeAnswer asked (L.written cert.old) (L.written cert.new) result }
     ensures cert_faults { FaultsRiseOnlyWith (result ≡ Status.WriteFault) (L.faults cert.old)
         (L.faults cert.new) }
-    ensures unwritten { reached_writing result ≡ false → cert.new ≡ cert.old }
-    ensures uncertified { let plan = io_plan_if_command
+    ensures unwritten { had_reply_to_write result ≡ false → cert.new ≡ cert.old }
+    ensures uncertified { let plan = command_plan_or_empty
         (parsed_command (map string_bytes words.now.items)) in
         plan.certifies ≡ false → cert.new ≡ cert.old }
 {
@@ -86,7 +84,7 @@ fn run_without_certificate(rt: &HostRuntime, words: &Vec<String>, extra: Option<
     ensures usage { let asked = parsed_command (map string_bytes words.now.items) in
         result ≢ Status.OutOfMemory → (result ≡ Status.Usage) ↔ (asked ≡ None) }
     ensures answer { let asked = parsed_command (map string_bytes words.now.items) in
-        IsAnswered asked None None result }
+        IsStatusOfSomeAnswer asked None None result }
 {
     let alloc: Global = rt.alloc();
     match MemSink::new(alloc, 0, Vec::new(alloc)) {
@@ -105,7 +103,7 @@ fn run_with(rt: &HostRuntime, words: &Vec<String>, names: FileNames) -> Status
     ensures usage { let asked = parsed_command (map string_bytes words.now.items) in
         result ≢ Status.OutOfMemory → (result ≡ Status.Usage) ↔ (asked ≡ None) }
     ensures answer { let asked = parsed_command (map string_bytes words.now.items) in
-        IsAnswered asked None None result }
+        IsStatusOfSomeAnswer asked None None result }
 {
     let FileNames { extra, cert } = names;
     let _held = [held_stream(rt), held_stream(rt), held_stream(rt)];
@@ -119,12 +117,11 @@ fn run_with(rt: &HostRuntime, words: &Vec<String>, names: FileNames) -> Status
     }
 }
 
-// Returns the status for these arguments.
 fn status_for(rt: &HostRuntime, words: &Vec<String>) -> Status
     ensures usage { let asked = parsed_command (map string_bytes words.now.items) in
         result ≢ Status.OutOfMemory → (result ≡ Status.Usage) ↔ (asked ≡ None) }
     ensures answer { let asked = parsed_command (map string_bytes words.now.items) in
-        IsAnswered asked None None result }
+        IsStatusOfSomeAnswer asked None None result }
 {
     match names_of(rt.alloc(), words) {
         Ok(Some(names)) => run_with(rt, words, names),
@@ -133,7 +130,6 @@ fn status_for(rt: &HostRuntime, words: &Vec<String>) -> Status
     }
 }
 
-// Returns the line on standard error, for a status that has one.
 fn complaint(status: Status) -> Option<&'static str>
     ensures { option_copied result ≡ complaint status }
 {
@@ -165,7 +161,6 @@ fn held_stream(rt: &HostRuntime) -> Option<File> {
     }
 }
 
-// Returns whether `descriptor` is standard output or standard error.
 fn is_output(descriptor: i32) -> bool {
     (OUTPUT..=LAST_STREAM).contains(&descriptor)
 }

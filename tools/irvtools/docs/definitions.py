@@ -47,28 +47,28 @@ STAGES = [
                           ("ilk_words.specs.Limits", "within_option_limits"),
                           ("ilk_words.specs.Plan", "plan_of")], None),
     ("Reading and writing", [TOP_CALL], ["ilk_io"]),
-    ("Scenarios and drives", [("ilk_answers.specs.Drives", "AnswersDrive")], ["ilk_drive"]),
-    ("The routes of a network", [("ilk_answers.specs.Tables", "HasValidTable")], ["ilk_tablegen"]),
+    ("Scenarios and drives", [("ilk_answers.specs.Drives", "AnswersScenarioText")], ["ilk_drive"]),
+    ("The routes of a network", [("ilk_answers.specs.Tables", "ReplyHasValidNetworkTable")], ["ilk_tablegen"]),
     ("Generated stations", [TOP_CALL], ["ilk_gen"]),
     ("Configurations as texts", [TOP_CALL], ["ilk_conf_write", "ilk_tablegen"]),
     ("Formulas", [("ilk_dimacs.specs.DimacsText", "dimacs_text"),
                   ("ilk_unroll.specs.Satisfied", "IsSatisfiable")], None),
-    ("Certificates", [("ilk_certificate.specs.Certificate", "IsCertificate")], None),
+    ("Certificates", [("ilk_certificate.specs.Certificate", "IsCertificateText")], None),
     ("The first bad line of a certificate", [("ilk_answers.specs.Audits", "AnswersAudit")], None),
     ("Refutations", [("ilk_answers.specs.Refutations", "AnswersRefutationText")], None),
     ("Spent texts, and the certificate of a verdict",
-     [("ilk_engine.specs.CertificateOf", "IsCertificateOf")], None),
+     [("ilk_engine.specs.CertificateOf", "IsCertificateTextOfVerdict")], None),
     ("Construction of formulas", [TOP_CALL], None),
 ]
 # First names of a formula's construction: a query's formula, a plant's system and goal. Only the
 # last stage goes on from these.
 FORMULA = frozenset({"query_formula", "system_of_plant", "goal_of_plant"})
 # first definitions of some statements and of a configuration's rules
-FOREVER = [("ilk_forever.specs.Forever", "IsAlwaysSafe")]
+FOREVER = [("ilk_forever.specs.Forever", "AlwaysKeepsInvariant")]
 EVENTS = [("ilk_queries.specs.Asked", "HasQueriedRun")]
 EVIDENCE = [("ilk_unroll.specs.Evidence", name) for name in ("HoldsForNoneUpTo", "ReachesHazard", "ReachesBreach")]
 PLANT = [("ilk_answers.specs.Answer", "plant_of_conf")]
-CLEAN = [("ilk_answers.specs.Strict", "IsCleanAndSafe")]
+CLEAN = [("ilk_answers.specs.Strict", "IsCleanAndKeepsInvariant")]
 RULES = frozenset({"network_rules_broken", "table_rules_broken", "column_rules_broken",
                    "broken_for_column_rule"})
 USE = re.compile(r"use Rattle\.([\w.]+)(?:\.\{(.*)\}| as (\w+));?")

@@ -10,31 +10,31 @@ ABOUT = (
     "Answers to arguments and bytes, with exit statuses, and the effects on sources and sinks.",
     "Right verdicts, and the meaning of `safe` for runs of any length.",
     "Runs, the conditions and effects of each event, hazards, and the nine families.",
-    "Plants and their states: initial state, shape, neighbours.",
+    "Plants and their states: initial state, shape (which states are well-formed), neighbours.",
     "The plant that bytes give, and the rules F, N, R and C that a configuration breaks.",
     "Reading and writing of runs, and the answer of a replay.",
     "The meaning of the arguments; `clap` has its own definition of how it reads them.",
     "Sources and sinks, and how they count faults.",
     "The commands of a scenario, and their effects.",
-    "The paths of a network, the route of each, and the cases without a table.",
+    "The paths of a network, the route of each path, and the networks without a table.",
     "The sections and routes of a line of stations.",
     "The text of a configuration.",
     "The text of a formula, and its satisfying assignments.",
-    "The queries of a certificate, the refutation of each, and the grammar of its lines.",
-    "The lines of a certificate in order, and the first that is wrong.",
-    "The items of another solver's text, and the first that is wrong.",
+    "The queries of a certificate, the refutation of each query, and the grammar of the lines.",
+    "The lines of a certificate in order, and the first wrong line.",
+    "The items of another solver's text, and the first wrong item.",
     "The text written for a verdict, and spent texts.",
-    "The formula of a query, from the plant to its clauses. No answer needs it to be believed.",
+    "The formula of a query, from the plant to the clauses. No answer needs this part.",
 )
 # first definitions of some answers, besides those of the module `definitions`
-TABLE = [("ilk_answers.specs.Tables", "HasValidTable")]
+TABLE = [("ilk_answers.specs.Tables", "ReplyHasValidNetworkTable")]
 FORMULA = [
     ("ilk_dimacs.specs.DimacsText", "dimacs_text"),
     ("ilk_unroll.specs.Satisfied", "IsSatisfiable"),
 ]
-DRIVE = [("ilk_answers.specs.Drives", "AnswersDrive")]
+DRIVE = [("ilk_answers.specs.Drives", "AnswersScenarioText")]
 REPLAY = [
-    ("ilk_answers.specs.Answer", "reply_to_run_text"),
+    ("ilk_answers.specs.Answer", "replay_or_bad_line_reply"),
     ("ilk_replay.specs.Told", "run_from_text"),
     ("ilk_replay.specs.Seen", "replay_result"),
 ]
@@ -45,13 +45,13 @@ ANSWERS = (
     ("`accepted` of `audit`", "2 to 5", definitions.FOREVER + definitions.PLANT, RULES),
     (
         "output of `table` with strict columns",
-        "2 to 5; 10 for completeness",
+        "2 to 5; also 10, to know that no route is missing",
         TABLE + definitions.PLANT,
         RULES,
     ),
     (
         "`safe`, `unsafe`, `breach`, `not inductive` of `verify`",
-        "2 to 5; 6 for the run",
+        "2 to 5; also 6, for the printed run",
         definitions.VERDICT + definitions.PLANT,
         RULES,
     ),
@@ -76,7 +76,7 @@ ANSWERS = (
     ),
     (
         "`driven`, `stuck`, `hazard` of `drive`",
-        "3 to 5, 9; 6 for the run",
+        "3 to 5, 9; also 6, for the printed run",
         DRIVE + definitions.PLANT,
         RULES,
     ),
@@ -95,7 +95,7 @@ STEPS = (
         " ilk_plant/specs/Network ilk_plant/specs/TableRules",
     ),
     (
-        "Its states",
+        "The plant's states",
         "ilk_plant/src/state ilk_plant/specs/Start ilk_plant/specs/State ilk_plant/specs/Shape",
     ),
     ("Hazards", "ilk_model/src/hazards ilk_model/specs/Hazard ilk_motion/specs/Ahead"),

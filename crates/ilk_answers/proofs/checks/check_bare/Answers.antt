@@ -5,14 +5,14 @@ use Rattle.ilk_plant.specs.Sound.{AreSoundDrafts}
 use Rattle.ilk_plant.specs.declared.draft.RouteDraft.{RouteDraft}
 use Rattle.ilk_plant.specs.declared.draft.TableDraft.{TableDraft}
 use Rattle.ilk_tablegen.specs.Rules.{no_routes}
-use Rattle.ilk_answers.specs.Answer.{unless_refused, refusals_from_broken_rules}
-use Rattle.ilk_answers.specs.Stages.{borders_broken}
+use Rattle.ilk_answers.specs.Answer.{refusals_or_value, refusals_if_any_broken_rules}
+use Rattle.ilk_answers.specs.Stages.{borders_without_board_if_strict}
 use Rattle.ilk_answers.proofs.checks.check_bare.Goals as goal
 
 pub from_numbered-requires : goal.from_numbered-requires
 from_numbered-requires c =
     let table : List RouteDraft → TableDraft = λ routes. record { routes = routes } in
-    let bare : AreSoundDrafts c.args.net.now no_routes = c.bare_network_is_sound.ensures c.args.net.now c.requires.limits c.requires.network in
+    let bare : AreSoundDrafts c.args.net.now no_routes = c.network_without_routes_makes_plant.ensures c.args.net.now c.requires.limits c.requires.network in
     record {
       net = c.args.net.now;
       table = table c.new.result;
@@ -24,5 +24,5 @@ pub returns : goal.returns
 returns c =
     let table : List RouteDraft → TableDraft = λ routes. record { routes = routes } in
     let is : c.in_ok-from_numbered.field-0 ≡ plant_from_drafts c.args.net.now no_routes = c.in_ok-from_numbered.ensures ∙ c.in_ok-drafts.ensures ∙ ap (λ routes. plant_from_drafts c.args.net.now (table routes)) c.new.ensures in
-    let Found : PlantLists → Type 0 = λ p. IfOk c.check_plant_borders.result (λ found. found ≡ unless_refused (refusals_from_broken_rules (borders_broken c.args.columns p)) p) in
+    let Found : PlantLists → Type 0 = λ p. IfOk c.check_plant_borders.result (λ found. found ≡ refusals_or_value (refusals_if_any_broken_rules (borders_without_board_if_strict c.args.columns p)) p) in
     subst Found is c.check_plant_borders.ensures

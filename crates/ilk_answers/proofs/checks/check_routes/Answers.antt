@@ -1,12 +1,12 @@
 use Rattle.std.proofs.Common.{◌≡◌, None, Ok, sym, ap, ◌∙◌}
 use Rattle.ilk_plant.specs.TableRules.{plant_table_rules_broken}
 use Rattle.ilk_answers.proofs.Checked.{columns-alone, let-through, none-broken}
-use Rattle.ilk_answers.specs.Answer.{refusals_from_broken_rules}
+use Rattle.ilk_answers.specs.Answer.{refusals_if_any_broken_rules}
 use Rattle.ilk_answers.proofs.checks.check_routes.Goals as goal
 
 pub from_numbered-requires : goal.from_numbered-requires
 from_numbered-requires c =
-    let asked : (refusals_from_broken_rules (plant_table_rules_broken c.in_ok-drafts.drafts) ≡ None) ×
+    let asked : (refusals_if_any_broken_rules (plant_table_rules_broken c.in_ok-drafts.drafts) ≡ None) ×
     (c.in-Ok.drafts ≡ c.in_ok-drafts.drafts) =
     let-through c.check_numbered_table-found.result _ _ _ c.unless_broken.result
     c.check_numbered_table-found.ensures c.unless_broken.ensures.answered
@@ -24,7 +24,7 @@ from_numbered-requires c =
 
 pub returns-in_ok-from_numbered-in-Ok : goal.returns-in_ok-from_numbered-in-Ok
 returns-in_ok-from_numbered-in-Ok c =
-    let asked : (refusals_from_broken_rules (plant_table_rules_broken c.in_ok-drafts.drafts) ≡ None) ×
+    let asked : (refusals_if_any_broken_rules (plant_table_rules_broken c.in_ok-drafts.drafts) ≡ None) ×
     (c.in-Ok.drafts ≡ c.in_ok-drafts.drafts) =
     let-through c.check_numbered_table-found.result _ _ _ c.unless_broken.result
     c.check_numbered_table-found.ensures c.unless_broken.ensures.answered

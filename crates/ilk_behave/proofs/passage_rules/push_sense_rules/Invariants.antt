@@ -1,10 +1,10 @@
 use Rattle.std.proofs.Common.{◌≡◌, ◌++◌, drop, map}
 use Rattle.std.specs.List.{enumerate_from}
 use Rattle.ilk_ir.specs.System.{plain_rule}
-use Rattle.ilk_behave.specs.RouteRules.{sense_rule}
+use Rattle.ilk_behave.specs.RouteRules.{sense_rule_at_index}
 use Rattle.ilk_behave.proofs.passage_rules.push_sense_rules.Given as goal
 
 abbrev pub invariant-loop-k : goal.invariant-loop-k
 invariant-loop-k l =
-    map plain_rule l.rules ++ map (λ place. sense_rule l.plant l.r l.route place.0 place.1) (enumerate_from l.k (drop l.k l.path))
-    ≡ map plain_rule l.initial.rules ++ map (λ place. sense_rule l.plant l.r l.route place.0 place.1) (enumerate_from 0 l.path)
+    map plain_rule l.rules ++ map (λ place. sense_rule_at_index l.plant l.r l.route place.0 place.1) (enumerate_from l.k (drop l.k l.path))
+    ≡ map plain_rule l.initial.rules ++ map (λ place. sense_rule_at_index l.plant l.r l.route place.0 place.1) (enumerate_from 0 l.path)

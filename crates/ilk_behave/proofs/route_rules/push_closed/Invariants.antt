@@ -6,5 +6,5 @@ use Rattle.ilk_behave.proofs.route_rules.push_closed.Given as goal
 
 abbrev pub invariant-loop-m : goal.invariant-loop-m
 invariant-loop-m l =
-    map tree_of l.forms.items ++ map (λ m. conditions.board_is l.plant m Closed) (drop l.m-index l.m-items)
-    ≡ map tree_of l.initial.forms.items ++ map (λ m. conditions.board_is l.plant m Closed) l.m-items
+    map tree_of l.forms.items ++ map (λ m. conditions.is_board_aspect l.plant m Closed) (drop l.m-index l.m-items)
+    ≡ map tree_of l.initial.forms.items ++ map (λ m. conditions.is_board_aspect l.plant m Closed) l.m-items

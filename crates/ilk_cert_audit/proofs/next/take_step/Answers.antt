@@ -31,10 +31,10 @@ returns-in-Good c =
     (λ (hs : List ℕ).
     let x : LogStep = record { clause = c.read_step_into.new.step.clause.items; hints = hs } in x)
     c.as_slice-2.ensures.value in
-    let ok = c.in_ok-audit_step_from_slices.ensures {u = tt} in
+    let ok = c.in_ok-add_step_if_derived.ensures {u = tt} in
     let answer = sym c.in-Good.is ∙ ok.taken ∙ ap (step_answer a) same in
     let after = ok.after ∙ ap (after_step a) same in
-    good_follows a c.audit_step_from_slices.new.self line t few read answer after
+    good_follows a c.add_step_if_derived.new.self line t few read answer after
 
 pub returns-in-Closed : goal.returns-in-Closed
 returns-in-Closed c =
@@ -54,10 +54,10 @@ returns-in-Closed c =
     (λ (hs : List ℕ).
     let x : LogStep = record { clause = c.read_step_into.new.step.clause.items; hints = hs } in x)
     c.as_slice-2.ensures.value in
-    let ok = c.in_ok-audit_step_from_slices.ensures {u = tt} in
+    let ok = c.in_ok-add_step_if_derived.ensures {u = tt} in
     let answer = sym c.in-Closed.is ∙ ok.taken ∙ ap (step_answer a) same in
     let after = ok.after ∙ ap (after_step a) same in
-    closed_closes a c.audit_step_from_slices.new.self line t few read answer after
+    closed_closes a c.add_step_if_derived.new.self line t few read answer after
 
 pub returns-in-Bad : goal.returns-in-Bad
 returns-in-Bad c =
@@ -77,7 +77,7 @@ returns-in-Bad c =
     (λ (hs : List ℕ).
     let x : LogStep = record { clause = c.read_step_into.new.step.clause.items; hints = hs } in x)
     c.as_slice-2.ensures.value in
-    let ok = c.in_ok-audit_step_from_slices.ensures {u = tt} in
+    let ok = c.in_ok-add_step_if_derived.ensures {u = tt} in
     let answer = sym c.in-Bad.is ∙ ok.taken ∙ ap (step_answer a) same in
     let after = ok.after ∙ ap (after_step a) same in
-    bad_is a c.audit_step_from_slices.new.self line t c.in-Bad.field-0 few read answer
+    bad_is a c.add_step_if_derived.new.self line t c.in-Bad.field-0 few read answer

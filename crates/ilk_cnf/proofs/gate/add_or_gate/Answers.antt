@@ -1,6 +1,6 @@
 use Rattle.std.proofs.Common.{◌∷◌, [], ◌+◌, ◌∙◌, map, arith}
 use Rattle.ilk_cnf.specs.Truth.{is_clause_true}
-use Rattle.ilk_cnf.specs.Extends.{AreExactValues}
+use Rattle.ilk_cnf.specs.Extends.{EqualsGivenValues}
 use Rattle.ilk_cnf.specs.Part.{or_gate_part}
 use Rattle.ilk_cnf.proofs.Extending.{extends-clauses_from_lists, any_of-law}
 use Rattle.ilk_cnf.specs.Literal.{negated_lit}
@@ -21,4 +21,4 @@ returns-clause-law c =
     λ a size.
     let n = c.args.cnf.now.vars in
     let ls = c.args.lits.now in
-    extends-clauses_from_lists a (n + 1) (or_gate_part ls n).clauses (AreExactValues (is_clause_true a ls ∷ [])) (any_of-law a n ls size c.requires)
+    extends-clauses_from_lists a (n + 1) (or_gate_part ls n).clauses (EqualsGivenValues (is_clause_true a ls ∷ [])) (any_of-law a n ls size c.requires)

@@ -11,10 +11,10 @@ loop-place-preserved c =
     let here : slice_get c.args.automatic.now c.loop-place.place ≡ Some other = subst
     (λ (xs : List Event). slice_get xs c.loop-place.place ≡ Some other) c.as_slice-other-items.ensures
     (slice_get-get_or c.as_slice-other-items.result.now c.loop-place.place (Mark 0) (omega arith)) in
-    woken-more c.args.plant.now c.args.event other c.args.automatic.now c.loop-place.place c.may_enable.result
-    c.loop-place.places c.push_if.new.self here c.may_enable.ensures c.loop-place.invariant
-    (pushed-kept c.may_enable.result c.loop-place.place c.loop-place.places c.push_if.new.self c.in_ok-push_if.ensures.ok)
-    (pushed-added c.may_enable.result c.loop-place.place c.loop-place.places c.push_if.new.self c.in_ok-push_if.ensures.ok)
+    woken-more c.args.plant.now c.args.event other c.args.automatic.now c.loop-place.place c.may_enable_automatic.result
+    c.loop-place.places c.push_if.new.self here c.may_enable_automatic.ensures c.loop-place.invariant
+    (pushed-kept c.may_enable_automatic.result c.loop-place.place c.loop-place.places c.push_if.new.self c.in_ok-push_if.ensures.ok)
+    (pushed-added c.may_enable_automatic.result c.loop-place.place c.loop-place.places c.push_if.new.self c.in_ok-push_if.ensures.ok)
 
 pub returns : goal.returns
 returns c j other at may =

@@ -17,6 +17,6 @@ returns c = λ k bytes certificate.
     let g = goal_of_plant p in
     let valid = c.system_is_valid.ensures in
     let solves : (q : Wanted) → HasRun s g q → IsSatisfiable (query_formula s g q) = λ q has.
-    (c.satisfiable_iff_run_exists.ensures s g q valid (ranges_are_bytes p c.prove_is_plant.ensures) c.goal_is_correct.ensures.valid).1 has in
-    safe-forever p (rules-step p c.prove_is_plant.ensures c.system_matches_events.ensures) g c.goal_is_correct.ensures.means
+    (c.satisfiable_iff_run_exists.ensures s g q valid (ranges_are_bytes p c.prove_is_plant.ensures) c.goal_forms_valid_and_correct.ensures.valid).1 has in
+    safe-forever p (rules-step p c.prove_is_plant.ensures c.system_matches_events.ensures) g c.goal_forms_valid_and_correct.ensures.means
     (certified-forever s g solves k bytes (c.k_induction_is_sound.ensures s g k valid) certificate)

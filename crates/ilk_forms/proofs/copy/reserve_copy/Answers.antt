@@ -1,6 +1,6 @@
 use Rattle.std.proofs.Common.{ap, arith}
 use Rattle.ilk_cnf.specs.Formula.{Formula}
-use Rattle.ilk_forms.specs.Copy.{copy_bit_count, copy_value_bound_vars}
+use Rattle.ilk_forms.specs.Copy.{copy_bit_count, copy_value_bound_var_count}
 use Rattle.ilk_forms.proofs.CopyWidth.{width-few}
 use Rattle.ilk_forms.proofs.copy.reserve_copy.Goals as goal
 
@@ -9,5 +9,5 @@ returns-clause-vars c =
     let numbers = ap (λ (f : Formula). f.vars) c.in_ok-take_numbers.ensures in
     let columns = ap (λ (f : Formula). f.vars) c.in_ok-take_columns.ensures in
     let one = ap copy_bit_count c.as_slice.ensures in
-    let two = ap copy_value_bound_vars c.as_slice-2.ensures in
+    let two = ap copy_value_bound_var_count c.as_slice-2.ensures in
     omega (arith, numbers, columns, one, two, width-few c.args.ranges.now)

@@ -1,11 +1,11 @@
 use Rattle.std.proofs.Common.{not, ap, arith}
 use Rattle.std.proofs.lemmas.Bool.{and_from}
-use Rattle.ilk_cnf.specs.Extends.{PassesWithExactValues}
+use Rattle.ilk_cnf.specs.Extends.{PassesAndEqualsGivenValues}
 use Rattle.ilk_cnf.specs.Formula.{Formula}
 use Rattle.ilk_cnf.proofs.Extending.{extends-clauses_from_lists}
 use Rattle.ilk_ir.specs.Form.{tree_of, trees_of}
 use Rattle.ilk_ir.specs.Tree.{all_of, negation, more, tree_holds}
-use Rattle.ilk_forms.specs.Violated.{violated_part, violated_bits}
+use Rattle.ilk_forms.specs.Violated.{form_fails_part, form_fails_bits}
 use Rattle.ilk_forms.proofs.Reading.{reads}
 use Rattle.ilk_forms.proofs.FormViolated.{violated-fits, violated-law, violated-few}
 use Rattle.ilk_forms.proofs.violated.demand_form_or_some_fail.Goals as goal
@@ -16,8 +16,8 @@ returns-clause-law c =
     let n = c.args.cnf.now.vars in
     let columns = c.args.table.now in
     let t = all_of (more (negation (tree_of c.args.form.now)) (trees_of c.args.forms.now)) in
-    let part = violated_part columns t n in
-    extends-clauses_from_lists a part.vars part.clauses (PassesWithExactValues (not (tree_holds ws t)) (violated_bits ranges ws t))
+    let part = form_fails_part columns t n in
+    extends-clauses_from_lists a part.vars part.clauses (PassesAndEqualsGivenValues (not (tree_holds ws t)) (form_fails_bits ranges ws t))
     (violated-law t columns ranges ws a n size
     (reads a columns ranges ws n size c.requires.within says fit)
     (and_from _ _ c.requires.form c.requires.valid))

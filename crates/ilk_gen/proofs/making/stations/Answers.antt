@@ -2,7 +2,7 @@ use Rattle.std.proofs.Common.{ap, ap₂, sym, subst₂, ◌∙◌}
 use Rattle.std.proofs.lemmas.Result.{IfOk-weaker}
 use Rattle.ilk_plant.specs.Limits.{WithinLimits}
 use Rattle.ilk_net_read.specs.declared.version.Version.TheVariants.{First}
-use Rattle.ilk_conf_write.specs.ConfigurationText.{configuration_text, fits_version}
+use Rattle.ilk_conf_write.specs.ConfigurationText.{configuration_text, table_fits_version}
 use Rattle.ilk_gen.proofs.ComputedLimits.{unprotected-by}
 use Rattle.ilk_gen.proofs.making.stations.Goals as goal
 
@@ -12,7 +12,7 @@ configuration_json-requires-clause-limits c =
 
 pub configuration_json-requires-clause-version : goal.configuration_json-requires-clause-version
 configuration_json-requires-clause-version c =
-    ap (fits_version First) c.in_ok-table.ensures ∙ unprotected-by c.args.n c.requires.some c.requires.few
+    ap (table_fits_version First) c.in_ok-table.ensures ∙ unprotected-by c.args.n c.requires.some c.requires.few
 
 pub returns : goal.returns
 returns c =

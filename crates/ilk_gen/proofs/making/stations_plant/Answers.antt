@@ -22,10 +22,10 @@ returns-clause-plant c = IfOk-weaker c.make.result _ _ (λ plant e. e ∙ ap₂ 
 
 pub returns-clause-sections : goal.returns-clause-sections
 returns-clause-sections c =
-    let counted = ap (λ (net : NetDraft). length net.sections) c.in_ok-net.ensures ∙ c.stations_are_counted.ensures.sections in
+    let counted = ap (λ (net : NetDraft). length net.sections) c.in_ok-net.ensures ∙ c.stations_section_and_route_counts.ensures.sections in
     IfOk-weaker c.make.result _ _ (λ plant e. sections-of plant c.in_ok-net.net c.in_ok-table.table e ∙ counted) c.make.ensures
 
 pub returns-clause-routes : goal.returns-clause-routes
 returns-clause-routes c =
-    let counted = ap (λ (table : TableDraft). length table.routes) c.in_ok-table.ensures ∙ c.stations_are_counted.ensures.routes in
+    let counted = ap (λ (table : TableDraft). length table.routes) c.in_ok-table.ensures ∙ c.stations_section_and_route_counts.ensures.routes in
     IfOk-weaker c.make.result _ _ (λ plant e. routes-of plant c.in_ok-net.net c.in_ok-table.table e ∙ counted) c.make.ensures

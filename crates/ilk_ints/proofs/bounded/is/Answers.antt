@@ -1,5 +1,5 @@
 use Rattle.std.proofs.Common.{◌+◌, ◌^◌, ◌≤◌, ◌∷◌, [], ℕ, subst}
-use Rattle.ilk_cnf.specs.Extends.{AreExactValues}
+use Rattle.ilk_cnf.specs.Extends.{EqualsGivenValues}
 use Rattle.ilk_cnf.proofs.Extending.{extends-clauses_from_lists}
 use Rattle.ilk_ints.specs.Bits.{bit_count}
 use Rattle.ilk_ints.specs.Number.{value_lit_part, bits_have_value}
@@ -11,7 +11,7 @@ returns-clause-law c =
     λ a size.
     let n = c.args.n in
     let vars = c.args.cnf.now.vars in
-    extends-clauses_from_lists a (vars + 1) (value_lit_part n.first n.range c.args.value vars).clauses (AreExactValues (bits_have_value a n.first n.range c.args.value ∷ []))
+    extends-clauses_from_lists a (vars + 1) (value_lit_part n.first n.range c.args.value vars).clauses (EqualsGivenValues (bits_have_value a n.first n.range c.args.value ∷ []))
     (is-law a n.first n.range c.args.value vars size c.requires.from_1 c.requires.within)
 
 pub returns-clause-exact : goal.returns-clause-exact

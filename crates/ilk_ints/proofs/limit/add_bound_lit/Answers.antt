@@ -1,4 +1,4 @@
-use Rattle.ilk_cnf.specs.Extends.{AreExactValues}
+use Rattle.ilk_cnf.specs.Extends.{EqualsGivenValues}
 use Rattle.ilk_cnf.proofs.Extending.{extends-clauses_from_lists}
 use Rattle.ilk_ints.specs.AtMost.{at_most_part, at_most_bits}
 use Rattle.ilk_ints.proofs.AtMostLaw.{at_most-law, at_most-exact}
@@ -9,7 +9,7 @@ returns-then-highest_bit_decides-clause-law c =
     λ a v size less is low same.
     let n = c.args.used.now in
     let part = at_most_part c.args.n.range c.args.k c.args.below c.args.equal n in
-    extends-clauses_from_lists a part.vars part.clauses (AreExactValues (at_most_bits c.args.n.range c.args.k v)) (at_most-law a c.args.n.range c.args.k v n c.args.below c.args.equal size c.requires.lits low same)
+    extends-clauses_from_lists a part.vars part.clauses (EqualsGivenValues (at_most_bits c.args.n.range c.args.k v)) (at_most-law a c.args.n.range c.args.k v n c.args.below c.args.equal size c.requires.lits low same)
 
 pub returns-then-highest_bit_decides-clause-exact : goal.returns-then-highest_bit_decides-clause-exact
 returns-then-highest_bit_decides-clause-exact c =
@@ -22,7 +22,7 @@ returns-clause-law c =
     λ a v size less is low same.
     let n = c.args.used.now in
     let part = at_most_part c.args.n.range c.args.k c.args.below c.args.equal n in
-    extends-clauses_from_lists a part.vars part.clauses (AreExactValues (at_most_bits c.args.n.range c.args.k v)) (at_most-law a c.args.n.range c.args.k v n c.args.below c.args.equal size c.requires.lits low same)
+    extends-clauses_from_lists a part.vars part.clauses (EqualsGivenValues (at_most_bits c.args.n.range c.args.k v)) (at_most-law a c.args.n.range c.args.k v n c.args.below c.args.equal size c.requires.lits low same)
 
 pub returns-clause-exact : goal.returns-clause-exact
 returns-clause-exact c =

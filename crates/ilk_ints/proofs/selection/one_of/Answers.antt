@@ -3,7 +3,7 @@ use Rattle.ilk_cnf.specs.Truth.{is_true}
 use Rattle.ilk_cnf.specs.Literal.{Literal}
 use Rattle.ilk_cnf.specs.Formula.{Formula}
 use Rattle.ilk_cnf.specs.Part.{with_part}
-use Rattle.ilk_cnf.specs.Extends.{PassesWithExactValues}
+use Rattle.ilk_cnf.specs.Extends.{PassesAndEqualsGivenValues}
 use Rattle.ilk_cnf.proofs.Extending.{extends-clauses_from_lists}
 use Rattle.ilk_ints.specs.OneOf.{exactly_one_part, exactly_one_true, exactly_one_bits}
 use Rattle.ilk_ints.proofs.OneOfLaw.{one_of-law, clauses-few}
@@ -14,7 +14,7 @@ returns-clause-law c =
     λ a size.
     let n = c.args.cnf.now.vars in
     let ls = c.args.lits.now in
-    extends-clauses_from_lists a (exactly_one_part ls n).vars (exactly_one_part ls n).clauses (PassesWithExactValues (exactly_one_true (map (is_true a) ls)) (exactly_one_bits (map (is_true a) ls))) (one_of-law ls a n size c.requires)
+    extends-clauses_from_lists a (exactly_one_part ls n).vars (exactly_one_part ls n).clauses (PassesAndEqualsGivenValues (exactly_one_true (map (is_true a) ls)) (exactly_one_bits (map (is_true a) ls))) (one_of-law ls a n size c.requires)
 
 pub returns-clause-few : goal.returns-clause-few
 returns-clause-few c =

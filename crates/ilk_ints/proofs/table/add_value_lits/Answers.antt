@@ -1,5 +1,5 @@
 use Rattle.std.proofs.Common.{◌^◌, ◌≤◌, ℕ, subst}
-use Rattle.ilk_cnf.specs.Extends.{AreExactValues}
+use Rattle.ilk_cnf.specs.Extends.{EqualsGivenValues}
 use Rattle.ilk_cnf.proofs.Extending.{extends-clauses_from_lists}
 use Rattle.ilk_ints.specs.Bits.{bit_count}
 use Rattle.ilk_ints.specs.Named.{value_lits_part, one_hot_var_bits}
@@ -13,7 +13,7 @@ returns-clause-law c =
     let range = c.args.n.range in
     let n = c.args.used.now in
     let enough : range ≤ 2 ^ bit_count range = subst (λ (b : ℕ). range ≤ 2 ^ b) c.bit_count.ensures.count c.bit_count.ensures.enough in
-    extends-clauses_from_lists a (value_lits_part first range n).part.vars (value_lits_part first range n).part.clauses (AreExactValues (one_hot_var_bits range w))
+    extends-clauses_from_lists a (value_lits_part first range n).part.vars (value_lits_part first range n).part.clauses (EqualsGivenValues (one_hot_var_bits range w))
     (value_lits_part-law a first range w n size c.requires.from_1 c.requires.within enough less is)
 
 pub returns-clause-exact : goal.returns-clause-exact

@@ -10,7 +10,7 @@ returns t c =
     let before = c.args.forms.now.items in
     let start = map tree_of before in
     let less : c.args.n ≡ suc (c.args.n - 1) = omega (arith, c.if-n-eq0.false) in
-    let both = ap (map tree_of) c.in_ok-push.ensures.items ∙ map-append tree_of before (c.in_ok-not_in_both.field-0 ∷ []) ∙ ap (λ tree. start ++ tree ∷ []) c.in_ok-not_in_both.ensures in
+    let both = ap (map tree_of) c.in_ok-push.ensures.items ∙ map-append tree_of before (c.in_ok-not_held_by_both_groups.field-0 ∷ []) ∙ ap (λ tree. start ++ tree ∷ []) c.in_ok-not_held_by_both_groups.ensures in
     halves_pushed c.args.plant.now c.args.x (c.args.n - 1) c.args.routes.now c.split_at.result.0.now
     c.split_at.result.1.now start (map tree_of c.push.new.self.items)
     (map tree_of c.push_held_by_halves.new.forms.items)

@@ -3,7 +3,7 @@ use Rattle.ilk_ir.specs.Form.{tree_of}
 use Rattle.ilk_plant.specs.declared.state.Hold.TheVariants.{Locked as LockedLock}
 use Rattle.ilk_layout.specs.Conditions.{lock_is}
 use Rattle.ilk_invs.specs.HoldFamilies.{path_lock_matches_seen}
-use Rattle.ilk_invs.specs.Parts.{for_each_path_index}
+use Rattle.ilk_invs.specs.Parts.{conditions_of_each_path_index}
 use Rattle.ilk_invs.proofs.Pushed.{three_pushed}
 use Rattle.ilk_invs.proofs.lock_family.locks_for.Goals as goal
 
@@ -12,7 +12,7 @@ returns c =
     three_pushed (λ x. lock_is c.args.plant.now x LockedLock) (map tree_of c.new-forms.result.items)
     (map tree_of c.push_locks_on_path.new.forms.items) (map tree_of c.push_locked.new.forms.items)
     (map tree_of c.push_points_locked.new.forms.items)
-    (for_each_path_index c.args.route.now (path_lock_matches_seen c.args.plant.now c.args.r)) c.args.route.now.overlap
+    (conditions_of_each_path_index c.args.route.now (path_lock_matches_seen c.args.plant.now c.args.r)) c.args.route.now.overlap
     (map (λ listed. listed.point) c.args.route.now.protecting_points)
     (ap (map tree_of) c.new-forms.ensures.items)
     c.in_ok-push_locks_on_path.ensures

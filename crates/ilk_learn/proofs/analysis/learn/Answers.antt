@@ -8,7 +8,7 @@ use Rattle.ilk_log.specs.Derived.{is_derived, hints_end_in_conflict, negated_cla
 use Rattle.ilk_trail.specs.Trail.{entries_up_to}
 use Rattle.ilk_trail.specs.Laws.{lits_of}
 use Rattle.ilk_watches.specs.Chained.{formula_of}
-use Rattle.ilk_learn.specs.Asserting.{is_asserting}
+use Rattle.ilk_learn.specs.Asserting.{is_false_in_asserting_order}
 use Rattle.ilk_learn.proofs.Laws.{learned_step-derived, learned_step-asserting}
 use Rattle.ilk_learn.proofs.Fresh.{fresh}
 use Rattle.ilk_learn.proofs.analysis.learn.Goals as goal
@@ -25,7 +25,7 @@ level_below-level-requires-clause-within c =
 
 pub level_below-level-requires-clause-asserting : goal.level_below-level-requires-clause-asserting
 level_below-level-requires-clause-asserting c =
-    ap (λ (s : Step). is_asserting c.args.trail.now.entries s.clause) c.in_ok-step.ensures
+    ap (λ (s : Step). is_false_in_asserting_order c.args.trail.now.entries s.clause) c.in_ok-step.ensures
     ∙ learned_step-asserting (formula_of c.args.clauses.now) c.args.trail.now c.args.conflict
     c.count-count.ensures.formula c.level-level.ensures.is_trail c.requires.reasons
     c.requires.conflict c.requires.level c.requires.below
@@ -37,7 +37,7 @@ returns-clause-derived c =
 
 pub returns-clause-asserting : goal.returns-clause-asserting
 returns-clause-asserting c =
-    ap (λ (s : Step). is_asserting c.args.trail.now.entries s.clause) c.in_ok-step.ensures
+    ap (λ (s : Step). is_false_in_asserting_order c.args.trail.now.entries s.clause) c.in_ok-step.ensures
     ∙ learned_step-asserting (formula_of c.args.clauses.now) c.args.trail.now c.args.conflict
     c.count-count.ensures.formula c.level-level.ensures.is_trail c.requires.reasons
     c.requires.conflict c.requires.level c.requires.below
@@ -46,8 +46,8 @@ pub returns-clause-fresh : goal.returns-clause-fresh
 returns-clause-fresh c closed =
     let f = (formula_of c.args.clauses.now) in
     let t = c.args.trail.now in
-    let asserting : is_asserting t.entries c.in_ok-step.step.clause ≡ true =
-    ap (λ (s : Step). is_asserting t.entries s.clause) c.in_ok-step.ensures
+    let asserting : is_false_in_asserting_order t.entries c.in_ok-step.step.clause ≡ true =
+    ap (λ (s : Step). is_false_in_asserting_order t.entries s.clause) c.in_ok-step.ensures
     ∙ learned_step-asserting f t c.args.conflict c.count-count.ensures.formula c.level-level.ensures.is_trail
     c.requires.reasons c.requires.conflict c.requires.level c.requires.below in
     fresh f.clauses t.entries c.in_ok-step.step.clause c.level-level.ensures.is_trail.once asserting (ap (λ (k : ℕ). is_saturated f.clauses (lits_of (entries_up_to k t.entries))) (sym c.level_below-level.ensures) ∙ closed)

@@ -1,7 +1,7 @@
 use Rattle.std.proofs.Common.{◌∙◌, sym, ap, length, arith}
 use Rattle.std.proofs.lemmas.List.{length-append}
 use Rattle.serde_json.specs.View.{view}
-use Rattle.ilk_net_read.specs.Network.{read_section}
+use Rattle.ilk_net_read.specs.Network.{section_from_value}
 use Rattle.ilk_plant.specs.Limits.{section_names_valid}
 use Rattle.ilk_base.proofs.Results.{try_map_numbered-more}
 use Rattle.ilk_net_read.proofs.InOrder.{entries-left}
@@ -12,7 +12,7 @@ pub loop-i-preserved : goal.loop-i-preserved
 loop-i-preserved c = record {
   rest = rw c.in_ok-push.ensures.ok
       (sym
-      (try_map_numbered-more read_section c.loop-i.sections _ _ c.loop-i.i (view c.index-values-i.result)
+      (try_map_numbered-more section_from_value c.loop-i.sections _ _ c.loop-i.i (view c.index-values-i.result)
       c.in_ok-section.section
       (entries-left c.args.values.now c.loop-i.i c.index-values-i.result c.loop-i-test.true
       c.index-values-i.is)

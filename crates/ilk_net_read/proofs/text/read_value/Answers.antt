@@ -6,4 +6,4 @@ returns-in-Ok c = value_of-read _ _ c.in-Ok.ensures.ok.0 c.in-Ok.ensures.ok.1
 
 pub returns-in_default : goal.returns-in_default
 returns-in_default c =
-    rw c.error_for_rule.ensures (value_of-refused _ (c.in-Err.ensures.err (λ memory. c.in_default.not-Memory (c.classify.ensures.memory.1 memory))))
+    rw c.rule_error_at_place.ensures (value_of-refused _ (c.in-Err.ensures.err (λ memory. c.in_default.not-Memory (c.classify.ensures.memory.1 memory))))

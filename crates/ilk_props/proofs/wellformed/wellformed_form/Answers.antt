@@ -9,4 +9,4 @@ pub returns-clause-wellformed : goal.returns-clause-wellformed
 returns-clause-wellformed c = wellformed-holds c.args.plant.now c.prove_is_plant.ensures
 
 pub returns-clause-images : goal.returns-clause-images
-returns-clause-images c = holds-at_images c.args.plant.now c.prove_is_plant.ensures c.prove_from_drafts.ensures.walks
+returns-clause-images c = holds-at_images c.args.plant.now c.prove_is_plant.ensures c.prove_sound_acyclic_drafts.ensures.walks

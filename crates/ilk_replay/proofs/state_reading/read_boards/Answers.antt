@@ -7,5 +7,6 @@ use Rattle.ilk_replay.proofs.state_reading.read_boards.Goals as goal
 
 pub returns-clause-told : goal.returns-clause-told
 returns-clause-told c =
-    same_items (board_from_line c.args.plant.now) c.as_slice.result.now (indices_of_items c.args.plant.now.boards) _ _ c.read_lines.new.lines c.read_lines.result (c.as_slice.ensures ∙ c.in_ok-boards.ensures ∙ ap (range_with_len 0) c.boards.ensures)
-    (c.read_lines.ensures.told (board_from_line c.args.plant.now) (λ x line v small e. search rules))
+    same_items (board_from_line c.args.plant.now) c.as_slice.result.now (indices_of_items c.args.plant.now.boards) _ _ c.read_one_line_per_item.new.lines c.read_one_line_per_item.result (c.as_slice.ensures ∙ c.in_ok-boards.ensures ∙
+    ap (range_with_len 0) c.boards.ensures)
+    (c.read_one_line_per_item.ensures.told (board_from_line c.args.plant.now) (λ x line v small e. search rules))

@@ -7,6 +7,6 @@ use Rattle.ilk_replay.proofs.state_reading.read_locks.Goals as goal
 
 pub returns-clause-told : goal.returns-clause-told
 returns-clause-told c =
-    same_items (lock_from_line c.args.plant.now) c.as_slice.result.now (indices_of_items c.args.plant.now.sections) _ _ c.read_lines.new.lines c.read_lines.result
+    same_items (lock_from_line c.args.plant.now) c.as_slice.result.now (indices_of_items c.args.plant.now.sections) _ _ c.read_one_line_per_item.new.lines c.read_one_line_per_item.result
     (c.as_slice.ensures ∙ c.in_ok-sections.ensures ∙ ap (range_with_len 0) c.sections.ensures)
-    (c.read_lines.ensures.told (lock_from_line c.args.plant.now) (λ x line v small e. search rules))
+    (c.read_one_line_per_item.ensures.told (lock_from_line c.args.plant.now) (λ x line v small e. search rules))

@@ -32,11 +32,11 @@ returns-clause-passed c =
     let needed = c.args.needed.now.lits in
     let set = c.args.set.now.lits in
     let next = c.need.new.needed.lits in
-    let r = c.reason_of-reason.result in
+    let r = c.reason_index_of_entry-reason.result in
     let P : List ℕ → Type 0 = λ items. HintsWorkWithoutEntry c.args.clauses.now.clauses t.entries set c.args.i needed (reverse c.args.reasons.now.items) next (reverse items) in
     subst P (sym c.in_ok-push.ensures.items)
     (passed-step (formula_of c.args.clauses.now) t.entries set needed next c.args.i r x.0
     c.args.reasons.now.items c.count-clauses.ensures.formula x.1 c.count-trail.ensures.is_trail.once
     (ap (λ (l : Literal). has_lit l needed) x.2 ∙ sym c.has.ensures ∙ c.if-not-has.false)
-    (c.reason_of-reason.ensures.reason x.0 x.1)
+    (c.reason_index_of_entry-reason.ensures.reason x.0 x.1)
     (c.requires.walk c.args.i x.0 (omega arith) (omega arith) x.1).1 c.need.ensures.needed)

@@ -5,7 +5,7 @@ use Rattle.ilk_base.proofs.Lists.{drop_at, drop_from}
 use Rattle.ilk_cnf.specs.Literal.{Literal}
 use Rattle.ilk_cnf.specs.Formula.{Formula, is_clause_over}
 use Rattle.ilk_ir.specs.System.{plain_rule}
-use Rattle.ilk_forms.specs.declared.copy.VarLits.{VarLits}
+use Rattle.ilk_forms.specs.declared.copy.VarValueAndBoundLits.{VarValueAndBoundLits}
 use Rattle.ilk_forms.specs.Leaf.{has_lits_within_vars}
 use Rattle.ilk_step.proofs.FrameSteps.{setter_lits-in, frames_step}
 use Rattle.ilk_step.proofs.frame.add_frame_axioms.Goals as goal
@@ -22,7 +22,7 @@ add_frame-requires-clause-columns c =
     let v = c.loop-v.v in
     let n = c.loop-v.cnf.vars in
     let here : drop v c.args.now.now ≡ c.column-item.result ∷ drop (v + 1) c.args.now.now = subst
-    (λ (cs : List VarLits). drop v cs ≡ c.column-item.result ∷ drop (v + 1) cs)
+    (λ (cs : List VarValueAndBoundLits). drop v cs ≡ c.column-item.result ∷ drop (v + 1) cs)
     c.as_slice-column-items.ensures
     (drop_at c.as_slice-column-items.result.now v c.column-item.result c.loop-v-test.true
     c.column-item.is) in
@@ -38,7 +38,7 @@ loop-v-preserved c =
     let made = c.in_ok-add_frame.ensures in
     let same : c.add_frame.new.cnf.vars ≡ n = ap (λ (f : Formula). f.vars) made in
     let here : drop v c.args.now.now ≡ c.column-item.result ∷ drop (v + 1) c.args.now.now = subst
-    (λ (cs : List VarLits). drop v cs ≡ c.column-item.result ∷ drop (v + 1) cs)
+    (λ (cs : List VarValueAndBoundLits). drop v cs ≡ c.column-item.result ∷ drop (v + 1) cs)
     c.as_slice-column-items.ensures
     (drop_at c.as_slice-column-items.result.now v c.column-item.result c.loop-v-test.true
     c.column-item.is) in

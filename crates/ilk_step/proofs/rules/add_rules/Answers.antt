@@ -9,7 +9,7 @@ use Rattle.ilk_ir.specs.System.{PlainRule, plain_rule, rule_valid}
 use Rattle.ilk_ir.specs.declared.system.Rule.{Rule}
 use Rattle.ilk_forms.specs.Leaf.{has_lits_within_vars, ranges_of}
 use Rattle.ilk_forms.proofs.Reading.{has_lits_within_vars-more}
-use Rattle.ilk_step.specs.Rules.{rule_part}
+use Rattle.ilk_step.specs.Rules.{rule_unless_skipped_part}
 use Rattle.ilk_step.proofs.RulesLaw.{rule-fits, skip-in}
 use Rattle.ilk_step.proofs.RulesSteps.{rules_step}
 use Rattle.ilk_step.proofs.rules.add_rules.Goals as goal
@@ -30,8 +30,8 @@ loop-rule-preserved c =
     let split : drop i all ≡ c.rule-item.result ∷ drop (i + 1) all = drop_at all i c.rule-item.result c.loop-rule-test.true c.rule-item.is in
     let rest = drop (i + 1) all in
     let valid = and_parts (rule_valid ranges r) (list_all (rule_valid ranges) (map plain_rule rest)) (sym (ap (λ (rs : List Rule). list_all (rule_valid ranges) (map plain_rule rs)) split) ∙ before.valid) in
-    let made : g ≡ with_part f (rule_part now next (positive_lit k) r n) = c.in_ok-add_rule.ensures ∙ ap (λ (l : Literal). with_part f (rule_part now next l r n)) c.new.ensures in
-    let p = rule_part now next (positive_lit k) r n in
+    let made : g ≡ with_part f (rule_unless_skipped_part now next (positive_lit k) r n) = c.in_ok-add_rule.ensures ∙ ap (λ (l : Literal). with_part f (rule_unless_skipped_part now next l r n)) c.new.ensures in
+    let p = rule_unless_skipped_part now next (positive_lit k) r n in
     let long : length (drop i all) ≡ length rest + 1 = ap length split ∙ omega arith in
     let low = before.low in
     let room = before.fits in

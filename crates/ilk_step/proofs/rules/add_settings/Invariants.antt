@@ -3,7 +3,7 @@ use Rattle.std.specs.List.{list_all}
 use Rattle.ilk_cnf.specs.Part.{with_part}
 use Rattle.ilk_ir.specs.Tree.{value_valid}
 use Rattle.ilk_forms.specs.Leaf.{ranges_of}
-use Rattle.ilk_step.specs.Rules.{settings_part}
+use Rattle.ilk_step.specs.Rules.{settings_unless_skipped_part}
 use Rattle.ilk_step.proofs.rules.add_settings.Given as goal
 
 abbrev pub invariant-loop-s : goal.invariant-loop-s
@@ -11,5 +11,5 @@ invariant-loop-s l =
     record {
       vars : l.cnf.vars ≡ l.fn.cnf.vars;
       valid : list_all (λ t. value_valid (ranges_of l.next) t.var t.value) (drop l.s-index l.sets) ≡ true;
-      made : with_part l.cnf (settings_part l.next l.skip (drop l.s-index l.sets) l.cnf.vars) ≡ with_part l.fn.cnf (settings_part l.next l.skip l.sets l.fn.cnf.vars);
+      made : with_part l.cnf (settings_unless_skipped_part l.next l.skip (drop l.s-index l.sets) l.cnf.vars) ≡ with_part l.fn.cnf (settings_unless_skipped_part l.next l.skip l.sets l.fn.cnf.vars);
     }

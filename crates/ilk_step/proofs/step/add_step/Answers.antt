@@ -8,7 +8,7 @@ use Rattle.ilk_forms.proofs.Reading.{has_lits_within_vars-more}
 use Rattle.ilk_forms.specs.Leaf.{ranges_of}
 use Rattle.ilk_step.specs.Choice.{Chooses}
 use Rattle.ilk_forms.proofs.Few.{with_part-few}
-use Rattle.ilk_step.specs.Size.{guards_and_settings_size, settings_count, copy_literals_count}
+use Rattle.ilk_step.specs.Size.{guards_size, settings_count, copy_literals_count}
 use Rattle.ilk_step.proofs.Few.{step-few}
 use Rattle.ilk_step.specs.Step.{step_part, step_bits, AreStepBits}
 use Rattle.ilk_step.proofs.RulesSteps.{step_made, choice_made, rules_made, frames_made, choice_room, rules_room}
@@ -18,22 +18,22 @@ use Rattle.ilk_step.proofs.step.add_step.Goals as goal
 pub add_rules-requires-clause-now : goal.add_rules-requires-clause-now
 add_rules-requires-clause-now c =
     let f = c.args.cnf.now in
-    let g = c.add_choice.new.cnf in
-    let room = choice_room f g (map plain_rule c.args.rules.now) (choice_made f g c.args.rules.now c.len.result c.len.ensures c.in_ok-add_choice.ensures.made) in
+    let g = c.add_rule_choice.new.cnf in
+    let room = choice_room f g (map plain_rule c.args.rules.now) (choice_made f g c.args.rules.now c.len.result c.len.ensures c.in_ok-add_rule_choice.ensures.made) in
     has_lits_within_vars-more f.vars g.vars c.args.now.now (omega (arith, room)) c.requires.now
 
 pub add_rules-requires-clause-next : goal.add_rules-requires-clause-next
 add_rules-requires-clause-next c =
     let f = c.args.cnf.now in
-    let g = c.add_choice.new.cnf in
-    let room = choice_room f g (map plain_rule c.args.rules.now) (choice_made f g c.args.rules.now c.len.result c.len.ensures c.in_ok-add_choice.ensures.made) in
+    let g = c.add_rule_choice.new.cnf in
+    let room = choice_room f g (map plain_rule c.args.rules.now) (choice_made f g c.args.rules.now c.len.result c.len.ensures c.in_ok-add_rule_choice.ensures.made) in
     has_lits_within_vars-more f.vars g.vars c.args.next.now (omega (arith, room)) c.requires.next
 
 pub add_rules-requires-clause-numbered : goal.add_rules-requires-clause-numbered
 add_rules-requires-clause-numbered c =
     let f = c.args.cnf.now in
-    let g = c.add_choice.new.cnf in
-    let room = choice_room f g (map plain_rule c.args.rules.now) (choice_made f g c.args.rules.now c.len.result c.len.ensures c.in_ok-add_choice.ensures.made) in
+    let g = c.add_rule_choice.new.cnf in
+    let room = choice_room f g (map plain_rule c.args.rules.now) (choice_made f g c.args.rules.now c.len.result c.len.ensures c.in_ok-add_rule_choice.ensures.made) in
     let count = c.vars-first.ensures.count in
     let long = ap length c.as_slice.ensures in
     let same = length-map c.args.rules.now plain_rule in
@@ -42,10 +42,10 @@ add_rules-requires-clause-numbered c =
 pub add_frame_axioms-requires-clause-now : goal.add_frame_axioms-requires-clause-now
 add_frame_axioms-requires-clause-now c =
     let f = c.args.cnf.now in
-    let g = c.add_choice.new.cnf in
+    let g = c.add_rule_choice.new.cnf in
     let h = c.add_rules.new.cnf in
     let rs = map plain_rule c.args.rules.now in
-    let choice = choice_made f g c.args.rules.now c.len.result c.len.ensures c.in_ok-add_choice.ensures.made in
+    let choice = choice_made f g c.args.rules.now c.len.result c.len.ensures c.in_ok-add_rule_choice.ensures.made in
     let asked = rules_made f g h c.args.now.now c.args.next.now c.args.rules.now c.as_slice.result.now c.vars-first.result c.vars-first.ensures.count c.as_slice.ensures c.in_ok-add_rules.ensures in
     let room = choice_room f g rs choice in
     let more = rules_room f g h rs c.args.now.now c.args.next.now choice asked c.requires.now c.requires.next c.requires.same c.requires.valid in
@@ -54,10 +54,10 @@ add_frame_axioms-requires-clause-now c =
 pub add_frame_axioms-requires-clause-next : goal.add_frame_axioms-requires-clause-next
 add_frame_axioms-requires-clause-next c =
     let f = c.args.cnf.now in
-    let g = c.add_choice.new.cnf in
+    let g = c.add_rule_choice.new.cnf in
     let h = c.add_rules.new.cnf in
     let rs = map plain_rule c.args.rules.now in
-    let choice = choice_made f g c.args.rules.now c.len.result c.len.ensures c.in_ok-add_choice.ensures.made in
+    let choice = choice_made f g c.args.rules.now c.len.result c.len.ensures c.in_ok-add_rule_choice.ensures.made in
     let asked = rules_made f g h c.args.now.now c.args.next.now c.args.rules.now c.as_slice.result.now c.vars-first.result c.vars-first.ensures.count c.as_slice.ensures c.in_ok-add_rules.ensures in
     let room = choice_room f g rs choice in
     let more = rules_room f g h rs c.args.now.now c.args.next.now choice asked c.requires.now c.requires.next c.requires.same c.requires.valid in
@@ -66,10 +66,10 @@ add_frame_axioms-requires-clause-next c =
 pub add_frame_axioms-requires-clause-numbered : goal.add_frame_axioms-requires-clause-numbered
 add_frame_axioms-requires-clause-numbered c =
     let f = c.args.cnf.now in
-    let g = c.add_choice.new.cnf in
+    let g = c.add_rule_choice.new.cnf in
     let h = c.add_rules.new.cnf in
     let rs = map plain_rule c.args.rules.now in
-    let choice = choice_made f g c.args.rules.now c.len.result c.len.ensures c.in_ok-add_choice.ensures.made in
+    let choice = choice_made f g c.args.rules.now c.len.result c.len.ensures c.in_ok-add_rule_choice.ensures.made in
     let asked = rules_made f g h c.args.now.now c.args.next.now c.args.rules.now c.as_slice.result.now c.vars-first.result c.vars-first.ensures.count c.as_slice.ensures c.in_ok-add_rules.ensures in
     let room = choice_room f g rs choice in
     let more = rules_room f g h rs c.args.now.now c.args.next.now choice asked c.requires.now c.requires.next c.requires.same c.requires.valid in
@@ -81,7 +81,7 @@ add_frame_axioms-requires-clause-numbered c =
 pub returns-clause-made : goal.returns-clause-made
 returns-clause-made c =
     let f = c.args.cnf.now in
-    let g = c.add_choice.new.cnf in
+    let g = c.add_rule_choice.new.cnf in
     let h = c.add_rules.new.cnf in
     let e = c.add_frame_axioms.new.cnf in
     let now = c.args.now.now in
@@ -89,7 +89,7 @@ returns-clause-made c =
     let rules = c.args.rules.now in
     let count = c.vars-first.ensures.count in
     step_made f g h e (map plain_rule rules) now next
-    (choice_made f g rules c.len.result c.len.ensures c.in_ok-add_choice.ensures.made)
+    (choice_made f g rules c.len.result c.len.ensures c.in_ok-add_rule_choice.ensures.made)
     (rules_made f g h now next rules c.as_slice.result.now c.vars-first.result count c.as_slice.ensures
     c.in_ok-add_rules.ensures)
     (frames_made f h e now next rules c.as_slice-2.result.now c.vars-first.result count
@@ -141,7 +141,7 @@ returns-clause-clauses c =
     let p = step_part rs c.args.now.now c.args.next.now f.vars in
     let made : c.add_frame_axioms.new.cnf ≡ with_part f p = returns-clause-made c in
     let few = step-few rs c.args.now.now c.args.next.now f.vars in
-    let k = 4 * length rs + 1 + 2 * guards_and_settings_size rs + settings_count rs + 2 * copy_literals_count c.args.now.now in
+    let k = 4 * length rs + 1 + 2 * guards_size rs + settings_count rs + 2 * copy_literals_count c.args.now.now in
     let bound : length (with_part f p).clauses ≤ length f.clauses + k = with_part-few f p k few.1 in
     let all = ap (λ (u : Formula). length u.clauses) made in
     let long = length-map c.args.rules.now plain_rule in

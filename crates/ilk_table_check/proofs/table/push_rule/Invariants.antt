@@ -1,7 +1,7 @@
 use Rattle.std.proofs.Common.{◌≡◌, ◌++◌}
 use Rattle.ilk_plant.specs.Broken.{broken_below}
-use Rattle.ilk_plant.specs.TableRules.{breaks_table}
+use Rattle.ilk_plant.specs.TableRules.{breaks_table_rule_at}
 use Rattle.ilk_table_check.proofs.table.push_rule.Given as goal
 
 abbrev pub invariant-loop-i : goal.invariant-loop-i
-invariant-loop-i l = l.found ≡ l.fn.found ++ broken_below l.rule l.i (breaks_table l.plant l.rule)
+invariant-loop-i l = l.found ≡ l.fn.found ++ broken_below l.rule l.i (breaks_table_rule_at l.plant l.rule)

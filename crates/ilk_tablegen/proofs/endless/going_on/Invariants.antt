@@ -1,7 +1,7 @@
 use Rattle.std.proofs.Common.{◌≡◌}
-use Rattle.ilk_tablegen.specs.Rounds.{continuing_flags}
+use Rattle.ilk_tablegen.specs.Rounds.{unended_path_flags}
 use Rattle.ilk_tablegen.proofs.endless.going_on.Given as goal
 
 abbrev pub invariant-loop-i : goal.invariant-loop-i
 invariant-loop-i l =
-    l.flags ≡ continuing_flags l.plant l.d l._i
+    l.flags ≡ unended_path_flags l.plant l.d l._i

@@ -24,8 +24,8 @@ returns-in-Ok-clause-strict g c =
     c.requires.options (subst Found c.in-Ok.is c.in_ok-plant.ensures.found) c.in_ok-plant.ensures.plant
     (record {
       plant = c.prove_is_plant.ensures;
-      walks = c.prove_from_drafts.ensures.walks;
-      drafts = c.prove_from_drafts.ensures.drafts;
+      walks = c.prove_sound_acyclic_drafts.ensures.walks;
+      drafts = c.prove_sound_acyclic_drafts.ensures.drafts;
     })
     c.read_extra_and_reply-reply.ensures.reply
 

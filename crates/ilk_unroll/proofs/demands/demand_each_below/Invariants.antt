@@ -4,13 +4,13 @@ use Rattle.ilk_cnf.specs.Part.{with_part}
 use Rattle.ilk_ir.specs.Form.{tree_of}
 use Rattle.ilk_unroll.specs.Goal.{must_hold_below}
 use Rattle.ilk_unroll.specs.Query.{demands_part}
-use Rattle.ilk_unroll.specs.Tables.{are_copies_over, is_valid_in_each}
+use Rattle.ilk_unroll.specs.Tables.{are_copies_within_vars, is_valid_in_each}
 use Rattle.ilk_unroll.proofs.demands.demand_each_below.Given as goal
 
 abbrev pub invariant-loop-form : goal.invariant-loop-form
 invariant-loop-form l =
     record {
-      within : are_copies_over l.cnf.vars l.tables ≡ true;
+      within : are_copies_within_vars l.cnf.vars l.tables ≡ true;
       valid : list_all (is_valid_in_each l.tables) (map tree_of (drop l.form-index l.forms)) ≡ true;
       made :
           with_part l.cnf

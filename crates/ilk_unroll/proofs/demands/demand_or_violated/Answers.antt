@@ -4,9 +4,9 @@ use Rattle.ilk_cnf.specs.Part.{with_part}
 use Rattle.ilk_ir.specs.Form.{tree_of, trees_of}
 use Rattle.ilk_ir.specs.Tree.{all_of, more, negation, tree_valid, each_valid}
 use Rattle.ilk_ir.specs.declared.form.Form.{Form}
-use Rattle.ilk_forms.specs.declared.copy.VarLits.{VarLits}
+use Rattle.ilk_forms.specs.declared.copy.VarValueAndBoundLits.{VarValueAndBoundLits}
 use Rattle.ilk_forms.specs.Leaf.{ranges_of}
-use Rattle.ilk_forms.specs.Violated.{violated_part}
+use Rattle.ilk_forms.specs.Violated.{form_fails_part}
 use Rattle.ilk_unroll.specs.Goal.{must_fail_in}
 use Rattle.ilk_unroll.proofs.CopiesLaw.{within-at, valid-at}
 use Rattle.ilk_unroll.proofs.DemandsLaw.{one-made, table-is}
@@ -43,8 +43,8 @@ returns c =
     (c.in_ok-demand_form_or_some_fail.ensures.made
     ∙ ap
     (λ (fs : List Form). with_part f
-    (violated_part c.at-table.result.now (all_of (more (negation first) (trees_of fs)))
+    (form_fails_part c.at-table.result.now (all_of (more (negation first) (trees_of fs)))
     f.vars))
     c.as_slice.ensures
-    ∙ ap (λ (table : List VarLits). with_part f (violated_part table t f.vars))
+    ∙ ap (λ (table : List VarValueAndBoundLits). with_part f (form_fails_part table t f.vars))
     (sym (table-is tables c.args.copy c.at-table.result.now at)))

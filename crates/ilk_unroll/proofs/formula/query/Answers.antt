@@ -16,47 +16,47 @@ use Rattle.ilk_unroll.proofs.formula.query.Goals as goal
 pub unroll-requires-clause-steps : goal.unroll-requires-clause-steps
 unroll-requires-clause-steps c = let few = few-wanted c.args.q c.requires.wanted in omega (arith, few, c.steps.ensures)
 
-pub add_demands-requires-clause-steps : goal.add_demands-requires-clause-steps
-add_demands-requires-clause-steps c = tables-many (plain_system c.args.system.now) c.steps.result c.args.q c.in_ok-unrolled.unrolled.tables c.steps.ensures c.in_ok-unrolled.ensures.tables
+pub add_query_demands-requires-clause-steps : goal.add_query_demands-requires-clause-steps
+add_query_demands-requires-clause-steps c = tables-many (plain_system c.args.system.now) c.steps.result c.args.q c.in_ok-unrolled.unrolled.tables c.steps.ensures c.in_ok-unrolled.ensures.tables
 
-pub add_demands-requires-clause-few : goal.add_demands-requires-clause-few
-add_demands-requires-clause-few c = few-wanted c.args.q c.requires.wanted
+pub add_query_demands-requires-clause-few : goal.add_query_demands-requires-clause-few
+add_query_demands-requires-clause-few c = few-wanted c.args.q c.requires.wanted
 
-pub add_demands-requires-clause-start : goal.add_demands-requires-clause-start
-add_demands-requires-clause-start c =
+pub add_query_demands-requires-clause-start : goal.add_query_demands-requires-clause-start
+add_query_demands-requires-clause-start c =
     let g = plain_goal c.args.goal.now in
     is_valid_in_each-from c.args.system.now.ranges c.in_ok-unrolled.unrolled.tables g.start c.in_ok-unrolled.ensures.ranges (goal-valid c.args.system.now.ranges g c.requires.goal).start
 
-pub add_demands-requires-clause-hazard : goal.add_demands-requires-clause-hazard
-add_demands-requires-clause-hazard c =
+pub add_query_demands-requires-clause-hazard : goal.add_query_demands-requires-clause-hazard
+add_query_demands-requires-clause-hazard c =
     let g = plain_goal c.args.goal.now in
     is_valid_in_each-from c.args.system.now.ranges c.in_ok-unrolled.unrolled.tables g.hazard c.in_ok-unrolled.ensures.ranges (goal-valid c.args.system.now.ranges g c.requires.goal).hazard
 
-pub add_demands-requires-clause-wellformed : goal.add_demands-requires-clause-wellformed
-add_demands-requires-clause-wellformed c =
+pub add_query_demands-requires-clause-wellformed : goal.add_query_demands-requires-clause-wellformed
+add_query_demands-requires-clause-wellformed c =
     let g = plain_goal c.args.goal.now in
     is_valid_in_each-from c.args.system.now.ranges c.in_ok-unrolled.unrolled.tables g.wellformed c.in_ok-unrolled.ensures.ranges (goal-valid c.args.system.now.ranges g c.requires.goal).wellformed
 
-pub add_demands-requires-clause-each : goal.add_demands-requires-clause-each
-add_demands-requires-clause-each c =
+pub add_query_demands-requires-clause-each : goal.add_query_demands-requires-clause-each
+add_query_demands-requires-clause-each c =
     let g = plain_goal c.args.goal.now in
     forms-valid c.args.system.now.ranges c.in_ok-unrolled.unrolled.tables g.families c.in_ok-unrolled.ensures.ranges (goal-valid c.args.system.now.ranges g c.requires.goal).families
 
-pub add_demands-requires-clause-families : goal.add_demands-requires-clause-families
-add_demands-requires-clause-families c =
+pub add_query_demands-requires-clause-families : goal.add_query_demands-requires-clause-families
+add_query_demands-requires-clause-families c =
     let g = plain_goal c.args.goal.now in
     is_valid_in_each-from c.args.system.now.ranges c.in_ok-unrolled.unrolled.tables (all_of (trees_from_list g.families)) c.in_ok-unrolled.ensures.ranges (goal-valid c.args.system.now.ranges g c.requires.goal).kept
 
-pub add_demands-requires-clause-last : goal.add_demands-requires-clause-last
-add_demands-requires-clause-last c =
+pub add_query_demands-requires-clause-last : goal.add_query_demands-requires-clause-last
+add_query_demands-requires-clause-last c =
     let g = plain_goal c.args.goal.now in
     is_valid_in_each-from c.args.system.now.ranges c.in_ok-unrolled.unrolled.tables (all_of (trees_from_list (negation g.hazard ∷ g.families))) c.in_ok-unrolled.ensures.ranges (goal-valid c.args.system.now.ranges g c.requires.goal).safe
 
 pub returns-clause-formula : goal.returns-clause-formula
 returns-clause-formula c =
     query_made (plain_system c.args.system.now) (plain_goal c.args.goal.now) c.args.q c.steps.result
-    c.unroll.new.cnf c.add_demands.new.cnf c.in_ok-unrolled.unrolled.tables c.steps.ensures
-    c.in_ok-unrolled.ensures.tables c.in_ok-unrolled.ensures.made c.in_ok-add_demands.ensures
+    c.unroll.new.cnf c.add_query_demands.new.cnf c.in_ok-unrolled.unrolled.tables c.steps.ensures
+    c.in_ok-unrolled.ensures.tables c.in_ok-unrolled.ensures.made c.in_ok-add_query_demands.ensures
 
 pub returns-clause-sound : goal.returns-clause-sound
 returns-clause-sound c =

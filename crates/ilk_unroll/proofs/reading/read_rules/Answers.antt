@@ -1,7 +1,7 @@
 use Rattle.std.proofs.Common.{ℕ, ◌+◌, ◌^◌, ◌++◌, List, drop, get_or, sym, ap, ◌∙◌, subst}
 use Rattle.std.proofs.lemmas.List.{drop_all, drop_more}
 use Rattle.ilk_step.specs.declared.choice.Choice.{Choice}
-use Rattle.ilk_unroll.specs.Tables.{ChoosesEach, choices_begin_by}
+use Rattle.ilk_unroll.specs.Tables.{StepsChooseTheseRules, choices_begin_at_or_before}
 use Rattle.ilk_unroll.proofs.ReadBack.{head, rules-next, no_rules-left, numbered-first}
 use Rattle.ilk_unroll.proofs.reading.read_rules.Goals as goal
 
@@ -14,7 +14,7 @@ loop-choice-init c =
     record {
       rest = rules;
       whole = ap (λ (us : List ℕ). us ++ rules) c.new-rules.ensures;
-      chosen = subst (λ (cs : List Choice). ChoosesEach c.args.a.now cs rules) (sym c.as_slice-choice-items.ensures) h;
+      chosen = subst (λ (cs : List Choice). StepsChooseTheseRules c.args.a.now cs rules) (sym c.as_slice-choice-items.ensures) h;
     }
 
 pub chosen_rule-requires-clause-numbered : goal.chosen_rule-requires-clause-numbered
@@ -22,7 +22,7 @@ chosen_rule-requires-clause-numbered c =
     let all = c.as_slice-choice-items.result.now in
     let i = c.loop-choice.choice-index in
     let choice : Choice = get_or all i none in
-    numbered-first (2 ^ 62) all i choice (drop (i + 1) all) (ap (choices_begin_by (2 ^ 62)) c.as_slice-choice-items.ensures ∙ c.requires.numbered) (drop_more all i none c.loop-choice-test.true)
+    numbered-first (2 ^ 62) all i choice (drop (i + 1) all) (ap (choices_begin_at_or_before (2 ^ 62)) c.as_slice-choice-items.ensures ∙ c.requires.numbered) (drop_more all i none c.loop-choice-test.true)
 
 pub chosen_rule-requires-clause-one : goal.chosen_rule-requires-clause-one
 chosen_rule-requires-clause-one c =

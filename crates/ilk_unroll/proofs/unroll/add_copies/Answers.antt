@@ -1,7 +1,7 @@
 use Rattle.std.proofs.Common.{◌≡◌, ℕ, ◌∙◌, ◌+◌, ◌-◌, ◌*◌, ◌++◌, List, suc, ap, arith}
 use Rattle.std.proofs.Math.Nat.{suc-mul}
 use Rattle.ilk_cnf.specs.Formula.{Formula}
-use Rattle.ilk_forms.specs.declared.copy.VarLits.{VarLits}
+use Rattle.ilk_forms.specs.declared.copy.VarValueAndBoundLits.{VarValueAndBoundLits}
 use Rattle.ilk_forms.specs.Copy.{copy_var_count}
 use Rattle.ilk_unroll.specs.Query.{copies_part}
 use Rattle.ilk_unroll.proofs.CopiesLaw.{copies-step}
@@ -16,14 +16,14 @@ loop-preserved c =
     let more : suc i * w ≡ i * w + w = suc-mul i w in
     let was : c.loop.before ≡ suc i * w = c.loop.invariant.before ∙ ap (λ (k : ℕ). k * w) left in
     let now : c.loop.before - c.args.width ≡ i * w = omega (arith, more, was, c.requires.width) in
-    let step = copies-step c.loop.cnf c.add_copy.new.cnf ranges c.loop.tables
-    (copies_part ranges c.args.count 0).tables c.in_ok-add_copy.field-0 i (c.args.count - c.loop.counter)
-    (c.loop.before - c.args.width) left now c.loop.invariant.tables c.in_ok-add_copy.ensures.table
-    c.in_ok-add_copy.ensures.made in
+    let step = copies-step c.loop.cnf c.add_copy_clauses.new.cnf ranges c.loop.tables
+    (copies_part ranges c.args.count 0).tables c.in_ok-add_copy_clauses.field-0 i (c.args.count - c.loop.counter)
+    (c.loop.before - c.args.width) left now c.loop.invariant.tables c.in_ok-add_copy_clauses.ensures.table
+    c.in_ok-add_copy_clauses.ensures.made in
     record {
-      vars = ap (λ (f : Formula). f.vars) c.in_ok-add_copy.ensures.made ∙ c.loop.invariant.vars;
+      vars = ap (λ (f : Formula). f.vars) c.in_ok-add_copy_clauses.ensures.made ∙ c.loop.invariant.vars;
       before = now;
       within = omega (arith, c.loop.invariant.within);
-      tables = ap (λ (ts : List (List VarLits)). ts ++ (copies_part ranges i 0).tables) c.in_ok-push.ensures.ok ∙ step.0;
+      tables = ap (λ (ts : List (List VarValueAndBoundLits)). ts ++ (copies_part ranges i 0).tables) c.in_ok-push.ensures.ok ∙ step.0;
       made = step.1 ∙ c.loop.invariant.made;
     }

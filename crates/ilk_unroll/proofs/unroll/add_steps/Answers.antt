@@ -5,12 +5,12 @@ use Rattle.std.proofs.lemmas.Option.{slice_get_within, get_or_from_slice_get}
 use Rattle.ilk_cnf.specs.Part.{with_part}
 use Rattle.ilk_cnf.specs.Formula.{Formula}
 use Rattle.ilk_ir.specs.System.{plain_rule, rule_valid, plain_system}
-use Rattle.ilk_forms.specs.declared.copy.VarLits.{VarLits}
+use Rattle.ilk_forms.specs.declared.copy.VarValueAndBoundLits.{VarValueAndBoundLits}
 use Rattle.ilk_step.specs.declared.choice.Choice.{Choice}
 use Rattle.ilk_step.specs.Step.{step_part}
 use Rattle.ilk_unroll.specs.Query.{steps_part}
-use Rattle.ilk_unroll.specs.Tables.{are_copies_over, step_choice_variables}
-use Rattle.ilk_unroll.proofs.CopiesLaw.{within-at, ranges-at, are_copies_over-more}
+use Rattle.ilk_unroll.specs.Tables.{are_copies_within_vars, step_choice_variables}
+use Rattle.ilk_unroll.proofs.CopiesLaw.{within-at, ranges-at, are_copies_within_vars-more}
 use Rattle.ilk_unroll.proofs.StepsLaw.{one-fits, steps-next, few-steps, few-left}
 use Rattle.ilk_unroll.proofs.DemandsLaw.{nothing-made}
 use Rattle.ilk_unroll.proofs.QueryLaw.{rules-valid}
@@ -47,12 +47,12 @@ loop-i-preserved c =
     let before : i - 1 + 1 ≡ i = omega arith in
     let after : i + 1 - 1 ≡ i = omega arith in
     let rest = drop (i + 1) all in
-    let there : drop i all ≡ next ∷ rest = drop_more all i next (slice_get_within all i next c.at-in-loop-i.ensures) ∙ ap (λ (y : List VarLits). y ∷ rest) (get_or_from_slice_get all i next next c.at-in-loop-i.ensures) in
+    let there : drop i all ≡ next ∷ rest = drop_more all i next (slice_get_within all i next c.at-in-loop-i.ensures) ∙ ap (λ (y : List VarValueAndBoundLits). y ∷ rest) (get_or_from_slice_get all i next next c.at-in-loop-i.ensures) in
     let split : drop (i - 1) all ≡ now ∷ next ∷ rest =
     drop_more all (i - 1) now (slice_get_within all (i - 1) now c.at.ensures)
-    ∙ ap (λ (y : List VarLits). y ∷ drop (i - 1 + 1) all)
+    ∙ ap (λ (y : List VarValueAndBoundLits). y ∷ drop (i - 1 + 1) all)
     (get_or_from_slice_get all (i - 1) now now c.at.ensures)
-    ∙ ap (λ (k : ℕ). now ∷ drop k all) before ∙ ap (λ (ts : List (List VarLits)). now ∷ ts) there in
+    ∙ ap (λ (k : ℕ). now ∷ drop k all) before ∙ ap (λ (ts : List (List VarValueAndBoundLits)). now ∷ ts) there in
     let seen : next ∷ rest ≡ drop (i + 1 - 1) all = sym there ∙ ap (λ (k : ℕ). drop k all) (sym after) in
     let made = c.in_ok-choice.ensures.made in
     let long : length s.rules ≡ length rules = sym (length-map s.rules plain_rule) in
@@ -67,11 +67,11 @@ loop-i-preserved c =
     (rules-valid (plain_system s) c.requires.valid) in
     let vars : h.vars ≡ (step_part rules now next g.vars).vars = ap (λ (u : Formula). u.vars) made in
     record {
-      within = ap (λ (k : ℕ). are_copies_over k all) vars ∙ are_copies_over-more g.vars (step_part rules now next g.vars).vars all fits.low c.loop-i.invariant.within;
+      within = ap (λ (k : ℕ). are_copies_within_vars k all) vars ∙ are_copies_within_vars-more g.vars (step_part rules now next g.vars).vars all fits.low c.loop-i.invariant.within;
       choices = ap (λ (cs : List Choice). cs ++ step_choice_variables rules (drop (i + 1 - 1) all) h.vars) c.in_ok-push.ensures.ok
-          ∙ ap (λ (ts : List (List VarLits)). (c.loop-i.choices ++ c.in_ok-choice.choice ∷ []) ++ step_choice_variables rules ts h.vars) (sym seen)
+          ∙ ap (λ (ts : List (List VarValueAndBoundLits)). (c.loop-i.choices ++ c.in_ok-choice.choice ∷ []) ++ step_choice_variables rules ts h.vars) (sym seen)
           ∙ step.0;
-      made = ap (λ (ts : List (List VarLits)). with_part h (steps_part rules ts h.vars)) (sym seen) ∙ step.1;
+      made = ap (λ (ts : List (List VarValueAndBoundLits)). with_part h (steps_part rules ts h.vars)) (sym seen) ∙ step.1;
     }
 
 pub returns-clause-choices : goal.returns-clause-choices

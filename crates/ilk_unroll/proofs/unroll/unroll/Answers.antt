@@ -3,12 +3,12 @@ use Rattle.std.specs.List.{list_all}
 use Rattle.ilk_cnf.specs.Formula.{Formula}
 use Rattle.ilk_cnf.specs.Part.{with_part}
 use Rattle.ilk_ir.specs.System.{plain_rule, plain_system}
-use Rattle.ilk_forms.specs.declared.copy.VarLits.{VarLits}
+use Rattle.ilk_forms.specs.declared.copy.VarValueAndBoundLits.{VarValueAndBoundLits}
 use Rattle.ilk_forms.specs.Copy.{copy_var_count}
 use Rattle.ilk_forms.proofs.ColumnLaw.{ranges_fit}
 use Rattle.ilk_unroll.proofs.ReadBack.{ranges_fit-bytes}
 use Rattle.ilk_unroll.specs.Query.{copies_part, steps_part}
-use Rattle.ilk_unroll.specs.Tables.{step_choice_variables, choices_begin_by, are_copies_over, HaveRanges}
+use Rattle.ilk_unroll.specs.Tables.{step_choice_variables, choices_begin_at_or_before, are_copies_within_vars, CopiesHaveRanges}
 use Rattle.ilk_unroll.proofs.StepsLaw.{choices-numbered}
 use Rattle.ilk_unroll.proofs.CopiesLaw.{one-more}
 use Rattle.ilk_unroll.proofs.QueryLaw.{rules-valid}
@@ -45,7 +45,7 @@ fit : (c : In_ok-tables) → ranges_fit c.args.system.now.ranges ≡ true
 fit c = ranges_fit-bytes c.args.system.now.ranges c.as_slice.result.now c.as_slice.ensures c.bytes_of-ranges.ensures.bytes
 
 inside : (c : In_ok-tables) →
-    (are_copies_over c.add_copies.new.cnf.vars c.in_ok-tables.tables ≡ true) × HaveRanges c.args.system.now.ranges c.in_ok-tables.tables
+    (are_copies_within_vars c.add_copies.new.cnf.vars c.in_ok-tables.tables ≡ true) × CopiesHaveRanges c.args.system.now.ranges c.in_ok-tables.tables
 inside c = unrolled-inside c.args.system.now.ranges c.args.steps c.add_copies.new.cnf c.in_ok-tables.tables (fit c) (seen c) (made c)
 
 begins : (c : In_ok-tables) → c.vars-before.result ≡ (copies_part c.args.system.now.ranges c.args.steps 0).part.vars
@@ -69,7 +69,7 @@ returns-clause-choices c =
     let p = copies_part c.args.system.now.ranges (suc c.args.steps) 0 in
     let here = (goal.at.returns-clause-choices c).In_ok-tables in
     c.in_ok-choices.ensures.choices
-    ∙ ap (λ (ts : List (List VarLits)). step_choice_variables rules ts c.add_copies.new.cnf.vars) (seen here)
+    ∙ ap (λ (ts : List (List VarValueAndBoundLits)). step_choice_variables rules ts c.add_copies.new.cnf.vars) (seen here)
     ∙ ap (λ (f : Formula). step_choice_variables rules p.tables f.vars) (made here)
 
 pub returns-clause-made : goal.returns-clause-made
@@ -95,7 +95,7 @@ returns-clause-numbered c =
     let are = inside (goal.at.returns-clause-numbered c).In_ok-tables in
     let vars = ap (λ (f : Formula). f.vars) c.in_ok-choices.ensures.made in
     let high : (steps_part s.rules tables g.vars).vars ≤ 2 ^ 62 = omega (arith, vars, c.vars.ensures.count, c.vars.ensures.numbered) in
-    ap (choices_begin_by (2 ^ 62)) c.in_ok-choices.ensures.choices ∙ choices-numbered tables s.ranges s.rules g.vars (2 ^ 62) are.0 are.1 (rules-valid s c.requires.valid) high
+    ap (choices_begin_at_or_before (2 ^ 62)) c.in_ok-choices.ensures.choices ∙ choices-numbered tables s.ranges s.rules g.vars (2 ^ 62) are.0 are.1 (rules-valid s c.requires.valid) high
 
 pub returns-clause-reach : goal.returns-clause-reach
 returns-clause-reach c =

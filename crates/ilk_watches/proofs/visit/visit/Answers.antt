@@ -6,7 +6,7 @@ use Rattle.ilk_trail.specs.declared.entry.Entry.{Entry}
 use Rattle.ilk_trail.specs.Trail.{TrailList, level_of, value_of_literal}
 use Rattle.ilk_trail.specs.Laws.{lits_of}
 use Rattle.ilk_arena.specs.Arena.{ArenaLists, number_of_clause, other_watch_of}
-use Rattle.ilk_watches.specs.Reasons.{is_reason}
+use Rattle.ilk_watches.specs.Reasons.{clause_forces_lit}
 use Rattle.ilk_watches.proofs.Values.{value-none, value-tells}
 use Rattle.ilk_watches.specs.Propagated.{ExtendsByPropagation}
 use Rattle.ilk_watches.proofs.Others.{conflict-of, number-same, other-facts, other-true, other-within, pushed-true, reason-of}
@@ -90,6 +90,6 @@ returns-else-replace_watch-2-clause-propagated c =
     let n : c.number.result ≡ number_of_clause a c.args.c = c.number.ensures
     ∙ ap (λ (x : ArenaLists). number_of_clause x c.args.c) c.arena-else-replace_watch-2.ensures.arena
     ∙ number-same a b c.args.c c.replace_watch-in-None.ensures.clauses.references in
-    let forced : is_reason a.clauses (lits_of es) m (c.number.result - 1) ≡ true = ap (λ (i : ℕ). is_reason a.clauses (lits_of es) m (i - 1)) n ∙ reason-of a c.args.c (lits_of es) m k o.known o.has r.1 in
+    let forced : clause_forces_lit a.clauses (lits_of es) m (c.number.result - 1) ≡ true = ap (λ (i : ℕ). clause_forces_lit a.clauses (lits_of es) m (i - 1)) n ∙ reason-of a c.args.c (lits_of es) m k o.known o.has r.1 in
     let P : TrailList → Type 0 = λ t. ExtendsByPropagation a.clauses es t.entries in
     subst P (sym c.assign.ensures) (propagated-one a.clauses es m (c.number.result - 1) forced)

@@ -1,16 +1,16 @@
 use Rattle.std.proofs.Common.{ap, ◌∙◌}
-use Rattle.ilk_arena.specs.Arena.{ArenaLists, reference_after, chain_of, is_listed_in}
-use Rattle.ilk_watches.proofs.Walks.{at-hand, hand-directly_follows, hand-stands, step-moves, step-stays}
+use Rattle.ilk_arena.specs.Arena.{ArenaLists, reference_after, chain_of, contains_reference}
+use Rattle.ilk_watches.proofs.Walks.{at-hand, hand-follows_or_is_first, hand-stands, step-moves, step-stays}
 use Rattle.ilk_watches.proofs.walk.step.Goals as goal
 
 pub visit-requires-clause-follows : goal.visit-requires-clause-follows
-visit-requires-clause-follows c = hand-directly_follows _ _ _ _ _ (at-hand _ _ _ _ _ _ c.requires.walking c.in-Some.is)
+visit-requires-clause-follows c = hand-follows_or_is_first _ _ _ _ _ (at-hand _ _ _ _ _ _ c.requires.walking c.in-Some.is)
 
 pub number-requires : goal.number-requires
 number-requires c =
     let k = c.in-Some.c in
     let known = c.arena.ensures.clauses.arena.held c.args.walk.now.f k (hand-stands _ _ _ _ k (at-hand _ _ _ _ _ _ c.requires.walking c.in-Some.is)) in
-    ap (λ (x : ArenaLists). is_listed_in k x.references) c.arena-in-Broken.ensures.arena ∙ ap (is_listed_in k) c.visit.ensures.clauses.references ∙ known
+    ap (λ (x : ArenaLists). contains_reference k x.references) c.arena-in-Broken.ensures.arena ∙ ap (contains_reference k) c.visit.ensures.clauses.references ∙ known
 
 pub returns-in-Stays-clause-walking : goal.returns-in-Stays-clause-walking
 returns-in-Stays-clause-walking c =

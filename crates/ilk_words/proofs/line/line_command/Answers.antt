@@ -1,7 +1,7 @@
 use Rattle.std.proofs.Common.{ap, codes}
 use Rattle.std.proofs.lemmas.Result.{IfOk-weaker}
 use Rattle.clap.specs.Words.{new_app, with_rule}
-use Rattle.ilk_words.specs.Line.{app, command_arg, option_arg}
+use Rattle.ilk_words.specs.Line.{app, command_name_arg, option_arg}
 use Rattle.ilk_words.specs.Options.{cert_option, columns_option, conflicts_option, depth_option, query_number_option, query_option, run_option, stations_option}
 use Rattle.ilk_words.specs.Places.{app_without_addresses, parser_without_addresses}
 use Rattle.ilk_words.proofs.Places.{with_argument, with_option}
@@ -10,9 +10,9 @@ use Rattle.ilk_words.proofs.line.line_command.Goals as goal
 pub returns : goal.returns
 unfolding app
 returns c =
-    let command = with_argument c.new.result c.in_ok-arg.field-0 c.command_argument.result (new_app (codes "irv")) command_arg c.in_ok-arg.ensures c.command_argument.ensures.local c.command_argument.ensures.rule
+    let command = with_argument c.new.result c.in_ok-arg.field-0 c.command_argument.result (new_app (codes "irv")) command_name_arg c.in_ok-arg.ensures c.command_argument.ensures.local c.command_argument.ensures.rule
     (ap app_without_addresses c.new.ensures.app) in
-    let line-1 = with_rule (new_app (codes "irv")) command_arg in
+    let line-1 = with_rule (new_app (codes "irv")) command_name_arg in
     let columns = with_option c.in_ok-arg.field-0 c.in_ok-arg-2.field-0 c.option_argument.result line-1
     columns_option c.columns_values.result c.in_ok-arg-2.ensures c.option_argument.ensures.local
     c.option_argument.ensures.rule c.columns_values.ensures command in

@@ -5,7 +5,7 @@ use Rattle.ilk_base.proofs.Lists.{all-written}
 use Rattle.ilk_cnf.specs.Formula.{is_clause_over}
 use Rattle.ilk_cnf.proofs.Literals.{is_clause_over-more}
 use Rattle.ilk_arena.specs.Arena.{ArenaLists, with_clause_added}
-use Rattle.ilk_arena.specs.declared.place.TheConstants.{WORD_LIMIT}
+use Rattle.ilk_arena.specs.declared.place.TheConstants.{WORD_VALUE_LIMIT}
 use Rattle.ilk_arena.proofs.Law.{arena-law}
 use Rattle.ilk_arena.proofs.Readings.{vars-are, spare-are, count-fits}
 use Rattle.ilk_arena.proofs.AddedClauses.{Grown, new-reference}
@@ -15,7 +15,7 @@ use Rattle.ilk_arena.proofs.arena.Arena.add_long.Goals.{After-self, After-index-
 
 room : (c : After-self) →
     let words = c.self.inside.words in
-    length c.args.clause.now + 8 ≤ min words.cap WORD_LIMIT - words.len
+    length c.args.clause.now + 8 ≤ min words.cap WORD_VALUE_LIMIT - words.len
 room c =
     let s = c.self.inside in
     omega (arith, spare-are s.vars _ s.words.items s.heads.items c.args.self.now c.self.view_is, c.requires.room)
@@ -66,7 +66,7 @@ push_clause_words-requires-clause-within c =
     let ls = c.args.clause.now in
     let vars = vars-are s.vars _ s.words.items s.heads.items c.args.self.now c.self.view_is in
     let within = ap (λ (n : ℕ). is_clause_over n ls) vars ∙ c.requires.within in
-    is_clause_over-more s.vars (WORD_LIMIT / 2 - 1) ls (omega (arith, c.self.invariant.few)) within
+    is_clause_over-more s.vars (WORD_VALUE_LIMIT / 2 - 1) ls (omega (arith, c.self.invariant.few)) within
 
 pub set_both_heads-requires-clause-left_in : goal.set_both_heads-requires-clause-left_in
 set_both_heads-requires-clause-left_in c =
@@ -85,7 +85,7 @@ grown : (c : After-set_both_heads) →
     let s = c.self.inside in
     let words = c.push_clause_words.new.words in
     let heads = with_items s.heads c.set_both_heads.new.heads in
-    let spare = min words.cap WORD_LIMIT - words.len in
+    let spare = min words.cap WORD_VALUE_LIMIT - words.len in
     Grown s.vars spare s.count words.items heads.items c.args.self.now c.args.clause.now c.len-reference.result
 grown c =
     let s = c.self.inside in

@@ -3,7 +3,7 @@ use Rattle.std.proofs.lemmas.List.{length-map}
 use Rattle.ilk_cnf.specs.Formula.{is_clause_over}
 use Rattle.ilk_cnf.proofs.Literals.{is_clause_over-more}
 use Rattle.ilk_arena.specs.Arena.{place, with_clause_added}
-use Rattle.ilk_arena.specs.declared.place.TheConstants.{WORD_LIMIT}
+use Rattle.ilk_arena.specs.declared.place.TheConstants.{WORD_VALUE_LIMIT}
 use Rattle.ilk_arena.specs.Linked.{lists_of, references_in, HoldsArena}
 use Rattle.ilk_arena.proofs.Law.{arena-law}
 use Rattle.ilk_arena.proofs.Appending.{block}
@@ -23,11 +23,11 @@ push_clause_words-requires-clause-within c = let s = c.self.inside in
     ap (λ (n : ℕ). is_clause_over n c.args.clause.now)
     (vars-are s.vars _ s.words.items s.heads.items c.args.self.now c.self.view_is)
     ∙ c.requires.within in
-    is_clause_over-more s.vars (WORD_LIMIT / 2 - 1) c.args.clause.now (omega (arith, c.self.invariant.few)) within
+    is_clause_over-more s.vars (WORD_VALUE_LIMIT / 2 - 1) c.args.clause.now (omega (arith, c.self.invariant.few)) within
 
 pub invariant_of-self : goal.invariant_of-self
 invariant_of-self c = let s = c.self.inside in let within = ap (λ (n : ℕ). is_clause_over n c.args.clause.now) (vars-are s.vars _ s.words.items s.heads.items c.args.self.now c.self.view_is) ∙ c.requires.within in
-    let V = min c.push_clause_words.new.words.cap WORD_LIMIT - c.push_clause_words.new.words.len in
+    let V = min c.push_clause_words.new.words.cap WORD_VALUE_LIMIT - c.push_clause_words.new.words.len in
     let ls = c.args.clause.now in
     let len : length ls ≡ length (map place ls) = sym (length-map ls place) in
     let ew : c.push_clause_words.new.words.items ≡ words_short s.words.items ls (s.count + 1) = c.push_clause_words.ensures.items ∙ ap (λ (n : ℕ). s.words.items ++ (n ∷ (0 ∷ (0 ∷ (1 ∷ (0 ∷ ((s.count + 1) ∷ (0 ∷ map place ls)))))))) len in
@@ -44,7 +44,7 @@ invariant_of-self c = let s = c.self.inside in let within = ap (λ (n : ℕ). is
 
 pub returns-clause-added : goal.returns-clause-added
 returns-clause-added c = let s = c.self.inside in let within = ap (λ (n : ℕ). is_clause_over n c.args.clause.now) (vars-are s.vars _ s.words.items s.heads.items c.args.self.now c.self.view_is) ∙ c.requires.within in
-    let V = min c.push_clause_words.new.words.cap WORD_LIMIT - c.push_clause_words.new.words.len in
+    let V = min c.push_clause_words.new.words.cap WORD_VALUE_LIMIT - c.push_clause_words.new.words.len in
     let ls = c.args.clause.now in
     let len : length ls ≡ length (map place ls) = sym (length-map ls place) in
     let ew : c.push_clause_words.new.words.items ≡ words_short s.words.items ls (s.count + 1) = c.push_clause_words.ensures.items ∙ ap (λ (n : ℕ). s.words.items ++ (n ∷ (0 ∷ (0 ∷ (1 ∷ (0 ∷ ((s.count + 1) ∷ (0 ∷ map place ls)))))))) len in
@@ -68,7 +68,7 @@ returns-clause-fresh c = let s = c.self.inside in
 
 pub returns-clause-room : goal.returns-clause-room
 returns-clause-room c = let s = c.self.inside in let within = ap (λ (n : ℕ). is_clause_over n c.args.clause.now) (vars-are s.vars _ s.words.items s.heads.items c.args.self.now c.self.view_is) ∙ c.requires.within in
-    let V = min c.push_clause_words.new.words.cap WORD_LIMIT - c.push_clause_words.new.words.len in
+    let V = min c.push_clause_words.new.words.cap WORD_VALUE_LIMIT - c.push_clause_words.new.words.len in
     let ls = c.args.clause.now in
     let len : length ls ≡ length (map place ls) = sym (length-map ls place) in
     let ew : c.push_clause_words.new.words.items ≡ words_short s.words.items ls (s.count + 1) = c.push_clause_words.ensures.items ∙ ap (λ (n : ℕ). s.words.items ++ (n ∷ (0 ∷ (0 ∷ (1 ∷ (0 ∷ ((s.count + 1) ∷ (0 ∷ map place ls)))))))) len in
@@ -89,7 +89,7 @@ returns-clause-room c = let s = c.self.inside in let within = ap (λ (n : ℕ). 
 
 pub returns-clause-arena : goal.returns-clause-arena
 returns-clause-arena c = let s = c.self.inside in let within = ap (λ (n : ℕ). is_clause_over n c.args.clause.now) (vars-are s.vars _ s.words.items s.heads.items c.args.self.now c.self.view_is) ∙ c.requires.within in
-    let V = min c.push_clause_words.new.words.cap WORD_LIMIT - c.push_clause_words.new.words.len in
+    let V = min c.push_clause_words.new.words.cap WORD_VALUE_LIMIT - c.push_clause_words.new.words.len in
     let ls = c.args.clause.now in
     let len : length ls ≡ length (map place ls) = sym (length-map ls place) in
     let ew : c.push_clause_words.new.words.items ≡ words_short s.words.items ls (s.count + 1) = c.push_clause_words.ensures.items ∙ ap (λ (n : ℕ). s.words.items ++ (n ∷ (0 ∷ (0 ∷ (1 ∷ (0 ∷ ((s.count + 1) ∷ (0 ∷ map place ls)))))))) len in

@@ -1,6 +1,6 @@
 use Rattle.std.proofs.Common.{◌≡◌, ◌+◌, ◌-◌, ◌*◌, ◌∷◌, [], ℕ, min, List, replicate, arith, ap, sym, subst, ◌∙◌}
 use Rattle.ilk_arena.specs.Arena.{ArenaLists}
-use Rattle.ilk_arena.specs.declared.place.TheConstants.{WORD_LIMIT}
+use Rattle.ilk_arena.specs.declared.place.TheConstants.{WORD_VALUE_LIMIT}
 use Rattle.ilk_arena.specs.Linked.{lists_of, references_in, HoldsArena}
 use Rattle.ilk_arena.proofs.Law.{arena-law}
 use Rattle.ilk_arena.proofs.Readings.{spare-is}
@@ -10,7 +10,7 @@ use Rattle.ilk_arena.proofs.Cursors.{empty-holds, empty-lists}
 pub returns-clause-empty : goal.returns-clause-empty
 returns-clause-empty c =
     let ws = c.in_ok-vec.field-0 in
-    let V = min ws.cap WORD_LIMIT - ws.len in
+    let V = min ws.cap WORD_VALUE_LIMIT - ws.len in
     let hs = c.in_ok-vec-2.field-0.items in
     let w : ws.items ≡ 0 ∷ [] = c.in_ok-vec.ensures.items in
     let h : hs ≡ replicate (2 * c.args.vars + 2) 0 = c.in_ok-vec-2.ensures.items_if_clones_equal (λ y e. e) in
@@ -23,7 +23,7 @@ returns-clause-empty c =
 pub returns-clause-arena : goal.returns-clause-arena
 returns-clause-arena c =
     let ws = c.in_ok-vec.field-0 in
-    let V = min ws.cap WORD_LIMIT - ws.len in
+    let V = min ws.cap WORD_VALUE_LIMIT - ws.len in
     let hs = c.in_ok-vec-2.field-0.items in
     let w : ws.items ≡ 0 ∷ [] = c.in_ok-vec.ensures.items in
     let h : hs ≡ replicate (2 * c.args.vars + 2) 0 = c.in_ok-vec-2.ensures.items_if_clones_equal (λ y e. e) in

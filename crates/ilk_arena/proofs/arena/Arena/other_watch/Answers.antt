@@ -7,8 +7,8 @@ use Rattle.ilk_arena.proofs.arena.Arena.other_watch.Goals as goal
 pub place-requires : goal.place-requires
 place-requires c = let s = c.self.inside in let w = within s.vars _ s.count s.words.items s.heads.items c.args.self.now c.args.l c.self.invariant c.self.view_is c.requires.within in w.few
 
-pub other_of-requires : goal.other_of-requires
-other_of-requires c = let s = c.self.inside in
+pub other_watched_place-requires : goal.other_watched_place-requires
+other_watched_place-requires c = let s = c.self.inside in
     let w = within s.vars _ s.count s.words.items s.heads.items c.args.self.now c.args.l c.self.invariant
     c.self.view_is c.requires.within in
     let i = watching s.vars _ s.words.items s.heads.items c.args.self.now c.args.l c.args.c
@@ -19,12 +19,12 @@ pub lit_from_place-requires : goal.lit_from_place-requires
 lit_from_place-requires c =
     let s = c.self.inside in
     let o = other_watch_place-seen s.vars _ s.count s.words.items s.heads.items c.args.self.now c.args.l c.args.c c.self.invariant c.self.view_is c.requires.stands in
-    let n = rw (c.deref.ensures.value, c.place.ensures) at c.other_of.ensures in
+    let n = rw (c.deref.ensures.value, c.place.ensures) at c.other_watched_place.ensures in
     omega (arith, n, o.low)
 
 pub returns : goal.returns
 returns c =
     let s = c.self.inside in
     let o = other_watch_place-seen s.vars _ s.count s.words.items s.heads.items c.args.self.now c.args.l c.args.c c.self.invariant c.self.view_is c.requires.stands in
-    let n = rw (c.deref.ensures.value, c.place.ensures) at c.other_of.ensures in
+    let n = rw (c.deref.ensures.value, c.place.ensures) at c.other_watched_place.ensures in
     o.is ∙ sym (ap (λ (m : Literal). Some m) c.lit_from_place.ensures ∙ ap (λ (p : ℕ). Some (lit_from_place p)) n)

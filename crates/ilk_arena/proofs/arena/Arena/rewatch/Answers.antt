@@ -2,7 +2,7 @@ use Rattle.std.proofs.Common.{◌≡◌, ◌+◌, ◌++◌, ℕ, false, Some, le
 use Rattle.std.specs.List.{slice_get}
 use Rattle.std.proofs.lemmas.List.{get_or_read}
 use Rattle.ilk_base.proofs.Lists.{all-written}
-use Rattle.ilk_arena.specs.Arena.{place, chain_of, literals_of, is_listed_in}
+use Rattle.ilk_arena.specs.Arena.{place, chain_of, literals_of, contains_reference}
 use Rattle.ilk_arena.specs.Linked.{lit_from_place}
 use Rattle.ilk_arena.proofs.Law.{arena-law}
 use Rattle.ilk_arena.proofs.Readings.{within}
@@ -79,7 +79,7 @@ invariant_of-self c = let s = c.self.inside in
     c.index-watch.ensures 0 in
     let t = c.index-watch.result.now in
     let is : slice_get (literals_of c.args.self.now c.args.c) c.args.to ≡ Some (lit_from_place t) = r.is ∙ ap (λ (p : ℕ). Some (lit_from_place p)) (sym pe) in
-    let un : is_listed_in c.args.c (chain_of c.args.self.now (lit_from_place t)) ≡ false = rw is at c.requires.unwatched in
+    let un : contains_reference c.args.c (chain_of c.args.self.now (lit_from_place t)) ≡ false = rw is at c.requires.unwatched in
     let m = rewatch-law s.vars _ s.count s.words.items s.heads.items c.args.self.now c.args.before c.args.c c.args.to t c.args.from c.self.invariant c.self.view_is r c.requires.within pe un in
     let v = rw (c.deref_mut.ensures.value, c.deref_mut-2.ensures.value, c.place.ensures) at c.move_watch.ensures.words in
     let h = rw (c.deref_mut.ensures.value, c.deref_mut-2.ensures.value, c.place.ensures) at c.move_watch.ensures.heads in
@@ -102,7 +102,7 @@ returns-clause-moved c = let s = c.self.inside in
     c.index-watch.ensures 0 in
     let t = c.index-watch.result.now in
     let is : slice_get (literals_of c.args.self.now c.args.c) c.args.to ≡ Some (lit_from_place t) = r.is ∙ ap (λ (p : ℕ). Some (lit_from_place p)) (sym pe) in
-    let un : is_listed_in c.args.c (chain_of c.args.self.now (lit_from_place t)) ≡ false = rw is at c.requires.unwatched in
+    let un : contains_reference c.args.c (chain_of c.args.self.now (lit_from_place t)) ≡ false = rw is at c.requires.unwatched in
     let m = rewatch-law s.vars _ s.count s.words.items s.heads.items c.args.self.now c.args.before c.args.c c.args.to t c.args.from c.self.invariant c.self.view_is r c.requires.within pe un in
     let v = rw (c.deref_mut.ensures.value, c.deref_mut-2.ensures.value, c.place.ensures) at c.move_watch.ensures.words in
     let h = rw (c.deref_mut.ensures.value, c.deref_mut-2.ensures.value, c.place.ensures) at c.move_watch.ensures.heads in
@@ -125,7 +125,7 @@ returns-clause-arena c = let s = c.self.inside in
     c.index-watch.ensures 0 in
     let t = c.index-watch.result.now in
     let is : slice_get (literals_of c.args.self.now c.args.c) c.args.to ≡ Some (lit_from_place t) = r.is ∙ ap (λ (p : ℕ). Some (lit_from_place p)) (sym pe) in
-    let un : is_listed_in c.args.c (chain_of c.args.self.now (lit_from_place t)) ≡ false = rw is at c.requires.unwatched in
+    let un : contains_reference c.args.c (chain_of c.args.self.now (lit_from_place t)) ≡ false = rw is at c.requires.unwatched in
     let m = rewatch-law s.vars _ s.count s.words.items s.heads.items c.args.self.now c.args.before c.args.c c.args.to t c.args.from c.self.invariant c.self.view_is r c.requires.within pe un in
     let v = rw (c.deref_mut.ensures.value, c.deref_mut-2.ensures.value, c.place.ensures) at c.move_watch.ensures.words in
     let h = rw (c.deref_mut.ensures.value, c.deref_mut-2.ensures.value, c.place.ensures) at c.move_watch.ensures.heads in

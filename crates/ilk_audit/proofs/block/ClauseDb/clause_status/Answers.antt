@@ -3,7 +3,7 @@ use Rattle.std.specs.Prelude.{◌⊎◌, slice_get}
 use Rattle.std.specs.Option.{option_map_or}
 use Rattle.ilk_cnf.specs.Formula.{is_clause_over, Formula}
 use Rattle.ilk_audit.specs.Codes.{codes_in}
-use Rattle.ilk_audit.specs.Hinted.{clause_status_at, clause_status, IsUnitLitSettable}
+use Rattle.ilk_audit.specs.Hinted.{status_of_hinted_clause, clause_status, IsUnitLitSettable}
 use Rattle.ilk_audit.specs.Stored.{split_into_clauses, literals_of}
 use Rattle.ilk_audit.specs.declared.hinted.ClauseStatus.{ClauseStatus}
 use Rattle.ilk_audit.specs.declared.hinted.ClauseStatus.TheVariants.{Missing}
@@ -47,7 +47,7 @@ returns-in-Some-clause-found c =
     let is = numbered b.bounds.items (codes_in b.codes) c.args.number c.in-Some.from c.in-Some.to part.0 before here in
     c.found_between.ensures
     ∙ sym (ap (λ o. option_map_or (clause_status c.args.partial.now.set) o Missing) is)
-    ∙ ap (λ (f : Formula). clause_status_at f.clauses c.args.partial.now.set c.args.number) c.self.view_is
+    ∙ ap (λ (f : Formula). status_of_hinted_clause f.clauses c.args.partial.now.set c.args.number) c.self.view_is
 
 pub returns-in-Some-clause-unit : goal.returns-in-Some-clause-unit
 returns-in-Some-clause-unit c =
@@ -56,11 +56,11 @@ returns-in-Some-clause-unit c =
     let before = ap (λ (xs : List ℕ). slice_get xs (c.args.number - 1)) (sym c.as_slice.ensures.value) ∙ part.1 in
     let here = ap (λ (xs : List ℕ). slice_get xs c.args.number) (sym c.as_slice.ensures.value) ∙ part.2 in
     let is = numbered b.bounds.items (codes_in b.codes) c.args.number c.in-Some.from c.in-Some.to part.0 before here in
-    let found : c.found_between.result ≡ clause_status_at (split_into_clauses b.bounds.items (codes_in b.codes)) c.args.partial.now.set c.args.number =
+    let found : c.found_between.result ≡ status_of_hinted_clause (split_into_clauses b.bounds.items (codes_in b.codes)) c.args.partial.now.set c.args.number =
     c.found_between.ensures ∙ sym (ap (λ o. option_map_or (clause_status c.args.partial.now.set) o Missing) is) in
     let vars = c.requires ∙ ap (λ (f : Formula). f.vars) (sym c.self.view_is) in
     let P : ClauseStatus → Type 0 = λ h. IsUnitLitSettable c.args.partial.now.vars c.args.partial.now.set h in
-    let Q : ℕ → Type 0 = λ n. IsUnitLitSettable n c.args.partial.now.set (clause_status_at (split_into_clauses b.bounds.items (codes_in b.codes)) c.args.partial.now.set c.args.number) in
+    let Q : ℕ → Type 0 = λ n. IsUnitLitSettable n c.args.partial.now.set (status_of_hinted_clause (split_into_clauses b.bounds.items (codes_in b.codes)) c.args.partial.now.set c.args.number) in
     subst P (sym found) (subst Q (sym vars) (settable-at b.vars (split_into_clauses b.bounds.items (codes_in b.codes)) c.args.partial.now.set c.args.number c.self.invariant.formula.within))
 
 pub returns-in-None-clause-found : goal.returns-in-None-clause-found
@@ -70,4 +70,4 @@ returns-in-None-clause-found c =
     let past = subst N c.as_slice.ensures.value (c.in-None.ensures {u = tt}).none in
     let is = numbered-none b.bounds.items (codes_in b.codes) c.args.number past in
     sym (ap (λ o. option_map_or (clause_status c.args.partial.now.set) o Missing) is)
-    ∙ ap (λ (f : Formula). clause_status_at f.clauses c.args.partial.now.set c.args.number) c.self.view_is
+    ∙ ap (λ (f : Formula). status_of_hinted_clause f.clauses c.args.partial.now.set c.args.number) c.self.view_is

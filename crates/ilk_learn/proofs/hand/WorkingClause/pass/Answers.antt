@@ -1,7 +1,7 @@
 use Rattle.std.proofs.Common.{◌≡◌, get_or, ◌∙◌, arith, true, false}
 use Rattle.ilk_watches.specs.Chained.{formula_of}
 use Rattle.ilk_learn.proofs.Holding.{mark-read, within-marks, reason-known}
-use Rattle.ilk_learn.proofs.Resolving.{both-ok, keeps-same, keeps-resolved_with_reason}
+use Rattle.ilk_learn.proofs.Resolving.{both-ok, keeps-same, keeps-resolved_with_reason_if_needed}
 use Rattle.ilk_learn.proofs.hand.WorkingClause.pass.Goals as goal
 
 pub resolve-requires-clause-known : goal.resolve-requires-clause-known
@@ -28,7 +28,7 @@ returns-in-Some c =
     (within-marks t s.marks.items s.current s.lower.items h.0.clause l h.1.holds c.requires.within)
     c.index.ensures
     ∙ c.if-index.true in
-    both-ok c.resolve.result c.resolve.ensures.holds c.resolve.ensures.hints (λ f g e x at k. keeps-resolved_with_reason t c.args.clauses.now.clauses s c.resolve.new.self e x l.var c.in-Some.reason at c.in-Some.ensures marked k f g)
+    both-ok c.resolve.result c.resolve.ensures.holds c.resolve.ensures.hints (λ f g e x at k. keeps-resolved_with_reason_if_needed t c.args.clauses.now.clauses s c.resolve.new.self e x l.var c.in-Some.reason at c.in-Some.ensures marked k f g)
 
 pub returns-else-index : goal.returns-else-index
 returns-else-index c e x at k =

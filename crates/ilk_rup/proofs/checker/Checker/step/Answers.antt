@@ -5,7 +5,7 @@ use Rattle.ilk_lines.specs.Lines.{Bytes}
 use Rattle.ilk_rup.specs.Checker.{CheckerLists, checker_lists_of_base}
 use Rattle.ilk_rup.specs.Accepted.{IsFirstBadAmong}
 use Rattle.ilk_rup.specs.LitSet.{LitSetList}
-use Rattle.ilk_rup.specs.Needs.{IsClauseOfLiterals}
+use Rattle.ilk_rup.specs.Needs.{IsValidClauseOfLiterals}
 use Rattle.ilk_rup.specs.RefutationText.{clauses_added_by, items_of}
 use Rattle.ilk_rup.specs.Standing.{IsTryAddResult}
 use Rattle.ilk_rup.specs.Stepped.{HasCheckedItem, IsItemCheckResult}
@@ -34,7 +34,7 @@ returns-in-End c =
     let none : List Literal = [] in
     let V : CheckerLists → Type 0 = λ x. IsFirstBadAmong x.formula.vars x.clauses (items_of c.args.words.now) 1 in
     let W : List Bytes → Type 0 = λ ws. IsFirstBadAmong k.formula.now.vars k.clauses.clauses (items_of ws) 1 in
-    let of : IsClauseOfLiterals k.formula.now.vars none none = record { within = refl; differ = refl; fewer = λ m h. h; more = λ m h. h } in
+    let of : IsValidClauseOfLiterals k.formula.now.vars none none = record { within = refl; differ = refl; fewer = λ m h. h; more = λ m h. h } in
     subst V c.self.view_is (subst W (sym c.in-End.ensures.read) (none-follows k.formula.now.vars k.clauses.clauses k.trail.entries none s.closed (λ m h. absurd (true≢false (sym h))) none of))
 
 pub returns-in-Malformed : goal.returns-in-Malformed
@@ -65,7 +65,7 @@ returns-then-branch c =
     let count = sym c.vars-vars.ensures.count in
     let V : CheckerLists → Type 0 = λ x. HasCheckedItem x c.args.words.now c.read_item.new.words (checker_lists_of_base c.try_add_clause.new.self) in
     let T : Bool → Type 0 = λ b. IsTryAddResult (record k { set = c.read_item.new.set }) b c.try_add_clause.new.self in
-    let C : ℕ → Type 0 = λ n. IsClauseOfLiterals n c.read_item.new.set.lits r.1 in
+    let C : ℕ → Type 0 = λ n. IsValidClauseOfLiterals n c.read_item.new.set.lits r.1 in
     let t = subst T c.if-branch.true c.in_ok-try_add_clause-in-Adds.ensures in
     let of = subst C c.vars-vars.ensures.count r.4 in
     subst V c.self.view_is
@@ -78,6 +78,6 @@ returns c =
     let r = c.in-Adds.ensures.read in
     let V : CheckerLists → Type 0 = λ x. IsFirstBadAmong x.formula.vars x.clauses (items_of c.args.words.now) 1 in
     let T : Bool → Type 0 = λ b. IsTryAddResult (record k { set = c.read_item.new.set }) b c.try_add_clause.new.self in
-    let C : ℕ → Type 0 = λ n. IsClauseOfLiterals n c.read_item.new.set.lits r.1 in
+    let C : ℕ → Type 0 = λ n. IsValidClauseOfLiterals n c.read_item.new.set.lits r.1 in
     let none = subst T c.if-branch.false c.in_ok-try_add_clause-in-Adds.ensures r.1 (subst C c.vars-vars.ensures.count r.4) in
     subst V c.self.view_is (step-unfollowed (checker_lists_of_base k) c.args.words.now r.0 _ r.1 r.2 (ap (λ (n : ℕ). clauses_added_by n r.0) (sym c.vars-vars.ensures.count) ∙ r.3) none)

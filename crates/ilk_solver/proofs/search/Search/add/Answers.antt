@@ -1,14 +1,14 @@
 use Rattle.std.proofs.Common.{◌≡◌, ◌+◌, ◌<◌, ◌∷◌, [], cond, List, length, arith, ap, sym, ◌∙◌, subst, length-append}
 use Rattle.ilk_cnf.specs.Literal.{Literal, has_var}
-use Rattle.ilk_cnf.specs.Formula.{Formula, with_clauses}
+use Rattle.ilk_cnf.specs.Formula.{Formula, with_vars_and_clauses}
 use Rattle.ilk_log.specs.declared.step.Step.{Step}
 use Rattle.ilk_trail.specs.Trail.{TrailList}
 use Rattle.ilk_arena.specs.Arena.{ArenaLists}
 use Rattle.ilk_watches.specs.Chained.{formula_of, IsClauses}
-use Rattle.ilk_watches.specs.Watched.{FirstTwoAreWatchable, IsQueue}
+use Rattle.ilk_watches.specs.Watched.{FirstTwoAreWatchable, IsPropagationInvariant}
 use Rattle.ilk_watches.proofs.Added.{queue-with_clause_added}
 use Rattle.ilk_solver.specs.declared.word.TheConstants.{WEIGHT_LIMIT}
-use Rattle.ilk_solver.specs.Levels.{LevelsClosed}
+use Rattle.ilk_solver.specs.Levels.{LowerLevelsAreSaturated}
 use Rattle.ilk_solver.specs.View.{weight_of}
 use Rattle.ilk_solver.specs.Search.{SearchLists}
 use Rattle.ilk_solver.specs.Held.{HoldsSearch}
@@ -31,21 +31,21 @@ invariant_of-result c =
     let new = c.count-2.new.self in
     let b = c.add.new.self in
     let f = formula_of s.clauses in
-    let O : SearchLists → Type 0 = λ x. LevelsClosed (step.clause ∷ []) x.view.trail.entries in
+    let O : SearchLists → Type 0 = λ x. LowerLevelsAreSaturated (step.clause ∷ []) x.view.trail.entries in
     let added = held-added f s.given s.log s.view new step c.self.invariant.search
     (subst O (sym c.self.view_is) c.requires.closed) c.count-2.ensures.trail
     (λ v p. c.count-2.ensures.weights v p
     ∙ ap (λ (ls : List Literal). weight_of s.view v + cond (has_var v ls) 1 0) c.as_slice-2.ensures)
     in
-    let clauses : formula_of b ≡ with_clauses f f.vars (step.clause ∷ []) = ap formula_of c.in_ok-add.ensures.ok.is ∙ ap (λ (ls : List Literal). with_clauses f f.vars (ls ∷ [])) c.as_slice.ensures in
-    let L : List Step → Type 0 = λ log. HoldsSearch (with_clauses f f.vars (step.clause ∷ [])) s.given log new in
+    let clauses : formula_of b ≡ with_vars_and_clauses f f.vars (step.clause ∷ []) = ap formula_of c.in_ok-add.ensures.ok.is ∙ ap (λ (ls : List Literal). with_vars_and_clauses f f.vars (ls ∷ [])) c.as_slice.ensures in
+    let L : List Step → Type 0 = λ log. HoldsSearch (with_vars_and_clauses f f.vars (step.clause ∷ [])) s.given log new in
     let C : Formula → Type 0 = λ g. HoldsSearch g s.given c.push.new.self new in
     let A : SearchLists → Type 0 = λ x. FirstTwoAreWatchable x.view.trail.entries step.clause in
     let B : List Literal → Type 0 = λ ls. FirstTwoAreWatchable s.view.trail.entries ls in
     let may = subst B (sym c.as_slice.ensures) (subst A (sym c.self.view_is) c.requires.addable) in
     let K : ArenaLists → Type 0 = λ x. IsClauses x in
     let queue = queue-with_clause_added s.clauses b s.view.trail.entries s.queue.head s.queue.settled c.as_slice.result.now c.self.invariant.queue c.arena.ensures.clauses c.count.ensures.clauses c.in_ok-add.ensures.ok may in
-    let T : TrailList → Type 0 = λ t. IsQueue b t.entries s.queue.head s.queue.settled in
+    let T : TrailList → Type 0 = λ t. IsPropagationInvariant b t.entries s.queue.head s.queue.settled in
     record {
       search = subst C (sym clauses) (subst L (sym c.in_ok-push.ensures.ok) added);
       queue = subst T (sym c.count-2.ensures.trail) queue;

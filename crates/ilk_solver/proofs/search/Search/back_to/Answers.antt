@@ -2,8 +2,8 @@ use Rattle.std.proofs.Common.{◌≡◌, ◌≤◌, List, length, min, arith, ap
 use Rattle.ilk_trail.specs.declared.entry.Entry.{Entry}
 use Rattle.ilk_trail.specs.Trail.{TrailList, level_of, entries_up_to}
 use Rattle.ilk_watches.specs.Chained.{formula_of}
-use Rattle.ilk_watches.specs.declared.queue.Propagator.{Propagator}
-use Rattle.ilk_watches.specs.Watched.{IsQueue}
+use Rattle.ilk_watches.specs.declared.queue.PropagationProgress.{PropagationProgress}
+use Rattle.ilk_watches.specs.Watched.{IsPropagationInvariant}
 use Rattle.ilk_watches.proofs.Back.{queue-back}
 use Rattle.ilk_solver.specs.View.{ViewLists}
 use Rattle.ilk_solver.specs.Search.{SearchLists}
@@ -24,10 +24,10 @@ invariant_of-self c =
     let climb = c.vars.ensures.view.trail.climbing in
     let known = known-closed (formula_of s.clauses) s.given s.log s.view c.self.invariant.search in
     let q = queue-back s.clauses es h s.queue.settled m c.self.invariant.queue c.count.ensures.clauses climb (λ b. known m b) in
-    let Q : List Entry → Type 0 = λ xs. IsQueue s.clauses xs (min h (length xs)) s.queue.settled in
+    let Q : List Entry → Type 0 = λ xs. IsPropagationInvariant s.clauses xs (min h (length xs)) s.queue.settled in
     let entries = ap (λ (v : ViewLists). v.trail.entries) c.back_to.ensures.entries in
-    let H : Propagator → Type 0 = λ x. IsQueue s.clauses c.back_to.new.self.trail.entries x.head x.settled in
-    let L : TrailList → Type 0 = λ t. IsQueue s.clauses c.back_to.new.self.trail.entries (min h (length t.entries)) s.queue.settled in
+    let H : PropagationProgress → Type 0 = λ x. IsPropagationInvariant s.clauses c.back_to.new.self.trail.entries x.head x.settled in
+    let L : TrailList → Type 0 = λ t. IsPropagationInvariant s.clauses c.back_to.new.self.trail.entries (min h (length t.entries)) s.queue.settled in
     record {
       search = subst P (sym c.back_to.ensures.entries) (held-back (formula_of s.clauses) s.given s.log s.view m c.self.invariant.search climb le top);
       queue = subst H (sym c.back_to-2.ensures) (subst L (sym c.trail.ensures) (subst Q (sym entries) q));

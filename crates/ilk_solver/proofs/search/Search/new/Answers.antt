@@ -2,8 +2,8 @@ use Rattle.std.proofs.Common.{◌≡◌, [], List, ℕ, replicate, ap, sym, ◌�
 use Rattle.ilk_cnf.specs.Formula.{Formula}
 use Rattle.ilk_log.specs.declared.step.Step.{Step}
 use Rattle.ilk_watches.specs.Chained.{formula_of}
-use Rattle.ilk_watches.specs.declared.queue.Propagator.{Propagator}
-use Rattle.ilk_watches.specs.Watched.{IsQueue}
+use Rattle.ilk_watches.specs.declared.queue.PropagationProgress.{PropagationProgress}
+use Rattle.ilk_watches.specs.Watched.{IsPropagationInvariant}
 use Rattle.ilk_watches.proofs.Queues.{queue-start}
 use Rattle.ilk_solver.specs.View.{ViewLists}
 use Rattle.ilk_solver.specs.Held.{HoldsSearch}
@@ -23,8 +23,8 @@ invariant_of-result c =
     let G : ℕ → Type 0 = λ n. HoldsSearch f n [] (V f.vars) in
     let L : List Step → Type 0 = λ l. HoldsSearch f given l (V f.vars) in
     let S : ViewLists → Type 0 = λ v. HoldsSearch f given log v in
-    let Q : Propagator → Type 0 = λ q. IsQueue a [] q.head q.settled in
-    let E : ViewLists → Type 0 = λ v. IsQueue a v.trail.entries c.new-queue.result.head c.new-queue.result.settled in
+    let Q : PropagationProgress → Type 0 = λ q. IsPropagationInvariant a [] q.head q.settled in
+    let E : ViewLists → Type 0 = λ v. IsPropagationInvariant a v.trail.entries c.new-queue.result.head c.new-queue.result.settled in
     record {
       search = subst S (sym view_is) (subst L (sym c.new-log.ensures) (subst G (sym c.count-given.ensures.count) (held-start f)));
       queue = subst E (sym view_is) (subst Q (sym c.new-queue.ensures) (queue-start a));

@@ -4,8 +4,8 @@ use Rattle.ilk_log.specs.declared.step.Step.{Step}
 use Rattle.ilk_log.specs.Derived.{is_derived, is_refutation, step_clauses}
 use Rattle.ilk_log.specs.Fresh.{IsEmpowering, CanLearnButNotRefute}
 use Rattle.ilk_trail.specs.Trail.{level_of}
-use Rattle.ilk_trail.proofs.Levels.{last_level-push}
-use Rattle.ilk_solver.specs.Answered.{IsSearchLog, IsSpentLog, has_no_empty_step}
+use Rattle.ilk_trail.proofs.Levels.{last_level_or-push}
+use Rattle.ilk_solver.specs.Answered.{IsEmpoweringLogWithinBudget, IsSpentLog, has_no_empty_step}
 use Rattle.ilk_solver.specs.Search.{SearchLists, IsSearch}
 use Rattle.ilk_solver.proofs.Learning.{stuck}
 use Rattle.ilk_solver.proofs.LogsGrow.{log-ended, log-more, moved, has_no_empty_step-more, refuted, spent}
@@ -23,7 +23,7 @@ rounds-smaller-in-None g c =
     let vars : next.formula.vars ≡ n = ap (λ (x : SearchLists). x.formula.vars) c.decide.ensures ∙ same in
     let few = level-few now c.view.ensures.search c.view.ensures.lists in
     let level = c.in-None.ensures.propagated.level in
-    let up : level_of next.view.trail.entries ≡ level_of now.view.trail.entries + 1 = ap (λ (x : SearchLists). level_of x.view.trail.entries) c.decide.ensures ∙ last_level-push 0 now.view.trail.entries _ in
+    let up : level_of next.view.trail.entries ≡ level_of now.view.trail.entries + 1 = ap (λ (x : SearchLists). level_of x.view.trail.entries) c.decide.ensures ∙ last_level_or-push 0 now.view.trail.entries _ in
     let P : ℕ → Type 0 = λ m. rounds_left m c.args.budget c.rounds.steps (level_of next.view.trail.entries) < rounds_left n c.args.budget c.rounds.steps (level_of old.view.trail.entries) in
     subst P (sym vars) (decided-less n c.args.budget c.rounds.steps (level_of old.view.trail.entries) (level_of next.view.trail.entries) (omega (arith, few, level, same)) (omega (arith, up, level)))
 
@@ -53,7 +53,7 @@ returns-then-level-eq0-clause-log g c =
     let log : now.log ≡ old.log = ap (λ (x : SearchLists). x.log) c.in-Some.ensures.same in
     let derived = moved (λ (h : Formula) (l : List Step). is_derived h.vars (h.clauses ++ step_clauses l) last ≡ true) now f old.log formula log c.in_ok-last-in-Some.ensures.derived in
     let longer : c.push.new.self ≡ old.log ++ last ∷ [] = c.in_ok-push-in-Some.ensures.ok ∙ ap (λ (l : List Step). l ++ last ∷ []) (c.into_log-log.ensures ∙ log) in
-    let P : List Step → Type 0 = λ l. IsSearchLog f c.args.budget l in
+    let P : List Step → Type 0 = λ l. IsEmpoweringLogWithinBudget f c.args.budget l in
     subst P (sym longer) (log-ended f c.args.budget old.log last c.rounds.invariant.log derived c.in_ok-last-in-Some.ensures.empty)
 
 pub returns-then-level-eq0-clause-answer : goal.returns-then-level-eq0-clause-answer
@@ -99,7 +99,7 @@ rounds-preserved g c =
     let size = ap length longer in
     let more = length-append old.log (step ∷ []) in
     let room : length old.log < c.args.budget = omega (arith, c.rounds.invariant.steps, c.rounds.invariant.within, c.if-steps-budget.false) in
-    let L : List Step → Type 0 = λ l. IsSearchLog f c.args.budget l in
+    let L : List Step → Type 0 = λ l. IsEmpoweringLogWithinBudget f c.args.budget l in
     let N : List Step → Type 0 = λ l. has_no_empty_step l ≡ true in
     record {
       formula = c.in_ok-search-in-Some.ensures.formula ∙ formula;

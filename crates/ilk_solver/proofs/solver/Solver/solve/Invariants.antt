@@ -1,13 +1,13 @@
 use Rattle.std.proofs.Common.{◌≡◌, ◌≤◌, true, length}
 use Rattle.ilk_trail.specs.Trail.{level_of}
-use Rattle.ilk_solver.specs.Answered.{IsSearchLog, has_no_empty_step}
+use Rattle.ilk_solver.specs.Answered.{IsEmpoweringLogWithinBudget, has_no_empty_step}
 use Rattle.ilk_solver.proofs.Measure.{rounds_left}
 use Rattle.ilk_solver.proofs.solver.Solver.solve.Given as goal
 
 abbrev pub invariant-rounds : goal.invariant-rounds
 invariant-rounds g l = record {
   formula : l.search.formula ≡ l.fn.self.search.formula;
-  log : IsSearchLog l.fn.self.search.formula l.budget l.search.log;
+  log : IsEmpoweringLogWithinBudget l.fn.self.search.formula l.budget l.search.log;
   unfinished : has_no_empty_step l.search.log ≡ true;
   steps : length l.search.log ≡ l.steps;
   within : l.steps ≤ l.budget;

@@ -1,6 +1,6 @@
 use Rattle.std.proofs.Common.{◌≡◌, ◌++◌, ℕ, List, length, take, drop, sym, ◌∙◌, subst, arith}
 use Rattle.ilk_base.proofs.Lists.{all-written}
-use Rattle.ilk_solver.specs.Order.{TreeFitsView}
+use Rattle.ilk_solver.specs.Order.{TreeHasAllUnsetVars}
 use Rattle.ilk_solver.specs.View.{ViewLists}
 use Rattle.ilk_solver.proofs.Orders.{holds-back}
 use Rattle.ilk_solver.proofs.view.View.back_to.Goals as goal
@@ -19,7 +19,7 @@ invariant_of-self c =
     let n : length t ≡ s.tree.len = omega (arith, c.drop_set_from_top.auto.tree, c.deref_mut-2.ensures.len) in
     let won = rw c.deref-2.ensures.value at c.drop_set_from_top.ensures.tree in
     let keeps = rw (c.deref-2.ensures.value, c.deref_mut-2.ensures.value ∙ one) at c.drop_set_from_top.ensures.kept in
-    let P : List ℕ → Type 0 = TreeFitsView (record { trail = now; weights = s.weights.items }) in
+    let P : List ℕ → Type 0 = TreeHasAllUnsetVars (record { trail = now; weights = s.weights.items }) in
     subst P (sym (all-written s.tree.len t (take s.tree.len (put ++ drop (length put) s.tree.items)) n))
     (holds-back view now c.args.level s.tree.items put t c.self.invariant c.level.ensures.is_trail
     c.back_to.ensures.entries kept above won keeps c.drop_set_from_top.ensures.settled)

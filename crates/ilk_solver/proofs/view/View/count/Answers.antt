@@ -1,6 +1,6 @@
 use Rattle.std.proofs.Common.{◌≡◌, ◌++◌, ℕ, List, length, take, drop, ap, sym, ◌∙◌, subst, arith}
 use Rattle.ilk_base.proofs.Lists.{all-written}
-use Rattle.ilk_solver.specs.Order.{TreeFitsView}
+use Rattle.ilk_solver.specs.Order.{TreeHasAllUnsetVars}
 use Rattle.ilk_solver.specs.View.{ViewLists}
 use Rattle.ilk_solver.proofs.Orders.{holds-counted}
 use Rattle.ilk_solver.proofs.view.View.count.Goals as goal
@@ -21,7 +21,7 @@ invariant_of-self c =
     let keeps = rw (c.deref.ensures.value ∙ all, c.deref_mut-3.ensures.value ∙ one) at c.drop_set_from_top.ensures.kept in
     let many : length weights ≡ length s.weights.items = c.count_in.auto.weights ∙ ap (λ (ls : List ℕ). length ls) c.deref_mut.ensures.value in
     let view : ViewLists = record { trail = s.trail; weights = s.weights.items } in
-    let P : List ℕ → Type 0 = λ ws. TreeFitsView (record { trail = s.trail; weights = ws }) t in
-    let Q : List ℕ → Type 0 = TreeFitsView (record { trail = s.trail; weights = take s.weights.len (weights ++ drop (length weights) s.weights.items) }) in
+    let P : List ℕ → Type 0 = λ ws. TreeHasAllUnsetVars (record { trail = s.trail; weights = ws }) t in
+    let Q : List ℕ → Type 0 = TreeHasAllUnsetVars (record { trail = s.trail; weights = take s.weights.len (weights ++ drop (length weights) s.weights.items) }) in
     subst Q (sym (all-written s.tree.len t (take s.tree.len (risen ++ drop (length risen) s.tree.items)) n))
     (subst P (sym all) (holds-counted view weights s.tree.items risen t c.self.invariant many kept won keeps c.drop_set_from_top.ensures.settled))

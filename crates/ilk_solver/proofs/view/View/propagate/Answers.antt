@@ -1,10 +1,10 @@
 use Rattle.std.proofs.Common.{◌≡◌, ℕ, List, length, ap, sym, ◌∙◌, subst, arith}
 use Rattle.ilk_base.proofs.Lists.{all-written}
 use Rattle.ilk_trail.specs.Trail.{TrailList}
-use Rattle.ilk_solver.specs.Order.{TreeFitsView}
+use Rattle.ilk_solver.specs.Order.{TreeHasAllUnsetVars}
 use Rattle.ilk_solver.proofs.Orders.{holds-longer}
 use Rattle.ilk_watches.specs.Propagated.{ExtendsByPropagation}
-use Rattle.ilk_watches.specs.Watched.{IsQueue}
+use Rattle.ilk_watches.specs.Watched.{IsPropagationInvariant}
 use Rattle.ilk_solver.specs.View.{ViewLists}
 use Rattle.ilk_solver.proofs.view.View.propagate.Goals as goal
 
@@ -13,7 +13,7 @@ propagate-found-requires-clause-vars c = ap (λ (v : ViewLists). v.trail.vars) c
 
 pub propagate-found-requires-clause-queue : goal.propagate-found-requires-clause-queue
 propagate-found-requires-clause-queue c =
-    let P : ViewLists → Type 0 = λ v. IsQueue c.args.clauses.now v.trail.entries c.args.queue.now.head c.args.queue.now.settled in
+    let P : ViewLists → Type 0 = λ v. IsPropagationInvariant c.args.clauses.now v.trail.entries c.args.queue.now.head c.args.queue.now.settled in
     subst P (sym c.self.view_is) c.requires.queued
 
 pub returns-clause-propagated : goal.returns-clause-propagated
@@ -30,7 +30,7 @@ invariant_of-self c =
     let n : length t ≡ s.tree.len = omega (arith, c.drop_set_from_top.auto.tree, c.deref_mut.ensures.len) in
     let won = rw c.deref.ensures.value at c.drop_set_from_top.ensures.tree in
     let kept = rw (c.deref.ensures.value, c.deref_mut.ensures.value) at c.drop_set_from_top.ensures.kept in
-    let P : List ℕ → Type 0 = TreeFitsView (record { trail = now; weights = s.weights.items }) in
+    let P : List ℕ → Type 0 = TreeHasAllUnsetVars (record { trail = now; weights = s.weights.items }) in
     subst P (sym (all-written s.tree.len t s.tree.items n))
     (holds-longer view now s.tree.items t c.self.invariant c.level.ensures.is_trail
     (ap (λ (x : TrailList). x.vars) c.propagate-found.ensures.trail)

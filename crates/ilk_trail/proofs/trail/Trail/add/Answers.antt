@@ -4,7 +4,7 @@ use Rattle.std.proofs.Math.ListN.{length-set}
 use Rattle.ilk_trail.specs.Trail.{TrailList, level_of}
 use Rattle.ilk_cnf.specs.Code.{code_of}
 use Rattle.ilk_cnf.specs.Formula.{is_lit_over}
-use Rattle.ilk_trail.specs.Laws.{is_next_level, is_set}
+use Rattle.ilk_trail.specs.Laws.{may_follow_level, is_set}
 use Rattle.ilk_trail.proofs.Kept.{room-for, stored-add}
 use Rattle.ilk_trail.proofs.trail.Trail.add.Goals as goal
 
@@ -33,4 +33,4 @@ invariant_of-self c =
     (stored-add s.values.items s.places.items n s.entries.items e _ _ k c.push.ensures.capacity
     (ap (λ (t : TrailList). is_lit_over t.vars e.lit) c.self.view_is ∙ c.requires.within)
     (ap (λ (t : TrailList). is_set t.entries e.lit.var) c.self.view_is ∙ c.requires.unset)
-    (ap (λ (t : TrailList). is_next_level (level_of t.entries) e) c.self.view_is ∙ c.requires.level))
+    (ap (λ (t : TrailList). may_follow_level (level_of t.entries) e) c.self.view_is ∙ c.requires.level))

@@ -1,7 +1,0 @@
-use Rattle.std.proofs.Common.{sym, subst}
-use Rattle.ilk_plant.specs.Limits.{WithinLimits}
-use Rattle.ilk_answers.proofs.table.conf_text_with_table.Goals as goal
-
-pub configuration_json-requires-clause-limits : goal.configuration_json-requires-clause-limits
-configuration_json-requires-clause-limits c =
-    subst (λ net. WithinLimits net c.args.table.now) (sym c.in_ok-net.ensures) (c.network_and_table_keep_rules.ensures.drafts c.args.table.now c.requires).sound.limits

@@ -1,0 +1,5 @@
+use Rattle.ilk_behave.proofs.EnterSteps.{leave-steps}
+use Rattle.ilk_behave.proofs.laws.leave_rules_match_event.Goals as goal
+
+pub returns : goal.returns
+returns c x s shape calm = leave-steps c.args.plant.now c.prove_is_plant.ensures c.prove_sound_acyclic_drafts.ensures.walks s shape calm x

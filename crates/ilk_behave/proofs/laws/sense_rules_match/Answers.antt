@@ -1,5 +1,0 @@
-use Rattle.ilk_behave.proofs.RouteSteps.{sense-steps}
-use Rattle.ilk_behave.proofs.laws.sense_rules_match.Goals as goal
-
-pub returns : goal.returns
-returns c r s shape calm = sense-steps c.args.plant.now c.prove_is_plant.ensures s shape calm r

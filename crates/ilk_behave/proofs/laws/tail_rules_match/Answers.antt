@@ -1,5 +1,0 @@
-use Rattle.ilk_behave.proofs.TailSteps.{tail-steps}
-use Rattle.ilk_behave.proofs.laws.tail_rules_match.Goals as goal
-
-pub returns : goal.returns
-returns c x s shape calm = tail-steps c.args.plant.now c.prove_is_plant.ensures c.prove_from_drafts.ensures.walks s shape calm x

@@ -1,5 +1,0 @@
-use Rattle.ilk_gen.proofs.ComputedTexts.{stations-read}
-use Rattle.ilk_gen.proofs.laws.stations_are_read.Goals as goal
-
-pub returns : goal.returns
-returns c = stations-read c.args.n c.requires.some c.requires.few

@@ -1,7 +1,0 @@
-use Rattle.std.proofs.Common.{◌≡◌, map}
-use Rattle.std.specs.List.{range_with_len}
-use Rattle.ilk_table_check.specs.Columns.{conflict_flags}
-use Rattle.ilk_table_check.proofs.conflicts.all_conflict_flags.Given as goal
-
-abbrev pub invariant-loop-i : goal.invariant-loop-i
-invariant-loop-i l = l.made ≡ map (conflict_flags l.plant) (range_with_len 0 l.i)

@@ -1,6 +1,0 @@
-use Rattle.std.proofs.Common.{◌≡◌, drop}
-use Rattle.ilk_plant.specs.ColumnRules.{points_lead_along}
-use Rattle.ilk_table_check.proofs.ways.points_lead_along.Given as goal
-
-abbrev pub invariant-loop-i : goal.invariant-loop-i
-invariant-loop-i l = points_lead_along l.plant l.points l.before (drop l.i l.path) ≡ points_lead_along l.plant l.points l.start l.fn.path

@@ -1,8 +1,0 @@
-use Rattle.std.proofs.Common.{◌≡◌, ◌<◌, ℕ, false, slice_get}
-use Rattle.ilk_base.specs.Option.{is_some_and}
-use Rattle.ilk_tablegen.specs.Ways.{has_overlong_way}
-use Rattle.ilk_tablegen.proofs.endless.board_with_overlong_way.Given as goal
-
-abbrev pub invariant-loop-m : goal.invariant-loop-m
-invariant-loop-m l =
-    (k : ℕ) → k < l.m → is_some_and (slice_get l.plant.boards k) (has_overlong_way l.plant) ≡ false
