@@ -29,6 +29,7 @@ HAND_WRITTEN = [
     ("```\n$ no-such-solver f\ns\n$ echo a\nb\n```\n```\n$ echo a | no-such-solver\n```\n", 0, 0, 2),
     ("```\n$ exit 0\n$ echo a\na\n```\n", 1, 1, 0),
     ("```json\n{}\n```\n\n```\ntext\n```\n", 0, 0, 0),
+    ("```\n$ echo irv --batch: 3 of 7 jobs; echo a\na\n```\n", 1, 0, 0),
 ]
 
 

@@ -15,6 +15,8 @@ TIMEOUT_SECONDS = 300
 BLOCK = re.compile(r"^```\w*\n(.*?)^```$", re.S | re.M)
 # the program that a tool also calls
 CALLS = {"tools/verify_with": "cadical", "./irv --batch": "snakemake"}
+# what a call prints only if it takes over ten seconds
+PROGRESS = re.compile(r"irv --batch: \d+ of \d+ jobs")
 
 
 @dataclass
@@ -58,13 +60,13 @@ def absent_program(commands):
 
 
 def printed(commands, directory):
-    """Returns the output lines of each command, all run in order by one shell."""
+    """Returns the output lines of each command but for progress; one shell runs all in order."""
     mark = "== a command of the document =="
     script = "exec 2>&1\n" + "".join(f"echo {mark!r}\n{command.text}\n" for command in commands)
     done = subprocess.run(["bash", "-c", script], cwd=directory, stdin=subprocess.DEVNULL,
                           stdout=subprocess.PIPE, timeout=TIMEOUT_SECONDS, check=False)
     parts = done.stdout.decode(errors="replace").split(mark + "\n")[1:]
-    return [part.splitlines() for part in parts]
+    return [[line for line in part.splitlines() if not PROGRESS.fullmatch(line)] for part in parts]
 
 
 def run(text, directory):
