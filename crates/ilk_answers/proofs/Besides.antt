@@ -9,7 +9,7 @@ use Rattle.ilk_net_read.specs.declared.fault.Place.TheVariants.{Extra}
 use Rattle.ilk_plant.specs.Plant.{PlantLists}
 use Rattle.ilk_words.specs.Plan.{plan_of}
 use Rattle.ilk_words.specs.declared.command.Command.{Command}
-use Rattle.ilk_answers.specs.Answer.{AnswersPlantAndExtra, AnswersPlantOrRefusals, AnswersPlantIfExtraExposed, AnswersOrRefusesTooLong, refused, all_or_first_refusal_reply}
+use Rattle.ilk_answers.specs.Answer.{AnswersPlantAndExtra, AnswersOnPlantOrRefuses, AnswersOnPlantIfExtraExposed, AnswersOrRefusesTooLong, refused, all_or_first_refusal_reply}
 use Rattle.ilk_answers.specs.Besides.{AnswersForSomeExtraInput}
 use Rattle.ilk_answers.specs.declared.refusals.Refusal.TheVariants.{Form as FormRefusal}
 use Rattle.ilk_answers.specs.declared.refusals.Refusals.{Refusals}
@@ -27,13 +27,13 @@ pub some-unread : (command : Command) (p : PlantLists) (extra : Option (List ℕ
 some-unread command p extra made none is = record {
   text = unwrap_or extra [];
   whole = told_or_none extra;
-  answer = subst (λ limit. AnswersPlantIfExtraExposed limit command p (Some (unwrap_or extra [])) made) (sym none) is;
+  answer = subst (λ limit. AnswersOnPlantIfExtraExposed limit command p (Some (unwrap_or extra [])) made) (sym none) is;
 }
 
 module _ (command : Command) (p : PlantLists) (limit : ℕ) (made : Reply) (planned : (plan_of command).extra ≡ Some limit) where
-  within-limit : (b : Bool) (text : List ℕ) → nat_le (length text) limit ≡ b → AnswersOrRefusesTooLong b command p text made → AnswersPlantOrRefusals command (Ok p) (Some text) made
+  within-limit : (b : Bool) (text : List ℕ) → nat_le (length text) limit ≡ b → AnswersOrRefusesTooLong b command p text made → AnswersOnPlantOrRefuses command (Ok p) (Some text) made
   within-limit b text same is =
-      let Told : Option ℕ → Type 0 = λ o. AnswersPlantIfExtraExposed o command p (Some text) made in
+      let Told : Option ℕ → Type 0 = λ o. AnswersOnPlantIfExtraExposed o command p (Some text) made in
       subst Told (sym planned) (subst (λ c. AnswersOrRefusesTooLong c command p text made) (sym same) is)
 
   pub some-within : (extra : Option (List ℕ)) (text : List ℕ) → IfSome extra (λ bytes. text ≡ bytes) → length text ≤ limit → AnswersPlantAndExtra command p text made → AnswersForSomeExtraInput command (Ok p) extra made
@@ -48,11 +48,11 @@ module _ (command : Command) (p : PlantLists) (limit : ℕ) (made : Reply) (plan
   some-too_long (Some bytes) long is =
       record { text = bytes; whole = refl; answer = within-limit false bytes (lt-leb (length bytes) limit long) is }
 
-pub some-answer : (command : Command) (found : Result PlantLists Refusals) (extra : Option (List ℕ)) (made : Reply) → AnswersForSomeExtraInput command found extra made → AnswersPlantOrRefusals command found extra made
+pub some-answer : (command : Command) (found : Result PlantLists Refusals) (extra : Option (List ℕ)) (made : Reply) → AnswersForSomeExtraInput command found extra made → AnswersOnPlantOrRefuses command found extra made
 some-answer command (Err refusals) extra made some = some.answer
 some-answer command (Ok p) extra made some = of_limit (plan_of command).extra extra some.whole some.answer
   where
-    of_limit : (limit : Option ℕ) (left : Option (List ℕ)) → IfSome left (λ bytes. some.text ≡ bytes) → AnswersPlantIfExtraExposed limit command p (Some some.text) made → AnswersPlantIfExtraExposed limit command p left made
+    of_limit : (limit : Option ℕ) (left : Option (List ℕ)) → IfSome left (λ bytes. some.text ≡ bytes) → AnswersOnPlantIfExtraExposed limit command p (Some some.text) made → AnswersOnPlantIfExtraExposed limit command p left made
     of_limit None left whole is = is
     of_limit (Some limit) None whole is = tt
     of_limit (Some limit) (Some bytes) whole is = subst (λ text. AnswersOrRefusesTooLong (nat_le (length text) limit) command p text made) whole is

@@ -23,10 +23,10 @@ use Rattle.ilk_words.specs.declared.command.ColumnRuleMode.TheVariants.{Strict, 
 use Rattle.ilk_words.specs.declared.command.Command.TheVariants.{Check}
 use Rattle.ilk_words.specs.declared.lengths.TheConstants.{MAX_CONFIGURATION_BYTES}
 use Rattle.ilk_words.specs.declared.plan.CheckedRuleStages.TheVariants.{All}
-use Rattle.ilk_answers.specs.Answer.{AnswersPlantOrRefusals, refusal_lines_of_broken_rules, refusals_from_form_fault, refusals_or_value, plant_of_conf, plant_of_drafts, refusals_if_any_broken_rules}
-use Rattle.ilk_answers.specs.Refusal.{broken_places_text, form_rule_name, place_text, refusal_line, refusal_line_for_rule}
+use Rattle.ilk_answers.specs.Answer.{AnswersOnPlantOrRefuses, refusal_lines_of_broken_rules, refusals_from_form_fault, refusals_or_value, plant_or_refusals_of_conf, plant_of_drafts, refusals_if_any_broken_rules}
+use Rattle.ilk_answers.specs.Refusal.{broken_place_or_pair_text, form_rule_name, place_text, refusal_line, refusal_line_for_rule}
 use Rattle.ilk_answers.specs.Stages.{first_nonempty_broken, first_broken_stage_rules}
-use Rattle.ilk_answers.specs.Strict.{HasSafePlantDespiteColumns, GivesPlantIfColumnsUnchecked, has_beginning, lines_have_beginnings, harmless_refusal_beginnings}
+use Rattle.ilk_answers.specs.Strict.{HasSafePlantDespiteColumns, FreeColumnPlantIsValid, has_one_of_beginnings, lines_have_beginnings, harmless_refusal_beginnings}
 use Rattle.ilk_answers.specs.declared.refusals.Refusal.{Refusal}
 use Rattle.ilk_answers.specs.declared.refusals.Refusal.TheVariants.{Form as FormRefusal, Rule as RuleRefusal}
 use Rattle.ilk_answers.specs.declared.refusals.Refusals.{Refusals}
@@ -51,7 +51,7 @@ plant-drafts net table limits = of_refusals (refusals_if_any_broken_rules (first
         let routes = of_network (table_rules_broken net table) [] stages.1 in
         sound-IsPlant net table (record { limits = limits; network = stages.0; routes = routes.0 })
 
-pub free-plant : (conf : List ℕ) (drafts : Result (NetDraft × TableDraft) FormFault) → net_and_table_drafts conf ≡ drafts → IfOk drafts (λ d. WithinLimits d.0 d.1) → GivesPlantIfColumnsUnchecked conf
+pub free-plant : (conf : List ℕ) (drafts : Result (NetDraft × TableDraft) FormFault) → net_and_table_drafts conf ≡ drafts → IfOk drafts (λ d. WithinLimits d.0 d.1) → FreeColumnPlantIsValid conf
 free-plant conf drafts is limits = of_length (nat_lt MAX_CONFIGURATION_BYTES (length conf))
   where
     of_drafts : (read : Result (NetDraft × TableDraft) FormFault) → IfOk read (λ d. WithinLimits d.0 d.1) → IfOk (plant_of_drafts (All Free) read) IsPlant
@@ -66,7 +66,7 @@ pub holds-if_ok : {A E : Type 0} (r : Result A E) (P : Type 0) → P → OnOk r 
 holds-if_ok (Ok x) P so = so
 holds-if_ok (Err e) P so = tt
 
-pub long-plant : (conf : List ℕ) → nat_lt MAX_CONFIGURATION_BYTES (length conf) ≡ true → GivesPlantIfColumnsUnchecked conf
+pub long-plant : (conf : List ℕ) → nat_lt MAX_CONFIGURATION_BYTES (length conf) ≡ true → FreeColumnPlantIsValid conf
 long-plant conf long = rw long tt
 
 abbrev is_harmless_refusal : Refusal → Bool
@@ -81,13 +81,13 @@ line-cut rule place rest =
     ∙ sym (append_assoc rule (32 ∷ place) (10 ∷ rest)))
 
 line-begins : (rule place rest : Bytes) → lines_have_beginnings harmless_refusal_beginnings (refusal_line_for_rule rule place ++ rest) ≡ true →
-    (has_beginning harmless_refusal_beginnings (codes "refused " ++ (rule ++ (codes " " ++ place))) ≡ true)
+    (has_one_of_beginnings harmless_refusal_beginnings (codes "refused " ++ (rule ++ (codes " " ++ place))) ≡ true)
     × (lines_have_beginnings harmless_refusal_beginnings rest ≡ true)
 line-begins rule place rest h =
     lines-begin harmless_refusal_beginnings (codes "refused " ++ (rule ++ (codes " " ++ place))) rest
     (ap (lines_have_beginnings harmless_refusal_beginnings) (sym (line-cut rule place rest)) ∙ h)
 
-form-begins : (form : Form) (place : Bytes) → has_beginning harmless_refusal_beginnings (codes "refused " ++ (form_rule_name form ++ (codes " " ++ place))) ≡ true → false ≡ true
+form-begins : (form : Form) (place : Bytes) → has_one_of_beginnings harmless_refusal_beginnings (codes "refused " ++ (form_rule_name form ++ (codes " " ++ place))) ≡ true → false ≡ true
 form-begins F1 place h = h
 form-begins F2 place h = h
 form-begins F3 place h = h
@@ -100,8 +100,8 @@ refusal-harmless (FormRefusal fault) rest h =
     let parts = line-begins (form_rule_name fault.rule) (place_text fault.place) rest h in
     (form-begins fault.rule (place_text fault.place) parts.0, parts.1)
 refusal-harmless (RuleRefusal b) rest h =
-    let parts = line-begins (rule_word b.rule) (broken_places_text b) rest h in
-    (harmless-begins b.rule (broken_places_text b) parts.0, parts.1)
+    let parts = line-begins (rule_word b.rule) (broken_place_or_pair_text b) rest h in
+    (harmless-begins b.rule (broken_place_or_pair_text b) parts.0, parts.1)
 
 rule_fault_at_place-harmless : (found : List Broken) → lines_have_beginnings harmless_refusal_beginnings (refusal_lines_of_broken_rules found) ≡ true → are_harmless found ≡ true
 rule_fault_at_place-harmless [] h = refl
@@ -118,21 +118,21 @@ first-harmless [] later none h = (refl, h)
 first-harmless (b ∷ first) later none h = let no : b ∷ first ≡ [] = none h in absurd (cc)
 
 safe-drafts : (conf : List ℕ) (net : NetDraft) (table : TableDraft) → nat_lt MAX_CONFIGURATION_BYTES (length conf) ≡ false →
-    net_and_table_drafts conf ≡ Ok (net, table) → GivesPlantIfColumnsUnchecked conf →
+    net_and_table_drafts conf ≡ Ok (net, table) → FreeColumnPlantIsValid conf →
     are_harmless (first_broken_stage_rules (All Strict) net table) ≡ true → HasSafePlantDespiteColumns conf
 safe-drafts conf net table short read sound harmless =
     let p : PlantLists = plant_from_drafts net table in
     let network = first-harmless (network_rules_broken net) (first_nonempty_broken (table_rules_broken net table) (column_rules_broken p)) (network-harmless net) harmless in
     let routes = first-harmless (table_rules_broken net table) (column_rules_broken p) (table-harmless net table) network.1 in
     let none : first_broken_stage_rules (All Free) net table ≡ [] = ap (λ found. first_nonempty_broken found (first_nonempty_broken (table_rules_broken net table) [])) network.0 ∙ ap (λ found. first_nonempty_broken found []) routes.0 in
-    let free : plant_of_conf (All Free) conf ≡ Ok p =
+    let free : plant_or_refusals_of_conf (All Free) conf ≡ Ok p =
     ap (λ b. if b then Err (refusals_from_form_fault (rule_fault_at_place F1 Document)) else plant_of_drafts (All Free) (net_and_table_drafts conf)) short
     ∙ ap (plant_of_drafts (All Free)) read
     ∙ ap (λ found. refusals_or_value (refusals_if_any_broken_rules found) p) none in
     let plant : IsPlant p = subst (λ found. IfOk found IsPlant) free sound in
     record { plant = p; read = free; safe = strict-forever p plant (strict_from_rules p (harmless-keeps p routes.1)) }
 
-safe-refused : (conf : List ℕ) (refusals : Refusals) → plant_of_conf (All Strict) conf ≡ Err refusals → GivesPlantIfColumnsUnchecked conf → is_harmless_refusal refusals.first ≡ true → are_harmless refusals.rest ≡ true →
+safe-refused : (conf : List ℕ) (refusals : Refusals) → plant_or_refusals_of_conf (All Strict) conf ≡ Err refusals → FreeColumnPlantIsValid conf → is_harmless_refusal refusals.first ≡ true → are_harmless refusals.rest ≡ true →
     HasSafePlantDespiteColumns conf
 safe-refused conf refusals is sound first rest = of_length (nat_lt MAX_CONFIGURATION_BYTES (length conf)) refl is
   where
@@ -163,7 +163,7 @@ safe-refused conf refusals is sound first rest = of_length (nat_lt MAX_CONFIGURA
 
 pub deviations-safe :
     (conf : List ℕ) (found : Result PlantLists Refusals) (extra : Option (List ℕ)) (made : Reply) →
-    found ≡ plant_of_conf (All Strict) conf → GivesPlantIfColumnsUnchecked conf → AnswersPlantOrRefusals (Check Strict) found extra made →
+    found ≡ plant_or_refusals_of_conf (All Strict) conf → FreeColumnPlantIsValid conf → AnswersOnPlantOrRefuses (Check Strict) found extra made →
     made.status ≡ IsRefused → lines_have_beginnings harmless_refusal_beginnings made.report ≡ true → HasSafePlantDespiteColumns conf
 deviations-safe conf (Ok p) extra made known sound told refused lines =
     let good : Good ≡ IsRefused = ap (λ (r : Reply). r.status) (sym told) ∙ refused in absurd (cc)

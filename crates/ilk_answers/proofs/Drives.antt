@@ -14,7 +14,7 @@ use Rattle.ilk_drive.specs.declared.scene.Scene.TheVariants as scene
 use Rattle.ilk_words.specs.declared.command.ColumnRuleMode.TheVariants.{Strict}
 use Rattle.ilk_words.specs.declared.command.Command.TheVariants.{Drive}
 use Rattle.ilk_words.specs.declared.lengths.TheConstants.{MAX_SCENARIO_BYTES}
-use Rattle.ilk_answers.specs.Answer.{AnswersPlantIfExtraExposed, AnswersOrRefusesTooLong}
+use Rattle.ilk_answers.specs.Answer.{AnswersOnPlantIfExtraExposed, AnswersOrRefusesTooLong}
 use Rattle.ilk_answers.specs.Drives.{AnswersParsedScenario, drive_end_status}
 use Rattle.ilk_answers.specs.declared.reply.Reply.{Reply}
 use Rattle.ilk_answers.specs.declared.status.Status.TheVariants.{Rejected, Refused as IsRefused, Unsafe}
@@ -35,5 +35,5 @@ within-safe false p run text made plant none is e =
     let refused : IsRefused ≡ Unsafe = ap (λ (r : Reply). r.status) (sym is) ∙ e in absurd (cc)
 within-safe true p run text made plant none is e = scene-safe p (scene_from_text p text) made plant none is e
 
-pub drive-right : (p : PlantLists) (run text : List ℕ) (made : Reply) → IsPlant p → column_rules_broken p ≡ [] → AnswersPlantIfExtraExposed (Some MAX_SCENARIO_BYTES) (Drive Strict run) p (Some text) made → made.status ≢ Unsafe
+pub drive-right : (p : PlantLists) (run text : List ℕ) (made : Reply) → IsPlant p → column_rules_broken p ≡ [] → AnswersOnPlantIfExtraExposed (Some MAX_SCENARIO_BYTES) (Drive Strict run) p (Some text) made → made.status ≢ Unsafe
 drive-right p run text made plant none is = within-safe (nat_le (length text) MAX_SCENARIO_BYTES) p run text made plant none is

@@ -7,7 +7,7 @@ use Rattle.std.proofs.lemmas.List.Folds.{list_all-append}
 use Rattle.std.proofs.lemmas.Slice.Eq.{starts_is}
 use Rattle.ilk_lines.specs.Lines.{Bytes, lines_of, parts_at, parts_but_last}
 use Rattle.ilk_lines.proofs.Cuts.{parts_follow}
-use Rattle.ilk_answers.specs.Strict.{HasOnlyLines, has_beginning, lines_have_beginnings}
+use Rattle.ilk_answers.specs.Strict.{LinesHaveBeginnings, has_one_of_beginnings, lines_have_beginnings}
 
 -- Holds if the first of the lines of `text`, a line feed and `rest` is a prefix of `text`.
 pub record IsFirstOf (text : Bytes) (rest : Bytes) : Type 0 where
@@ -67,41 +67,43 @@ or-holds true b c d first later e = rw (first refl) refl
 or-holds false b true d first later e = refl
 or-holds false b false d first later e = later e
 
-has_beginning-more : (beginnings : List Bytes) (line left : Bytes) → has_beginning beginnings line ≡ true → has_beginning beginnings (line ++ left) ≡ true
-has_beginning-more [] line left h = h
-has_beginning-more (beginning ∷ beginnings) line left h =
-    or-holds (starts_with ◌==◌ line beginning) (has_beginning beginnings line) (starts_with ◌==◌ (line ++ left) beginning) (has_beginning beginnings (line ++ left)) (begins-more line left beginning) (has_beginning-more beginnings line left) h
+has_one_of_beginnings-more : (beginnings : List Bytes) (line left : Bytes) → has_one_of_beginnings beginnings line ≡ true → has_one_of_beginnings beginnings (line ++ left) ≡ true
+has_one_of_beginnings-more [] line left h = h
+has_one_of_beginnings-more (beginning ∷ beginnings) line left h =
+    or-holds (starts_with ◌==◌ line beginning) (has_one_of_beginnings beginnings line) (starts_with ◌==◌ (line ++ left) beginning) (has_one_of_beginnings beginnings (line ++ left)) (begins-more line left beginning)
+    (has_one_of_beginnings-more beginnings line left) h
 
-pub lines-begin : (beginnings : List Bytes) (text rest : Bytes) → lines_have_beginnings beginnings (text ++ 10 ∷ rest) ≡ true → (has_beginning beginnings text ≡ true) × (lines_have_beginnings beginnings rest ≡ true)
+pub lines-begin : (beginnings : List Bytes) (text rest : Bytes) → lines_have_beginnings beginnings (text ++ 10 ∷ rest) ≡ true → (has_one_of_beginnings beginnings text ≡ true) × (lines_have_beginnings beginnings rest ≡ true)
 lines-begin beginnings text rest h =
     let first : IsFirstOf text rest = first-line text rest in
-    let each : list_all (has_beginning beginnings) (first.line ∷ (first.more ++ lines_of rest)) ≡ true = sym (ap (list_all (has_beginning beginnings)) first.lines) ∙ h in
-    let parts = and_parts (has_beginning beginnings first.line) (list_all (has_beginning beginnings) (first.more ++ lines_of rest)) each in
-    let others = and_parts (list_all (has_beginning beginnings) first.more) (list_all (has_beginning beginnings) (lines_of rest)) (sym (list_all-append (has_beginning beginnings) first.more (lines_of rest)) ∙ parts.1) in
-    (ap (has_beginning beginnings) first.prefix ∙ has_beginning-more beginnings first.line first.left parts.0, others.1)
+    let each : list_all (has_one_of_beginnings beginnings) (first.line ∷ (first.more ++ lines_of rest)) ≡ true = sym (ap (list_all (has_one_of_beginnings beginnings)) first.lines) ∙ h in
+    let parts = and_parts (has_one_of_beginnings beginnings first.line) (list_all (has_one_of_beginnings beginnings) (first.more ++ lines_of rest)) each in
+    let others = and_parts (list_all (has_one_of_beginnings beginnings) first.more) (list_all (has_one_of_beginnings beginnings) (lines_of rest)) (sym (list_all-append (has_one_of_beginnings beginnings) first.more (lines_of rest)) ∙ parts.1) in
+    (ap (has_one_of_beginnings beginnings) first.prefix ∙ has_one_of_beginnings-more beginnings first.line first.left parts.0, others.1)
 
-begins-narrower : (narrower allowed : List Bytes) (line : Bytes) → list_all (has_beginning narrower) allowed ≡ true → has_beginning allowed line ≡ true → has_beginning narrower line ≡ true
+begins-narrower : (narrower allowed : List Bytes) (line : Bytes) → list_all (has_one_of_beginnings narrower) allowed ≡ true → has_one_of_beginnings allowed line ≡ true → has_one_of_beginnings narrower line ≡ true
 begins-narrower narrower [] line each h = absurd (cc)
 begins-narrower narrower (beginning ∷ allowed) line each h =
-    let parts = and_parts (has_beginning narrower beginning) (list_all (has_beginning narrower) allowed) each in
+    let parts = and_parts (has_one_of_beginnings narrower beginning) (list_all (has_one_of_beginnings narrower) allowed) each in
     by_first (starts_with ◌==◌ line beginning) refl parts.0 (begins-narrower narrower allowed line parts.1) h
   where
-    by_first : (b : Bool) → starts_with ◌==◌ line beginning ≡ b → has_beginning narrower beginning ≡ true → (has_beginning allowed line ≡ true → has_beginning narrower line ≡ true) → (b || has_beginning allowed line) ≡ true
-        → has_beginning narrower line ≡ true
+    by_first : (b : Bool) → starts_with ◌==◌ line beginning ≡ b → has_one_of_beginnings narrower beginning ≡ true → (has_one_of_beginnings allowed line ≡ true → has_one_of_beginnings narrower line ≡ true) → (b || has_one_of_beginnings allowed line)
+        ≡ true
+        → has_one_of_beginnings narrower line ≡ true
     by_first true here own later e =
         let split : line ≡ beginning ++ drop (length beginning) line = (starts_is Decides-eqb line beginning (starts_with ◌==◌ line beginning) refl).0 here in
-        ap (has_beginning narrower) split ∙ has_beginning-more narrower beginning (drop (length beginning) line) own
+        ap (has_one_of_beginnings narrower) split ∙ has_one_of_beginnings-more narrower beginning (drop (length beginning) line) own
     by_first false here own later e = later e
 
-pub lines-narrower : (narrower allowed : List Bytes) (report : Bytes) → list_all (has_beginning narrower) allowed ≡ true → HasOnlyLines allowed report → HasOnlyLines narrower report
+pub lines-narrower : (narrower allowed : List Bytes) (report : Bytes) → list_all (has_one_of_beginnings narrower) allowed ≡ true → LinesHaveBeginnings allowed report → LinesHaveBeginnings narrower report
 lines-narrower narrower allowed report each h = record { each = of_lines (lines_of report) h.each }
   where
     both : (x y : Bool) → x ≡ true → y ≡ true → (x && y) ≡ true
     both true y first later = later
     both false y first later = absurd (cc)
 
-    of_lines : (lines : List Bytes) → list_all (has_beginning allowed) lines ≡ true → list_all (has_beginning narrower) lines ≡ true
+    of_lines : (lines : List Bytes) → list_all (has_one_of_beginnings allowed) lines ≡ true → list_all (has_one_of_beginnings narrower) lines ≡ true
     of_lines [] e = refl
     of_lines (line ∷ lines) e =
-        let parts = and_parts (has_beginning allowed line) (list_all (has_beginning allowed) lines) e in
-        both (has_beginning narrower line) (list_all (has_beginning narrower) lines) (begins-narrower narrower allowed line each parts.0) (of_lines lines parts.1)
+        let parts = and_parts (has_one_of_beginnings allowed line) (list_all (has_one_of_beginnings allowed) lines) e in
+        both (has_one_of_beginnings narrower line) (list_all (has_one_of_beginnings narrower) lines) (begins-narrower narrower allowed line each parts.0) (of_lines lines parts.1)

@@ -6,12 +6,12 @@ use Rattle.std.proofs.lemmas.List.Folds.{list_all-append}
 use Rattle.ilk_base.specs.Option.{is_some_and}
 use Rattle.ilk_lines.specs.Lines.{Bytes}
 use Rattle.ilk_plant.specs.Broken.{broken_below, broken_for_rules, place_kind_of, rule_word}
-use Rattle.ilk_plant.specs.ColumnRules.{breaks_column_rule_at, broken_for_column_rule, column_rules, column_rules_broken, ends_at_destination_or_border, has_no_board, destination_is_first_board, path_destination_is_first_board, path_and_overlap_points_listed}
+use Rattle.ilk_plant.specs.ColumnRules.{breaks_column_rule_at, broken_for_column_rule, all_column_rules, column_rules_broken, ends_at_destination_or_border, has_no_board, destination_is_first_board, path_destination_is_first_board, path_and_overlap_points_listed}
 use Rattle.ilk_plant.specs.Draft.{plant_from_drafts}
-use Rattle.ilk_plant.specs.NetworkRules.{breaks_network_rule_at, place_count_in_network, network_rules, network_rules_broken}
+use Rattle.ilk_plant.specs.NetworkRules.{breaks_network_rule_at, place_count_in_network, all_network_rules, network_rules_broken}
 use Rattle.ilk_plant.specs.Network.{last_of}
 use Rattle.ilk_plant.specs.Plant.{PlantLists, board_of, next_to}
-use Rattle.ilk_plant.specs.TableRules.{breaks_table_rule_at, place_count_in_plant, route_fails, table_rules, table_rules_broken}
+use Rattle.ilk_plant.specs.TableRules.{breaks_table_rule_at, place_count_in_plant, route_fails, all_table_rules, table_rules_broken}
 use Rattle.ilk_plant.specs.declared.broken.Broken.{Broken}
 use Rattle.ilk_plant.specs.declared.broken.PlaceKind.{PlaceKind}
 use Rattle.ilk_plant.specs.declared.broken.Rule.{Rule}
@@ -22,8 +22,8 @@ use Rattle.ilk_plant.specs.declared.network.Dir.{Dir}
 use Rattle.ilk_plant.specs.declared.table.Route.{Route}
 use Rattle.ilk_plant.proofs.Rules.{rule-kept}
 use Rattle.ilk_model.specs.Holding.{continues_without_board}
-use Rattle.ilk_strict.specs.IsStrict.{KeepsPathRules, ends_at_board_or_border, path_points_listed_along_path}
-use Rattle.ilk_answers.specs.Strict.{has_beginning, harmless_refusal_beginnings}
+use Rattle.ilk_strict.specs.IsStrict.{KeepsPathRules, does_not_end_between_boards, path_points_listed_along_path}
+use Rattle.ilk_answers.specs.Strict.{has_one_of_beginnings, harmless_refusal_beginnings}
 
 abbrev pub is_harmless : Rule → Bool
 is_harmless C4 = true
@@ -32,7 +32,7 @@ is_harmless C6 = true
 is_harmless C8 = true
 is_harmless _ = false
 
-pub harmless-begins : (rule : Rule) (place : Bytes) → has_beginning harmless_refusal_beginnings (codes "refused " ++ (rule_word rule ++ (codes " " ++ place))) ≡ true → is_harmless rule ≡ true
+pub harmless-begins : (rule : Rule) (place : Bytes) → has_one_of_beginnings harmless_refusal_beginnings (codes "refused " ++ (rule_word rule ++ (codes " " ++ place))) ≡ true → is_harmless rule ≡ true
 harmless-begins N1 place h = h
 harmless-begins N2 place h = h
 harmless-begins N3 place h = h
@@ -127,28 +127,28 @@ ends-not_plain p d None x h = alone (has_no_board p d x) (length (next_to p x d)
 pub harmless-keeps : (p : PlantLists) → are_harmless (column_rules_broken p) ≡ true → KeepsPathRules p
 harmless-keeps p all = record {
   c1 = kept-at C1 (length p.routes) (breaks_column_rule_at p C1) refl (of_rule 0 C1 refl);
-  c2 = λ i less. fails-more p (ends_at_board_or_border p) (path_destination_is_first_board p) i ends (kept-at C2 (length p.routes) (breaks_column_rule_at p C2) refl (of_rule 1 C2 refl) i less);
+  c2 = λ i less. fails-more p (does_not_end_between_boards p) (path_destination_is_first_board p) i ends (kept-at C2 (length p.routes) (breaks_column_rule_at p C2) refl (of_rule 1 C2 refl) i less);
   c3 = λ i less. fails-more p (path_points_listed_along_path p) (path_and_overlap_points_listed p) i (λ route h. (and_parts (path_points_listed_along_path p route) _ h).0) (kept-at C3 (length p.routes) (breaks_column_rule_at p C3) refl
       (of_rule 2 C3 refl) i less);
   c7 = kept-at C7 (length p.sections) (breaks_column_rule_at p C7) refl (of_rule 6 C7 refl);
 }
   where
-    of_rule : (k : ℕ) (rule : Rule) → slice_get column_rules k ≡ Some rule → are_harmless (broken_for_column_rule p rule) ≡ true
-    of_rule k rule at = part-harmless (broken_for_column_rule p) column_rules k rule at all
+    of_rule : (k : ℕ) (rule : Rule) → slice_get all_column_rules k ≡ Some rule → are_harmless (broken_for_column_rule p rule) ≡ true
+    of_rule k rule at = part-harmless (broken_for_column_rule p) all_column_rules k rule at all
 
     of_end : (d : Dir) (destination : Option ℕ) (path : List ℕ) → destination_is_first_board p d destination path ≡ true → is_some_and (last_of path) (λ x. not (continues_without_board p d x)) ≡ true
     of_end d destination path between =
         let end = (and_parts _ (is_some_and (last_of path) (ends_at_destination_or_border p d destination)) between).1 in
         passes-less (last_of path) (ends_at_destination_or_border p d destination) (λ x. not (continues_without_board p d x)) (ends-not_plain p d destination) end
 
-    ends : (route : Route) → path_destination_is_first_board p route ≡ true → ends_at_board_or_border p route ≡ true
+    ends : (route : Route) → path_destination_is_first_board p route ≡ true → does_not_end_between_boards p route ≡ true
     ends route h =
         passes-less (slice_get p.boards route.source) (λ b. destination_is_first_board p b.dir route.destination route.path)
         (λ b. is_some_and (last_of route.path) (λ x. not (continues_without_board p b.dir x)))
         (λ b between. of_end b.dir route.destination route.path between) h
 
 pub network-harmless : (net : NetDraft) → are_harmless (network_rules_broken net) ≡ true → network_rules_broken net ≡ []
-network-harmless net all = none-each network_rules (place_count_in_network net) (breaks_network_rule_at net) refl all
+network-harmless net all = none-each all_network_rules (place_count_in_network net) (breaks_network_rule_at net) refl all
 
 pub table-harmless : (net : NetDraft) (table : TableDraft) → are_harmless (table_rules_broken net table) ≡ true → table_rules_broken net table ≡ []
-table-harmless net table all = none-each table_rules (place_count_in_plant (plant_from_drafts net table)) (breaks_table_rule_at (plant_from_drafts net table)) refl all
+table-harmless net table all = none-each all_table_rules (place_count_in_plant (plant_from_drafts net table)) (breaks_table_rule_at (plant_from_drafts net table)) refl all

@@ -30,10 +30,10 @@ use Rattle.ilk_words.specs.declared.lengths.TheConstants.{MAX_CONFIGURATION_BYTE
 use Rattle.ilk_words.specs.declared.limits.TheConstants.{MAX_DEPTH, MAX_TOTAL_CONFLICTS}
 use Rattle.ilk_words.specs.declared.plan.CheckedRuleStages.{CheckedRuleStages}
 use Rattle.ilk_words.specs.declared.plan.CheckedRuleStages.TheVariants.{All, Network}
-use Rattle.ilk_answers.specs.Answer.{AnswersPlantOrRefusals, IsAnswerTo, refusals_from_form_fault, plant_of_conf, plant_of_drafts, refusals_if_any_broken_rules}
+use Rattle.ilk_answers.specs.Answer.{AnswersOnPlantOrRefuses, IsAnswerTo, refusals_from_form_fault, plant_or_refusals_of_conf, plant_of_drafts, refusals_if_any_broken_rules}
 use Rattle.ilk_answers.specs.Besides.{AnswersForSomeExtraInput}
 use Rattle.ilk_answers.specs.Stages.{broken_column_rules_if_strict, first_nonempty_broken, first_broken_stage_rules}
-use Rattle.ilk_answers.specs.Strict.{HasSafePlantDespiteColumns, ReplyHasTableOfConf, IsCleanAndKeepsInvariant, StrictlyCleanConfHasPlant, GivesPlantIfColumnsUnchecked, ReplyHasStrictGuarantees, SaysSafeAtOneOrSpent, DriveReportsNoHazard, lines_have_beginnings, harmless_refusal_beginnings}
+use Rattle.ilk_answers.specs.Strict.{HasSafePlantDespiteColumns, ReplyHasTableOfConf, IsCleanAndKeepsInvariant, IsStrictlyCleanWithPlant, FreeColumnPlantIsValid, ReplyHasStrictGuarantees, SaysSafeAtOneOrSpent, DriveReportsNoHazard, lines_have_beginnings, harmless_refusal_beginnings}
 use Rattle.ilk_answers.specs.Verdicts.{AnswersWithRightVerdict, verdict_line, verdict_run_text, verdict_status}
 use Rattle.ilk_answers.specs.declared.refusals.Refusals.{Refusals}
 use Rattle.ilk_answers.specs.declared.reply.Reply.{Reply}
@@ -43,7 +43,7 @@ use Rattle.ilk_answers.proofs.Deviations.{deviations-safe}
 use Rattle.ilk_answers.proofs.Drives.{drive-right}
 use Rattle.ilk_answers.proofs.Tables.{table-right}
 
-clean-columns : (conf : List ℕ) (p : PlantLists) → StrictlyCleanConfHasPlant conf p → column_rules_broken p ≡ []
+clean-columns : (conf : List ℕ) (p : PlantLists) → IsStrictlyCleanWithPlant conf p → column_rules_broken p ≡ []
 clean-columns conf p clean = of_length (nat_lt MAX_CONFIGURATION_BYTES (length conf)) clean
   where
     of_drafts : (drafts : Result (NetDraft × TableDraft) FormFault) → plant_of_drafts (All Strict) drafts ≡ Ok p → column_rules_broken p ≡ []
@@ -61,7 +61,7 @@ clean-columns conf p clean = of_length (nat_lt MAX_CONFIGURATION_BYTES (length c
     of_length false e = of_drafts (net_and_table_drafts conf) e
 
 check-safe : (conf : List ℕ) (found : Result PlantLists Refusals) (extra : Option (List ℕ)) (made : Reply) →
-    found ≡ plant_of_conf (All Strict) conf → IfOk found IsAcyclicFromSoundDrafts → AnswersPlantOrRefusals (Check Strict) found extra made →
+    found ≡ plant_or_refusals_of_conf (All Strict) conf → IfOk found IsAcyclicFromSoundDrafts → AnswersOnPlantOrRefuses (Check Strict) found extra made →
     made.status ≡ Good → IsCleanAndKeepsInvariant conf
 check-safe conf (Err refusals) extra made known sound told good =
     let refused : IsRefused ≡ Good = ap (λ (r : Reply). r.status) (sym told) ∙ good in absurd (cc)
@@ -93,7 +93,7 @@ verify-safe :
     (found : Result PlantLists Refusals) (conf : List ℕ) (depth conflicts : ℕ) (cert : List ℕ)
     (extra : Option (List ℕ)) (made : Reply) (p : PlantLists) → found ≡ Ok p →
     IfOk found IsAcyclicFromSoundDrafts → within_option_limits (Verify Strict depth conflicts cert) ≡ true →
-    AnswersPlantOrRefusals (Verify Strict depth conflicts cert) found extra made → StrictlyCleanConfHasPlant conf p →
+    AnswersOnPlantOrRefuses (Verify Strict depth conflicts cert) found extra made → IsStrictlyCleanWithPlant conf p →
     SaysSafeAtOneOrSpent p depth conflicts made
 verify-safe (Err refusals) conf depth conflicts cert extra made p is sound limits told clean = absurd (cc)
 verify-safe (Ok q) conf depth conflicts cert extra made p is sound limits told clean =
@@ -101,8 +101,8 @@ verify-safe (Ok q) conf depth conflicts cert extra made p is sound limits told c
     let tells : AnswersWithRightVerdict q depth conflicts made = told in
     tells-at_one p depth conflicts made (subst IsPlant same sound.plant) (clean-columns conf p clean) (some-depth depth conflicts cert limits) (subst (λ r. AnswersWithRightVerdict r depth conflicts made) same tells)
 
-drive-safe : (conf : List ℕ) (found : Result PlantLists Refusals) (run text : List ℕ) (made : Reply) → found ≡ plant_of_conf (All Strict) conf → IfOk found IsAcyclicFromSoundDrafts →
-    AnswersPlantOrRefusals (Drive Strict run) found (Some text) made → made.status ≢ Unsafe
+drive-safe : (conf : List ℕ) (found : Result PlantLists Refusals) (run text : List ℕ) (made : Reply) → found ≡ plant_or_refusals_of_conf (All Strict) conf → IfOk found IsAcyclicFromSoundDrafts →
+    AnswersOnPlantOrRefuses (Drive Strict run) found (Some text) made → made.status ≢ Unsafe
 drive-safe conf (Err refusals) run text made known sound told e =
     let refused : IsRefused ≡ Unsafe = ap (λ (r : Reply). r.status) (sym told) ∙ e in absurd (cc)
 drive-safe conf (Ok p) run text made known sound told e =
@@ -115,49 +115,49 @@ sound-at (Ok q) sound p is = let same : q ≡ p = cc in subst IsAcyclicFromSound
 module _ (command : Command) (stages : CheckedRuleStages) (planned : (plan_of command).stages ≡ Some stages)
     (found : Result PlantLists Refusals) (sound : IfOk found IsAcyclicFromSoundDrafts) (extra : Option (List ℕ)) (made : Reply)
     (some : AnswersForSomeExtraInput command found extra made) where
-  asked-by : (c : List ℕ) (asked : Command) (s : CheckedRuleStages) → command ≡ asked → (plan_of asked).stages ≡ Some s → found ≡ plant_of_conf stages c → found ≡ plant_of_conf s c
+  asked-by : (c : List ℕ) (asked : Command) (s : CheckedRuleStages) → command ≡ asked → (plan_of asked).stages ≡ Some s → found ≡ plant_or_refusals_of_conf stages c → found ≡ plant_or_refusals_of_conf s c
   asked-by c asked s is by known =
       let same : Some stages ≡ Some s = sym planned ∙ ap (λ k. (plan_of k).stages) is ∙ by in
-      known ∙ ap (λ o. plant_of_conf o c) (same_Some stages s same)
+      known ∙ ap (λ o. plant_or_refusals_of_conf o c) (same_Some stages s same)
 
-  told-as : (asked : Command) → command ≡ asked → AnswersPlantOrRefusals asked found (Some some.text) made
-  told-as asked is = subst (λ k. AnswersPlantOrRefusals k found (Some some.text) made) is some.answer
+  told-as : (asked : Command) → command ≡ asked → AnswersOnPlantOrRefuses asked found (Some some.text) made
+  told-as asked is = subst (λ k. AnswersOnPlantOrRefuses k found (Some some.text) made) is some.answer
 
-  check-right : (conf : Option (List ℕ)) → IfSome conf (λ c. found ≡ plant_of_conf stages c) → command ≡ Check Strict → made.status ≡ Good → IfSome conf IsCleanAndKeepsInvariant
+  check-right : (conf : Option (List ℕ)) → IfSome conf (λ c. found ≡ plant_or_refusals_of_conf stages c) → command ≡ Check Strict → made.status ≡ Good → IfSome conf IsCleanAndKeepsInvariant
   check-right None known is good = tt
   check-right (Some c) known is good =
       check-safe c found (Some some.text) made (asked-by c (Check Strict) (All Strict) is refl known) sound (told-as (Check Strict) is) good
 
-  deviations-right : (conf : Option (List ℕ)) → IfSome conf (λ c. found ≡ plant_of_conf stages c) →
-      IfSome conf GivesPlantIfColumnsUnchecked → command ≡ Check Strict → made.status ≡ IsRefused →
+  deviations-right : (conf : Option (List ℕ)) → IfSome conf (λ c. found ≡ plant_or_refusals_of_conf stages c) →
+      IfSome conf FreeColumnPlantIsValid → command ≡ Check Strict → made.status ≡ IsRefused →
       lines_have_beginnings harmless_refusal_beginnings made.report ≡ true → IfSome conf HasSafePlantDespiteColumns
   deviations-right None known plant is refused lines = tt
   deviations-right (Some c) known plant is refused lines =
       deviations-safe c found (Some some.text) made (asked-by c (Check Strict) (All Strict) is refl known) plant (told-as (Check Strict) is) refused lines
 
   verify-right : (conf : Option (List ℕ)) → within_option_limits command ≡ true →
-      IfSome conf (λ c. found ≡ plant_of_conf stages c) → (depth conflicts : ℕ) (cert : List ℕ) →
+      IfSome conf (λ c. found ≡ plant_or_refusals_of_conf stages c) → (depth conflicts : ℕ) (cert : List ℕ) →
       command ≡ Verify Strict depth conflicts cert → (bytes : List ℕ) (p : PlantLists) → conf ≡ Some bytes →
-      StrictlyCleanConfHasPlant bytes p → SaysSafeAtOneOrSpent p depth conflicts made
+      IsStrictlyCleanWithPlant bytes p → SaysSafeAtOneOrSpent p depth conflicts made
   verify-right None limits known depth conflicts cert is bytes p at clean = absurd (cc)
   verify-right (Some c) limits known depth conflicts cert is bytes p at clean =
-      let here : found ≡ Ok p = asked-by c (Verify Strict depth conflicts cert) (All Strict) is refl known ∙ ap (plant_of_conf (All Strict)) (same_Some c bytes at) ∙ clean in
+      let here : found ≡ Ok p = asked-by c (Verify Strict depth conflicts cert) (All Strict) is refl known ∙ ap (plant_or_refusals_of_conf (All Strict)) (same_Some c bytes at) ∙ clean in
       verify-safe found bytes depth conflicts cert (Some some.text) made p here sound (subst (λ k. within_option_limits k ≡ true) is limits) (told-as (Verify Strict depth conflicts cert) is) clean
 
-  routes-right : (conf : Option (List ℕ)) → IfSome conf (λ c. found ≡ plant_of_conf stages c) → (columns : ColumnRuleMode) → command ≡ Table columns → made.status ≡ Good → IfSome conf (λ c. ReplyHasTableOfConf columns c made)
+  routes-right : (conf : Option (List ℕ)) → IfSome conf (λ c. found ≡ plant_or_refusals_of_conf stages c) → (columns : ColumnRuleMode) → command ≡ Table columns → made.status ≡ Good → IfSome conf (λ c. ReplyHasTableOfConf columns c made)
   routes-right None known columns is good = tt
   routes-right (Some c) known columns is good =
       table-right columns c found (Some some.text) made (asked-by c (Table columns) (Network columns) is refl known) (sound-at found sound) (told-as (Table columns) is) good
 
-  scene-right : (conf : Option (List ℕ)) → IfSome conf (λ c. found ≡ plant_of_conf stages c) → (run bytes : List ℕ) → command ≡ Drive Strict run → conf ≡ Some bytes → DriveReportsNoHazard run bytes extra made
+  scene-right : (conf : Option (List ℕ)) → IfSome conf (λ c. found ≡ plant_or_refusals_of_conf stages c) → (run bytes : List ℕ) → command ≡ Drive Strict run → conf ≡ Some bytes → DriveReportsNoHazard run bytes extra made
   scene-right None known run bytes is at = absurd (cc)
   scene-right (Some c) known run bytes is at =
-      let here : found ≡ plant_of_conf (All Strict) c = asked-by c (Drive Strict run) (All Strict) is refl known in
-      let told : AnswersPlantOrRefusals (Drive Strict run) found (Some some.text) made = told-as (Drive Strict run) is in
+      let here : found ≡ plant_or_refusals_of_conf (All Strict) c = asked-by c (Drive Strict run) (All Strict) is refl known in
+      let told : AnswersOnPlantOrRefuses (Drive Strict run) found (Some some.text) made = told-as (Drive Strict run) is in
       record {
         scenario = some.text;
         whole = some.whole;
-        answer = subst (λ b. IsAnswerTo (Some (Drive Strict run)) (Some b) (Some some.text) made) (same_Some c bytes at) (subst (λ f. AnswersPlantOrRefusals (Drive Strict run) f (Some some.text) made) here told);
+        answer = subst (λ b. IsAnswerTo (Some (Drive Strict run)) (Some b) (Some some.text) made) (same_Some c bytes at) (subst (λ f. AnswersOnPlantOrRefuses (Drive Strict run) f (Some some.text) made) here told);
         safe = drive-safe c found run some.text made here sound told;
       }
 
@@ -165,7 +165,7 @@ pub strictly-right :
     {E : Type 0} (command : Command) (stages : CheckedRuleStages) (conf extra : Option (List ℕ))
     (found : Result PlantLists Refusals) (made : Result Reply E) →
     (plan_of command).stages ≡ Some stages → within_option_limits command ≡ true →
-    IfSome conf (λ c. found ≡ plant_of_conf stages c) → IfSome conf GivesPlantIfColumnsUnchecked → IfOk found IsAcyclicFromSoundDrafts →
+    IfSome conf (λ c. found ≡ plant_or_refusals_of_conf stages c) → IfSome conf FreeColumnPlantIsValid → IfOk found IsAcyclicFromSoundDrafts →
     IfOk made (AnswersForSomeExtraInput command found extra) → IfOk made (ReplyHasStrictGuarantees (Some command) conf extra)
 strictly-right command stages conf extra found (Err e) planned limits known plant sound some = tt
 strictly-right command stages conf extra found (Ok made) planned limits known plant sound some = record {

@@ -32,7 +32,7 @@ use Rattle.ilk_answers.specs.Refutations.{AnswersRefutationText}
 use Rattle.ilk_answers.specs.Tables.{AnswersTableOrWhyNone}
 use Rattle.ilk_answers.specs.Verdicts.{ReplyHasQueryFormulaText, AnswersWithRightVerdict, query_from_kind_and_length}
 use Rattle.ilk_answers.specs.Report.{clean_line, hazard_line, no_hazard_line, first_non_run_event_message, first_bad_line_message, reply}
-use Rattle.ilk_answers.specs.Stages.{table_to_check, first_broken_stage_rules}
+use Rattle.ilk_answers.specs.Stages.{table_unless_network_only, first_broken_stage_rules}
 use Rattle.ilk_answers.specs.Refusal.{refusal_line}
 use Rattle.ilk_answers.specs.declared.refusals.Refusal.{Refusal}
 use Rattle.ilk_answers.specs.declared.refusals.Refusal.TheVariants.{Form as FormRefusal, Rule as RuleRefusal}
@@ -62,12 +62,12 @@ refusals_or_value (Some refusals) x = Err refusals
 abbrev pub plant_of_drafts : CheckedRuleStages → Result (NetDraft × TableDraft) FormFault → Result PlantLists Refusals
 plant_of_drafts stages (Err fault) = Err (refusals_from_form_fault fault)
 plant_of_drafts stages (Ok (net, table)) =
-    refusals_or_value (refusals_if_any_broken_rules (first_broken_stage_rules stages net table)) (plant_from_drafts net (table_to_check stages table))
+    refusals_or_value (refusals_if_any_broken_rules (first_broken_stage_rules stages net table)) (plant_from_drafts net (table_unless_network_only stages table))
 
 -- The plant of a configuration, or its refusals. More than `MAX_CONFIGURATION_BYTES` bytes break
 -- F1.
-abbrev pub plant_of_conf : CheckedRuleStages → List ℕ → Result PlantLists Refusals
-plant_of_conf stages conf =
+abbrev pub plant_or_refusals_of_conf : CheckedRuleStages → List ℕ → Result PlantLists Refusals
+plant_or_refusals_of_conf stages conf =
     if nat_lt MAX_CONFIGURATION_BYTES (length conf) then Err (refusals_from_form_fault (rule_fault_at_place F1 Document)) else plant_of_drafts stages (net_and_table_drafts conf)
 
 -- The plant of the configuration or its refusals; `None` if the plan reads no configuration or its
@@ -75,7 +75,7 @@ plant_of_conf stages conf =
 abbrev pub plant_or_refusals_if_exposed : CommandPlan → Option (List ℕ) → Option (Result PlantLists Refusals)
 plant_or_refusals_if_exposed plan conf = do
   stages ← plan.stages
-  option_map (plant_of_conf stages) conf
+  option_map (plant_or_refusals_of_conf stages) conf
 
 abbrev pub refusal_lines_of_broken_rules : List Broken → List ℕ
 refusal_lines_of_broken_rules found = flat_map (λ b. refusal_line (RuleRefusal b)) found
@@ -126,16 +126,16 @@ AnswersOrRefusesTooLong true command p extra made = AnswersPlantAndExtra command
 -- Holds if a reply answers a command on plant `p` and the extra input. `Some limit` is the most
 -- bytes of that input; `None` if the command reads none. If an input is read but not exposed, any
 -- reply will do.
-abbrev pub AnswersPlantIfExtraExposed : Option ℕ → Command → PlantLists → Option (List ℕ) → Reply → Type 0
-AnswersPlantIfExtraExposed None command p extra made = AnswersPlantAndExtra command p [] made
-AnswersPlantIfExtraExposed (Some limit) command p extra made =
+abbrev pub AnswersOnPlantIfExtraExposed : Option ℕ → Command → PlantLists → Option (List ℕ) → Reply → Type 0
+AnswersOnPlantIfExtraExposed None command p extra made = AnswersPlantAndExtra command p [] made
+AnswersOnPlantIfExtraExposed (Some limit) command p extra made =
     IfSome extra (λ x. AnswersOrRefusesTooLong (nat_le (length x) limit) command p x made)
 
 -- Holds if a reply answers a command on a plant and the extra input. If there are refusals instead
 -- of a plant, it has to refuse by them.
-abbrev pub AnswersPlantOrRefusals : Command → Result PlantLists Refusals → Option (List ℕ) → Reply → Type 0
-AnswersPlantOrRefusals command (Err refusals) extra made = made ≡ all_or_first_refusal_reply command refusals
-AnswersPlantOrRefusals command (Ok p) extra made = AnswersPlantIfExtraExposed (plan_of command).extra command p extra made
+abbrev pub AnswersOnPlantOrRefuses : Command → Result PlantLists Refusals → Option (List ℕ) → Reply → Type 0
+AnswersOnPlantOrRefuses command (Err refusals) extra made = made ≡ all_or_first_refusal_reply command refusals
+AnswersOnPlantOrRefuses command (Ok p) extra made = AnswersOnPlantIfExtraExposed (plan_of command).extra command p extra made
 
 -- Holds if a reply answers a command on a configuration whose rules are checked in these stages;
 -- `None` if the command reads none. If the configuration is read but not exposed, any reply will
@@ -143,7 +143,7 @@ AnswersPlantOrRefusals command (Ok p) extra made = AnswersPlantIfExtraExposed (p
 abbrev pub AnswersIfConfExposed : Option CheckedRuleStages → Command → Option (List ℕ) → Option (List ℕ) → Reply → Type 0
 AnswersIfConfExposed None command conf extra made = AnswersWithoutConf command made
 AnswersIfConfExposed (Some stages) command conf extra made =
-    IfSome conf (λ bytes. AnswersPlantOrRefusals command (plant_of_conf stages bytes) extra made)
+    IfSome conf (λ bytes. AnswersOnPlantOrRefuses command (plant_or_refusals_of_conf stages bytes) extra made)
 
 -- Holds if a reply answers these inputs: the command that the arguments give, the configuration and
 -- the extra input. Without a command, it has to be the usage error.
@@ -158,8 +158,8 @@ command_plan_or_empty (Some command) = plan_of command
 
 -- Returns whether the extra input is reached, which needs a configuration that gives a plant;
 -- `None` if that is unknown.
-abbrev pub reads_extra_if_known : CommandPlan → Option (List ℕ) → Option Bool
-reads_extra_if_known plan conf = option_map is_ok (plant_or_refusals_if_exposed plan conf)
+abbrev pub is_extra_reached_if_exposed : CommandPlan → Option (List ℕ) → Option Bool
+is_extra_reached_if_exposed plan conf = option_map is_ok (plant_or_refusals_if_exposed plan conf)
 
 -- The maximum number of bytes of the configuration, or `None` if the plan reads none.
 abbrev pub max_conf_bytes_if_read : CommandPlan → Option ℕ

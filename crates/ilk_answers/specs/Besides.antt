@@ -2,7 +2,7 @@
 use Rattle.std.specs.Prelude.{ℕ, ◌≡◌, Option, Some, IfSome, Result, List}
 use Rattle.ilk_plant.specs.Plant.{PlantLists}
 use Rattle.ilk_words.specs.declared.command.Command.{Command}
-use Rattle.ilk_answers.specs.Answer.{AnswersPlantOrRefusals}
+use Rattle.ilk_answers.specs.Answer.{AnswersOnPlantOrRefuses}
 use Rattle.ilk_answers.specs.declared.refusals.Refusals.{Refusals}
 use Rattle.ilk_answers.specs.declared.reply.Reply.{Reply}
 
@@ -11,4 +11,4 @@ use Rattle.ilk_answers.specs.declared.reply.Reply.{Reply}
 pub record AnswersForSomeExtraInput (command : Command) (found : Result PlantLists Refusals) (extra : Option (List ℕ)) (made : Reply) : Type 0 where
   pub text : List ℕ
   pub whole : IfSome extra (λ bytes. text ≡ bytes)
-  pub answer : AnswersPlantOrRefusals command found (Some text) made
+  pub answer : AnswersOnPlantOrRefuses command found (Some text) made

@@ -29,8 +29,8 @@ place_text (Section i) = indexed_entry_text (codes "sections") i
 place_text (Route i) = indexed_entry_text (codes "routes") i
 
 -- The text of the one or two places at which a rule is broken, such as `routes[3]`.
-abbrev pub broken_places_text : Broken → List ℕ
-broken_places_text broken = with_second broken.second
+abbrev pub broken_place_or_pair_text : Broken → List ℕ
+broken_place_or_pair_text broken = with_second broken.second
   where
     with_second : Option ℕ → List ℕ
     with_second None = indexed_entry_text (place_kind_word (place_kind_of broken.rule)) broken.first
@@ -44,4 +44,4 @@ refusal_line_for_rule rule place = codes "refused " ++ (rule ++ (codes " " ++ (p
 
 abbrev pub refusal_line : Refusal → List ℕ
 refusal_line (FormRefusal fault) = refusal_line_for_rule (form_rule_name fault.rule) (place_text fault.place)
-refusal_line (RuleRefusal broken) = refusal_line_for_rule (rule_word broken.rule) (broken_places_text broken)
+refusal_line (RuleRefusal broken) = refusal_line_for_rule (rule_word broken.rule) (broken_place_or_pair_text broken)

@@ -32,9 +32,9 @@ borders_without_board_if_strict Strict p = broken_for_column_rule p C7
 borders_without_board_if_strict Free p = []
 
 -- The table whose rules are checked: without routes if only the network is checked.
-abbrev pub table_to_check : CheckedRuleStages → TableDraft → TableDraft
-table_to_check (All columns) table = table
-table_to_check (Network columns) table = no_routes
+abbrev pub table_unless_network_only : CheckedRuleStages → TableDraft → TableDraft
+table_unless_network_only (All columns) table = table
+table_unless_network_only (Network columns) table = no_routes
 
 -- The broken rules of the first stage that has any: the network's, the table's or the columns'.
 abbrev pub first_broken_stage_rules : CheckedRuleStages → NetDraft → TableDraft → List Broken

@@ -15,25 +15,25 @@ use Rattle.ilk_words.specs.declared.plan.CheckedRuleStages.TheVariants.{All}
 use Rattle.ilk_plant.specs.declared.draft.NetDraft.{NetDraft}
 use Rattle.ilk_plant.specs.declared.draft.TableDraft.{TableDraft}
 use Rattle.ilk_table_read.specs.Table.{net_and_table_drafts}
-use Rattle.ilk_answers.specs.Answer.{IsAnswerTo, plant_of_conf}
+use Rattle.ilk_answers.specs.Answer.{IsAnswerTo, plant_or_refusals_of_conf}
 use Rattle.ilk_answers.specs.Tables.{ReplyHasValidNetworkTable}
 use Rattle.ilk_answers.specs.declared.reply.Reply.{Reply}
 use Rattle.ilk_answers.specs.declared.status.Status.TheVariants.{Good, Refused, Spent, Unsafe}
 
 -- Holds if a configuration breaks no rule, not even one of the columns, and `p` is its plant.
-abbrev pub StrictlyCleanConfHasPlant : List ℕ → PlantLists → Type 0
-StrictlyCleanConfHasPlant conf p = plant_of_conf (All Strict) conf ≡ Ok p
+abbrev pub IsStrictlyCleanWithPlant : List ℕ → PlantLists → Type 0
+IsStrictlyCleanWithPlant conf p = plant_or_refusals_of_conf (All Strict) conf ≡ Ok p
 
 -- Holds if a configuration breaks no rule, not even one of the columns, and its plant is safe: runs
 -- of any length from the initial state keep the invariant.
 pub record IsCleanAndKeepsInvariant (conf : List ℕ) : Type 0 where
   pub plant : PlantLists
-  pub clean : StrictlyCleanConfHasPlant conf plant
+  pub clean : IsStrictlyCleanWithPlant conf plant
   pub safe : AlwaysKeepsInvariant plant
 
 -- Holds if a configuration is refused even with free columns, or its plant is valid.
-abbrev pub GivesPlantIfColumnsUnchecked : List ℕ → Type 0
-GivesPlantIfColumnsUnchecked conf = IfOk (plant_of_conf (All Free) conf) IsPlant
+abbrev pub FreeColumnPlantIsValid : List ℕ → Type 0
+FreeColumnPlantIsValid conf = IfOk (plant_or_refusals_of_conf (All Free) conf) IsPlant
 
 -- The beginnings of the report lines that refuse by a rule which safety doesn't need: C4, C5, C6
 -- and C8.
@@ -41,33 +41,33 @@ abbrev pub harmless_refusal_beginnings : List Bytes
 harmless_refusal_beginnings = codes "refused C4 " ∷ codes "refused C5 " ∷ codes "refused C6 " ∷ codes "refused C8 " ∷ []
 
 -- Returns whether a line starts with one of the texts `beginnings`.
-abbrev pub has_beginning : List Bytes → Bytes → Bool
-has_beginning beginnings line = list_any (λ beginning. starts_with ◌==◌ line beginning) beginnings
+abbrev pub has_one_of_beginnings : List Bytes → Bytes → Bool
+has_one_of_beginnings beginnings line = list_any (λ beginning. starts_with ◌==◌ line beginning) beginnings
 
 -- Returns whether each line of a report starts with one of the texts `beginnings`.
 abbrev pub lines_have_beginnings : List Bytes → Bytes → Bool
-lines_have_beginnings beginnings report = list_all (has_beginning beginnings) (lines_of report)
+lines_have_beginnings beginnings report = list_all (has_one_of_beginnings beginnings) (lines_of report)
 
 -- Holds if each line of a report starts with one of the texts `beginnings`.
-pub record HasOnlyLines (beginnings : List Bytes) (report : Bytes) : Type 0 where
+pub record LinesHaveBeginnings (beginnings : List Bytes) (report : Bytes) : Type 0 where
   pub each : IsTrue (lines_have_beginnings beginnings report)
 
 -- Holds if a configuration breaks at most column rules, and its plant is safe for runs of any
 -- length.
 pub record HasSafePlantDespiteColumns (conf : List ℕ) : Type 0 where
   pub plant : PlantLists
-  pub read : plant_of_conf (All Free) conf ≡ Ok plant
+  pub read : plant_or_refusals_of_conf (All Free) conf ≡ Ok plant
   pub safe : AlwaysKeepsInvariant plant
 
 -- Holds if a reply reports `safe k=1` for plant `p`, with the certificate of that verdict.
-pub record CertifiesSafeAtOne (p : PlantLists) (depth conflicts : ℕ) (made : Reply) : Type 0 where
+pub record ReplyCertifiesSafeAtOne (p : PlantLists) (depth conflicts : ℕ) (made : Reply) : Type 0 where
   pub status : made.status ≡ Good
   pub report : made.report ≡ codes "safe k=" ++ decimal 1 ++ 10 ∷ []
   pub certificate : IsCertificateTextOfVerdict p depth conflicts (Safe 1) made.certificate
 
 -- Holds if a reply reports `safe k=1` with its certificate, or that all conflicts are spent.
 abbrev pub SaysSafeAtOneOrSpent : PlantLists → ℕ → ℕ → Reply → Type 0
-SaysSafeAtOneOrSpent p depth conflicts made = CertifiesSafeAtOne p depth conflicts made ⊎ (made.status ≡ Spent)
+SaysSafeAtOneOrSpent p depth conflicts made = ReplyCertifiesSafeAtOne p depth conflicts made ⊎ (made.status ≡ Spent)
 
 -- Holds if a reply of `drive` with strict columns is right on the configuration and reports no
 -- hazard. The scenario is the extra input, if that is exposed, otherwise some text.
@@ -91,9 +91,9 @@ pub record ReplyHasStrictGuarantees (asked : Option Command) (conf extra : Optio
   -- If `check` returns `Good`, the plant is safe for runs of any length.
   pub check : asked ≡ Some (Check Strict) → made.status ≡ Good → IfSome conf IsCleanAndKeepsInvariant
   -- If `check` refuses only by C4, C5, C6 and C8, the plant is safe for runs of any length.
-  pub deviations : asked ≡ Some (Check Strict) → made.status ≡ Refused → HasOnlyLines harmless_refusal_beginnings made.report → IfSome conf HasSafePlantDespiteColumns
+  pub deviations : asked ≡ Some (Check Strict) → made.status ≡ Refused → LinesHaveBeginnings harmless_refusal_beginnings made.report → IfSome conf HasSafePlantDespiteColumns
   -- If no rule is broken, `verify` reports `safe k=1` or spent conflicts.
-  pub verify : (depth conflicts : ℕ) (cert : List ℕ) → asked ≡ Some (Verify Strict depth conflicts cert) → (bytes : List ℕ) (p : PlantLists) → conf ≡ Some bytes → StrictlyCleanConfHasPlant bytes p → SaysSafeAtOneOrSpent p depth conflicts made
+  pub verify : (depth conflicts : ℕ) (cert : List ℕ) → asked ≡ Some (Verify Strict depth conflicts cert) → (bytes : List ℕ) (p : PlantLists) → conf ≡ Some bytes → IsStrictlyCleanWithPlant bytes p → SaysSafeAtOneOrSpent p depth conflicts made
   -- If `table` returns `Good`, its table breaks no rule but C7. With strict columns it breaks none,
   -- and its plant is safe for runs of any length.
   pub table : (columns : ColumnRuleMode) → asked ≡ Some (Table columns) → made.status ≡ Good → IfSome conf (λ bytes. ReplyHasTableOfConf columns bytes made)

@@ -5,7 +5,7 @@ ghost use Rattle.ilk_answers.specs.Status.{is_fault_free_command_status};
 
 use crate::report::{certificate_accepted_line, first_bad_line_message};
 use crate::{Reply, Status};
-use ilk_cert_audit::line_numbers_fit_in_u64;
+use ilk_cert_audit::rejected_line_is_first_bad;
 use ilk_forever::certificates_imply_safety;
 use ilk_plant::Plant;
 use ilk_plant_audit::{CertAudit, Ended};
@@ -26,7 +26,7 @@ pub(crate) fn audit_reply(
         (λ made. IsTrue (is_fault_free_command_status made.status) × (made.certificate ≡ [])) }
 {
     certificates_imply_safety(plant);
-    line_numbers_fit_in_u64();
+    rejected_line_is_first_bad();
     match audit.end() {
         Ended::Accepted { k } => {
             let text = certificate_accepted_line(alloc, k)?;

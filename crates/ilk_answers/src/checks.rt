@@ -5,7 +5,7 @@ ghost use Rattle.ilk_plant.specs.NetNames.{HasBoardsAndNamesOf};
 ghost use Rattle.ilk_plant.specs.NetworkRules.{network_rules_broken};
 ghost use Rattle.ilk_plant.specs.TableRules.{table_rules_broken};
 ghost use Rattle.ilk_answers.specs.Answer.{refusals_or_value, refusals_if_any_broken_rules};
-ghost use Rattle.ilk_answers.specs.Stages.{table_to_check, borders_without_board_if_strict, broken_column_rules_if_strict, first_nonempty_broken, first_broken_stage_rules};
+ghost use Rattle.ilk_answers.specs.Stages.{table_unless_network_only, borders_without_board_if_strict, broken_column_rules_if_strict, first_nonempty_broken, first_broken_stage_rules};
 ghost use Rattle.ilk_tablegen.specs.Rules.{no_routes};
 
 use crate::Refusals;
@@ -186,7 +186,7 @@ pub(crate) fn check_drafts(
         (λ found. found
         ≡ refusals_or_value (refusals_if_any_broken_rules (first_broken_stage_rules stages net.now
         table.now))
-        (plant_from_drafts net.now (table_to_check stages table.now))) }
+        (plant_from_drafts net.now (table_unless_network_only stages table.now))) }
 {
     match stages {
         CheckedRuleStages::All(columns) => check_all(alloc, columns, net, table),

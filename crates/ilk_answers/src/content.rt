@@ -27,9 +27,9 @@ impl Model for PendingOutput {
 
     ghost Value = { List ℕ };
 
-    ghost use Rattle.ilk_answers.specs.Untaken.{unread_bytes};
+    ghost use Rattle.ilk_answers.specs.Untaken.{pending_output_bytes};
 
-    ghost view = { λ content. unread_bytes content.source };
+    ghost view = { λ content. pending_output_bytes content.source };
 }
 
 impl PendingOutput {

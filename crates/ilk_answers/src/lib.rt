@@ -2,8 +2,8 @@
 //! some commands read. A call here fails only if memory runs out; `ilk_top` reads, writes and
 //! counts faults.
 //!
-//! `plant_of_conf` turns a configuration into a plant, or into all its refusals (`checks`,
-//! `refusals`). `refuse` is the reply to refusals.
+//! `plant_or_refusals_of_conf` turns a configuration into a plant, or into all its refusals
+//! (`checks`, `refusals`). `refuse` is the reply to refusals.
 //!
 //! `answer_without_extra` is the reply of a command without extra input: the verdict (`verify`),
 //! the table of routes (`table`) or a formula (`export`). `answer` is the reply to a certificate
@@ -37,7 +37,7 @@ mod table;
 mod verify;
 
 pub use answering::{answer, answer_without_conf, answer_without_extra};
-pub use configuration::plant_of_conf;
+pub use configuration::plant_or_refusals_of_conf;
 pub use content::PendingOutput;
 pub use reader::ExtraInputReader;
 pub use refusals::{Refusal, Refusals};

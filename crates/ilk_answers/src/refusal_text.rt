@@ -1,7 +1,7 @@
 //! The line that a refusal prints, and its parts.
 
 ghost use Rattle.std.specs.Prelude.{◌≡◌, ◌++◌, IfOk, codes, string_bytes};
-ghost use Rattle.ilk_answers.specs.Refusal.{form_rule_name, place_text, broken_places_text, indexed_entry_text, refusal_line, refusal_line_for_rule};
+ghost use Rattle.ilk_answers.specs.Refusal.{form_rule_name, place_text, broken_place_or_pair_text, indexed_entry_text, refusal_line, refusal_line_for_rule};
 
 use crate::Refusal;
 use ilk_net_read::{Form, Place};
@@ -40,7 +40,7 @@ pub(crate) fn indexed_entry_text(alloc: Global, places: &str, i: u32) -> Result<
 }
 
 fn broken_text(alloc: Global, broken: Broken) -> Result<String, AllocError>
-    ensures { IfOk result (λ text. string_bytes text ≡ broken_places_text broken) }
+    ensures { IfOk result (λ text. string_bytes text ≡ broken_place_or_pair_text broken) }
 {
     let places = broken.rule.places().word();
     let first = indexed_entry_text(alloc, places, broken.first)?;

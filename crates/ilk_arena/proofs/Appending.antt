@@ -4,8 +4,8 @@ use Rattle.std.proofs.Math.Seq.{drop-append-add}
 use Rattle.std.proofs.Math.ListN.{length-set}
 use Rattle.std.proofs.lemmas.Bool.Decides.{eqb_tells}
 use Rattle.std.proofs.lemmas.Grind.{common_steps}
-use Rattle.ilk_arena.specs.Words.{link_index, next_reference_in_chain, IsChainPath, AllSatisfy, IsMemberOf, HasWatch, left, right, Distinct, ChainsAreWatchPaths, AreHeadersInsideAndApart, with_chain_replaced}
-use Rattle.ilk_arena.specs.Linked.{literal_places_at, chain_for_place, HasWatchChains}
+use Rattle.ilk_arena.specs.Words.{link_index, next_reference_in_chain, IsChainPath, AllSatisfy, IsItemOfList, HasWatch, left, right, Distinct, ChainsAreWatchPaths, AreHeadersInsideAndApart, chains_with_one_replaced}
+use Rattle.ilk_arena.specs.Linked.{literal_places_at, chain_for_lit_place, HasWatchChains}
 use Rattle.ilk_arena.proofs.Paths.{frame}
 use Rattle.ilk_arena.proofs.HeaderWrites.{link_index-in}
 use Rattle.ilk_arena.proofs.ChainMoves.{each-map, by-pick}
@@ -39,7 +39,7 @@ grown ws xs hs R S cs hd f k = record {
 
 pub push-head : (ws hs : List ℕ) (R : ℕ → Type 0) (cs : ℕ → List ℕ) (t c : ℕ) → t < length hs → R c → 0 < c →
     HasWatch ws c t → next_reference_in_chain ws t c ≡ get_or hs t 0 → AllSatisfy (λ d. d ≢ c) (cs t) → ChainsAreWatchPaths ws hs R cs →
-    ChainsAreWatchPaths ws (set hs t c) R (with_chain_replaced cs t (c ∷ cs t))
+    ChainsAreWatchPaths ws (set hs t c) R (chains_with_one_replaced cs t (c ∷ cs t))
 push-head ws hs R cs t c h rc pos w e gone k =
     let n : length (set hs t c) ≡ length hs = simp length-set in
     let at : get_or (set hs t c) t 0 ≡ c = get_or-set_same hs t c 0 h in
@@ -50,15 +50,15 @@ push-head ws hs R cs t c h rc pos w e gone k =
       once = λ l i. by-pick cs t (c ∷ cs t) (length hs) (λ l ys. Distinct ys) (gone, k.once t h) (λ l m j. k.once l j) l (omega (arith, n));
     }
 
-pub stands-push : (refs : List ℕ) (c d : ℕ) → IsMemberOf (refs ++ (c ∷ [])) d → IsMemberOf refs d ⊎ (c ≡ d)
+pub stands-push : (refs : List ℕ) (c d : ℕ) → IsItemOfList (refs ++ (c ∷ [])) d → IsItemOfList refs d ⊎ (c ≡ d)
 stands-push [] c d s = elim s [ inl e ↦ inr e | inr r ↦ absurd r ]
 stands-push (x ∷ xs) c d s = elim s [ inl e ↦ inl (inl e) | inr r ↦ elim (stands-push xs c d r) [ inl q ↦ inl (inr q) | inr q ↦ inr q ] ]
 
-pub stands-more : (refs : List ℕ) (c d : ℕ) → IsMemberOf refs d → IsMemberOf (refs ++ (c ∷ [])) d
+pub stands-more : (refs : List ℕ) (c d : ℕ) → IsItemOfList refs d → IsItemOfList (refs ++ (c ∷ [])) d
 stands-more [] c d s = absurd s
 stands-more (x ∷ xs) c d s = elim s [ inl e ↦ inl e | inr r ↦ inr (stands-more xs c d r) ]
 
-pub stands-last : (refs : List ℕ) (c : ℕ) → IsMemberOf (refs ++ (c ∷ [])) c
+pub stands-last : (refs : List ℕ) (c : ℕ) → IsItemOfList (refs ++ (c ∷ [])) c
 stands-last [] c = inl refl
 stands-last (x ∷ xs) c = inr (stands-last xs c)
 
@@ -82,10 +82,10 @@ places-new ws ps a x b y k =
     let e : get_or (ws ++ blk) n 0 ≡ length ps = (let P : ℕ → Type 0 = λ j. get_or (ws ++ blk) j 0 ≡ length ps in subst P z (get_or-append-add ws blk 0 0)) in
     rw (e, drop-append-add ws blk 7) (grind (arith, common_steps))
 
-pub stands-one : (cs : ℕ → List ℕ) (t c d l : ℕ) → IsMemberOf (cs l) d ⊎ ((c ≡ d) × (l ≡ t)) → IsMemberOf (with_chain_replaced cs t (c ∷ cs t) l) d
+pub stands-one : (cs : ℕ → List ℕ) (t c d l : ℕ) → IsItemOfList (cs l) d ⊎ ((c ≡ d) × (l ≡ t)) → IsItemOfList (chains_with_one_replaced cs t (c ∷ cs t) l) d
 stands-one cs t c d l s =
     elim (eqb_tells l t) [
-      | inl e ↦ rw e.0 (elim s [ inl q ↦ inr (let P : ℕ → Type 0 = λ j. IsMemberOf (cs j) d in subst P e.1 q) | inr q ↦ inl q.0 ])
+      | inl e ↦ rw e.0 (elim s [ inl q ↦ inr (let P : ℕ → Type 0 = λ j. IsItemOfList (cs j) d in subst P e.1 q) | inr q ↦ inl q.0 ])
       | inr e ↦ rw e.0 (elim s [ inl q ↦ q | inr q ↦ absurd (e.1 q.1) ])
     ]
 
@@ -102,13 +102,13 @@ pub record Appended (ws hs refs ps : List ℕ) (a x b y k : ℕ) : Type 0 where
   pub new_right_link : get_or (ws ++ block (length ps) a x b y k ps) (length ws + 4) 0 ≡ y
   pub new_number : get_or (ws ++ block (length ps) a x b y k ps) (length ws + 5) 0 ≡ k
   pub new_cursor : get_or (ws ++ block (length ps) a x b y k ps) (length ws + 6) 0 ≡ 0
-  pub old : (d : ℕ) → IsMemberOf refs d → d < length ws
-  pub kept : (d i : ℕ) → IsMemberOf refs d → i < 7 → get_or (ws ++ block (length ps) a x b y k ps) (d + i) 0 ≡ get_or ws (d + i) 0
-  pub kept_len : (d : ℕ) → IsMemberOf refs d → get_or (ws ++ block (length ps) a x b y k ps) d 0 ≡ get_or ws d 0
-  pub kept_places : (d : ℕ) → IsMemberOf refs d → literal_places_at (ws ++ block (length ps) a x b y k ps) d ≡ literal_places_at ws d
-  pub headers : AreHeadersInsideAndApart (ws ++ block (length ps) a x b y k ps) (IsMemberOf (refs ++ (length ws ∷ [])))
-  pub chains : ChainsAreWatchPaths (ws ++ block (length ps) a x b y k ps) hs (IsMemberOf (refs ++ (length ws ∷ []))) (chain_for_place ws hs)
-  pub absent : (l : ℕ) → l < length hs → AllSatisfy (λ d. d ≢ length ws) (chain_for_place ws hs l)
+  pub old : (d : ℕ) → IsItemOfList refs d → d < length ws
+  pub kept : (d i : ℕ) → IsItemOfList refs d → i < 7 → get_or (ws ++ block (length ps) a x b y k ps) (d + i) 0 ≡ get_or ws (d + i) 0
+  pub kept_len : (d : ℕ) → IsItemOfList refs d → get_or (ws ++ block (length ps) a x b y k ps) d 0 ≡ get_or ws d 0
+  pub kept_places : (d : ℕ) → IsItemOfList refs d → literal_places_at (ws ++ block (length ps) a x b y k ps) d ≡ literal_places_at ws d
+  pub headers : AreHeadersInsideAndApart (ws ++ block (length ps) a x b y k ps) (IsItemOfList (refs ++ (length ws ∷ [])))
+  pub chains : ChainsAreWatchPaths (ws ++ block (length ps) a x b y k ps) hs (IsItemOfList (refs ++ (length ws ∷ []))) (chain_for_lit_place ws hs)
+  pub absent : (l : ℕ) → l < length hs → AllSatisfy (λ d. d ≢ length ws) (chain_for_lit_place ws hs l)
 
 pub appended : (ws hs refs ps : List ℕ) (a x b y k : ℕ) → HasWatchChains ws hs refs → Appended ws hs refs ps a x b y k
 appended ws hs refs ps a x b y k li =
@@ -119,8 +119,8 @@ appended ws hs refs ps a x b y k li =
     let size : length us ≡ c + 7 + length ps = length-append ws blk ∙ omega arith in
     let z : c + 0 ≡ c = omega arith in
     let hd = headers-of ws hs refs li in
-    let old : (d : ℕ) → IsMemberOf refs d → d < c = λ d s. omega (arith, hd.room d s) in
-    let hd2 : AreHeadersInsideAndApart us (IsMemberOf all) = record {
+    let old : (d : ℕ) → IsItemOfList refs d → d < c = λ d s. omega (arith, hd.room d s) in
+    let hd2 : AreHeadersInsideAndApart us (IsItemOfList all) = record {
       room = λ d s. elim (stands-push refs c d s) [
         | inl q ↦ (li.positive d q, omega (arith, size, li.whole d q))
         | inr q ↦ (omega (arith, q, li.started), omega (arith, size, q))
@@ -150,6 +150,6 @@ appended ws hs refs ps a x b y k li =
       kept_len = λ d s. get_or_append_left ws blk 0 d (old d s);
       kept_places = λ d s. places-append ws blk d (li.whole d s);
       headers = hd2;
-      chains = grown ws blk hs (IsMemberOf refs) (IsMemberOf all) (chain_for_place ws hs) hd (λ d s. stands-more refs c d s) li.chains;
-      absent = λ l h. each-map (λ d. IsMemberOf refs d × HasWatch ws d l) (λ d. d ≢ c) (chain_for_place ws hs l) (λ d r e. omega (arith, e, old d r.0)) (li.chains.held l h);
+      chains = grown ws blk hs (IsItemOfList refs) (IsItemOfList all) (chain_for_lit_place ws hs) hd (λ d s. stands-more refs c d s) li.chains;
+      absent = λ l h. each-map (λ d. IsItemOfList refs d × HasWatch ws d l) (λ d. d ≢ c) (chain_for_lit_place ws hs l) (λ d r e. omega (arith, e, old d r.0)) (li.chains.held l h);
     }

@@ -3,7 +3,7 @@ use Rattle.std.proofs.lemmas.List.{get_or-set_same, get_or-set_other}
 use Rattle.std.proofs.lemmas.Bool.Decides.{eqb_tells}
 use Rattle.std.proofs.lemmas.Bool.{cases_eq}
 use Rattle.std.proofs.Math.ListN.{length-set}
-use Rattle.ilk_arena.specs.Words.{link_index, next_reference_in_chain, watch_moved, IsChainPath, AllSatisfy, HasWatch, Distinct, ChainsAreWatchPaths, AreHeadersInsideAndApart, with_chain_replaced}
+use Rattle.ilk_arena.specs.Words.{link_index, next_reference_in_chain, watch_moved, IsChainPath, AllSatisfy, HasWatch, Distinct, ChainsAreWatchPaths, AreHeadersInsideAndApart, chains_with_one_replaced}
 use Rattle.ilk_arena.proofs.Paths.{frame, unlink}
 use Rattle.ilk_arena.proofs.HeaderWrites.{link_index-in, next-far, next-other, next-same, watches-far, moved-far, moved-watch-far, moved-next, moved-other, moved-watch, moved-watch-other}
 
@@ -43,12 +43,12 @@ distinct-skip (p ∷ pre) b c post d =
     let h = each-back (λ y. y ≢ p) pre (b ∷ (c ∷ post)) d.0 in
     (each-join (λ y. y ≢ p) pre (b ∷ post) (each-front (λ y. y ≢ p) pre (b ∷ (c ∷ post)) d.0) (h.0, h.1.1), distinct-skip pre b c post d.1)
 
-pub by-pick : (cs : ℕ → List ℕ) (f : ℕ) (v : List ℕ) (n : ℕ) (Q : ℕ → List ℕ → Type 0) → Q f v → ((l : ℕ) → l ≢ f → l < n → Q l (cs l)) → (l : ℕ) → l < n → Q l (with_chain_replaced cs f v l)
+pub by-pick : (cs : ℕ → List ℕ) (f : ℕ) (v : List ℕ) (n : ℕ) (Q : ℕ → List ℕ → Type 0) → Q f v → ((l : ℕ) → l ≢ f → l < n → Q l (cs l)) → (l : ℕ) → l < n → Q l (chains_with_one_replaced cs f v l)
 by-pick cs f v n Q same other l h =
     elim (eqb_tells l f) [ inl p ↦ (let P : ℕ → Type 0 = λ j. Q j v in rw p.0 (subst P (sym p.1) same)) | inr p ↦ rw p.0 (other l p.1 h) ]
 
 pub drop-first : (ws hs : List ℕ) (R : ℕ → Type 0) (cs : ℕ → List ℕ) (f c : ℕ) (post : List ℕ) → f < length hs → cs f ≡ c ∷ post → ChainsAreWatchPaths ws hs R cs → ChainsAreWatchPaths ws (set hs f (next_reference_in_chain
-    ws f c)) R (with_chain_replaced cs f post)
+    ws f c)) R (chains_with_one_replaced cs f post)
 drop-first ws hs R cs f c post h e k =
     let x = next_reference_in_chain ws f c in
     let P : List ℕ → Type 0 = λ ys. IsChainPath ws f (get_or hs f 0) ys in
@@ -89,7 +89,7 @@ link-other ws R b f l d v k rb rd n wb wd =
 
 pub drop-later : (ws hs : List ℕ) (R : ℕ → Type 0) (cs : ℕ → List ℕ) (f b c : ℕ) (pre post : List ℕ) →
     f < length hs → cs f ≡ pre ++ (b ∷ (c ∷ post)) → AreHeadersInsideAndApart ws R → ChainsAreWatchPaths ws hs R cs →
-    ChainsAreWatchPaths (set ws (link_index ws f b) (next_reference_in_chain ws f c)) hs R (with_chain_replaced cs f (pre ++ (b ∷ post)))
+    ChainsAreWatchPaths (set ws (link_index ws f b) (next_reference_in_chain ws f c)) hs R (chains_with_one_replaced cs f (pre ++ (b ∷ post)))
 drop-later ws hs R cs f b c pre post h e hd k =
     let x = next_reference_in_chain ws f c in
     let vs = set ws (link_index ws f b) x in
@@ -131,7 +131,7 @@ drop-later ws hs R cs f b c pre post h e hd k =
 pub push-moved : (ws hs : List ℕ) (R : ℕ → Type 0) (cs : ℕ → List ℕ) (f t c : ℕ) → f < length hs →
     t < length hs → f ≢ t → R c → HasWatch ws c f → get_or ws (c + 1) 0 ≢ t → (HasWatch ws c t → ⊥) →
     AllSatisfy (λ d. d ≢ c) (cs f) → AreHeadersInsideAndApart ws R → ChainsAreWatchPaths ws hs R cs →
-    ChainsAreWatchPaths (watch_moved ws f c t (get_or hs t 0)) (set hs t c) R (with_chain_replaced cs t (c ∷ cs t))
+    ChainsAreWatchPaths (watch_moved ws f c t (get_or hs t 0)) (set hs t c) R (chains_with_one_replaced cs t (c ∷ cs t))
 push-moved ws hs R cs f t c hf ht ne rc wf nt nw gone hd k =
     let v = get_or hs t 0 in
     let vs = watch_moved ws f c t v in

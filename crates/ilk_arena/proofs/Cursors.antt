@@ -3,32 +3,32 @@ use Rattle.std.proofs.lemmas.Bool.Decides.{eqb_tells}
 use Rattle.std.proofs.lemmas.Bool.{cases_eq, cases_order}
 use Rattle.std.proofs.lemmas.List.{get_or-set_same, get_or-set_other, drop-set-lt, drop-set-add, take-set-le, get_or-replicate, length-replicate, length-set}
 use Rattle.ilk_cnf.specs.Literal.{has_distinct_vars}
-use Rattle.ilk_arena.specs.Arena.{ArenaLists, set_for_reference}
+use Rattle.ilk_arena.specs.Arena.{ArenaContent, set_for_reference}
 use Rattle.ilk_arena.specs.declared.place.TheConstants.{WORD_VALUE_LIMIT}
-use Rattle.ilk_arena.specs.Words.{IsChainPath, chain, AllSatisfy, IsMemberOf, HasWatch, left, right, Distinct, ChainsAreWatchPaths, AreHeadersInsideAndApart, next_reference_in_chain}
-use Rattle.ilk_arena.specs.Linked.{lit_from_place, literal_places_at, literals_at, cursor_at, chain_for_place, IsGaplessFrom, references_in, lists_of, HasWatchChains, HasClausesInOrder, HoldsArena}
+use Rattle.ilk_arena.specs.Words.{IsChainPath, chain, AllSatisfy, IsItemOfList, HasWatch, left, right, Distinct, ChainsAreWatchPaths, AreHeadersInsideAndApart, next_reference_in_chain}
+use Rattle.ilk_arena.specs.Linked.{lit_with_place_number, literal_places_at, literals_at, clause_cursor_at, chain_for_lit_place, IsGaplessFrom, references_in_block, lists_of, HasWatchChains, HasClausesInOrder, IsArenaInvariant}
 use Rattle.ilk_arena.proofs.Blocks.{references-are, blocks-same, stands-at}
 use Rattle.ilk_arena.proofs.Unlinking.{each-at}
-use Rattle.ilk_arena.proofs.LinkedChains.{headers-of, chain_for_place-is, same-chains}
+use Rattle.ilk_arena.proofs.LinkedChains.{headers-of, chain_for_lit_place-is, same-chains}
 use Rattle.ilk_arena.proofs.HeaderWrites.{next-far, watches-far}
 use Rattle.ilk_arena.proofs.Paths.{frame}
 use Rattle.ilk_arena.proofs.ChainMoves.{each-map}
 use Rattle.ilk_arena.proofs.Updates.{arena-ext, Gives, gives-one, gives-seen, gives-as, map-same}
 
-cursor-far : (ws hs refs : List ℕ) (c d j : ℕ) → HasWatchChains ws hs refs → IsMemberOf refs c → IsMemberOf refs d → j < 6 → c + 6 ≢ d + j
+cursor-far : (ws hs refs : List ℕ) (c d j : ℕ) → HasWatchChains ws hs refs → IsItemOfList refs c → IsItemOfList refs d → j < 6 → c + 6 ≢ d + j
 cursor-far ws hs refs c d j k r s h =
     elim (cases_eq c d) [
       | inl e ↦ omega arith
       | inr n ↦ elim ((headers-of ws hs refs k).apart c d r s n) [ inl o ↦ omega arith | inr o ↦ omega arith ]
     ]
 
-cursor-read : (ws hs refs : List ℕ) (c d j v : ℕ) → HasWatchChains ws hs refs → IsMemberOf refs c → IsMemberOf refs d → j < 6 → get_or (set ws (c + 6) v) (d + j) 0 ≡ get_or ws (d + j) 0
+cursor-read : (ws hs refs : List ℕ) (c d j v : ℕ) → HasWatchChains ws hs refs → IsItemOfList refs c → IsItemOfList refs d → j < 6 → get_or (set ws (c + 6) v) (d + j) 0 ≡ get_or ws (d + j) 0
 cursor-read ws hs refs c d j v k r s h = get_or-set_other ws (c + 6) (d + j) v 0 (λ e. cursor-far ws hs refs c d j k r s h (sym e))
 
-cursor-len : (ws hs refs : List ℕ) (c d v : ℕ) → HasWatchChains ws hs refs → IsMemberOf refs c → IsMemberOf refs d → get_or (set ws (c + 6) v) d 0 ≡ get_or ws d 0
+cursor-len : (ws hs refs : List ℕ) (c d v : ℕ) → HasWatchChains ws hs refs → IsItemOfList refs c → IsItemOfList refs d → get_or (set ws (c + 6) v) d 0 ≡ get_or ws d 0
 cursor-len ws hs refs c d v k r s = (let z : d + 0 ≡ d = omega arith in let P : ℕ → Type 0 = λ i. get_or (set ws (c + 6) v) i 0 ≡ get_or ws i 0 in subst P z (cursor-read ws hs refs c d 0 v k r s (omega arith)))
 
-cursor-places : (ws hs refs : List ℕ) (c d v : ℕ) → HasWatchChains ws hs refs → IsMemberOf refs c → IsMemberOf refs d → literal_places_at (set ws (c + 6) v) d ≡ literal_places_at ws d
+cursor-places : (ws hs refs : List ℕ) (c d v : ℕ) → HasWatchChains ws hs refs → IsItemOfList refs c → IsItemOfList refs d → literal_places_at (set ws (c + 6) v) d ≡ literal_places_at ws d
 unfolding literal_places_at
 cursor-places ws hs refs c d v k r s =
     let i = c + 6 in
@@ -54,33 +54,34 @@ watch-back ws vs d l a b (right p) = right (sym b ∙ p)
 
 pub record Turned (ws hs refs : List ℕ) (c v : ℕ) : Type 0 where
   pub linked : HasWatchChains (set ws (c + 6) v) hs refs
-  pub chains : (l : ℕ) → l < length hs → chain_for_place (set ws (c + 6) v) hs l ≡ chain_for_place ws hs l
+  pub chains : (l : ℕ) → l < length hs → chain_for_lit_place (set ws (c + 6) v) hs l ≡ chain_for_lit_place ws hs l
 
-turned : (ws hs refs : List ℕ) (c v : ℕ) → HasWatchChains ws hs refs → IsMemberOf refs c → Turned ws hs refs c v
+turned : (ws hs refs : List ℕ) (c v : ℕ) → HasWatchChains ws hs refs → IsItemOfList refs c → Turned ws hs refs c v
 turned ws hs refs c v k r =
     let us = set ws (c + 6) v in
     let size : length us ≡ length ws = simp length-set in
-    let far : (d j : ℕ) → IsMemberOf refs d → j < 6 → c + 6 ≢ d + j = λ d j s h. cursor-far ws hs refs c d j k r s h in
-    let len : (d : ℕ) → IsMemberOf refs d → get_or us d 0 ≡ get_or ws d 0 = λ d s. cursor-len ws hs refs c d v k r s in
-    let w1 : (d : ℕ) → IsMemberOf refs d → get_or us (d + 1) 0 ≡ get_or ws (d + 1) 0 = λ d s. cursor-read ws hs refs c d 1 v k r s (omega arith) in
-    let w3 : (d : ℕ) → IsMemberOf refs d → get_or us (d + 3) 0 ≡ get_or ws (d + 3) 0 = λ d s. cursor-read ws hs refs c d 3 v k r s (omega arith) in
-    let pl : (d : ℕ) → IsMemberOf refs d → literal_places_at us d ≡ literal_places_at ws d = λ d s. cursor-places ws hs refs c d v k r s in
-    let step : (l d : ℕ) → IsMemberOf refs d → next_reference_in_chain us l d ≡ next_reference_in_chain ws l d = λ l d s. next-far ws l d (c + 6) v (far d 1 s (omega arith)) (far d 2 s (omega arith)) (far d 4 s (omega arith)) in
-    let ch : ChainsAreWatchPaths us hs (IsMemberOf refs) (chain_for_place ws hs) = record {
+    let far : (d j : ℕ) → IsItemOfList refs d → j < 6 → c + 6 ≢ d + j = λ d j s h. cursor-far ws hs refs c d j k r s h in
+    let len : (d : ℕ) → IsItemOfList refs d → get_or us d 0 ≡ get_or ws d 0 = λ d s. cursor-len ws hs refs c d v k r s in
+    let w1 : (d : ℕ) → IsItemOfList refs d → get_or us (d + 1) 0 ≡ get_or ws (d + 1) 0 = λ d s. cursor-read ws hs refs c d 1 v k r s (omega arith) in
+    let w3 : (d : ℕ) → IsItemOfList refs d → get_or us (d + 3) 0 ≡ get_or ws (d + 3) 0 = λ d s. cursor-read ws hs refs c d 3 v k r s (omega arith) in
+    let pl : (d : ℕ) → IsItemOfList refs d → literal_places_at us d ≡ literal_places_at ws d = λ d s. cursor-places ws hs refs c d v k r s in
+    let step : (l d : ℕ) → IsItemOfList refs d → next_reference_in_chain us l d ≡ next_reference_in_chain ws l d = λ l d s. next-far ws l d (c + 6) v (far d 1 s (omega arith)) (far d 2 s (omega arith)) (far d 4 s (omega arith)) in
+    let ch : ChainsAreWatchPaths us hs (IsItemOfList refs) (chain_for_lit_place ws hs) = record {
       path =
-          λ l h. frame ws us l (get_or hs l 0) (chain_for_place ws hs l)
-          (each-map (λ d. IsMemberOf refs d × HasWatch ws d l)
-          (λ d. next_reference_in_chain us l d ≡ next_reference_in_chain ws l d) (chain_for_place ws hs l)
+          λ l h. frame ws us l (get_or hs l 0) (chain_for_lit_place ws hs l)
+          (each-map (λ d. IsItemOfList refs d × HasWatch ws d l)
+          (λ d. next_reference_in_chain us l d ≡ next_reference_in_chain ws l d) (chain_for_lit_place ws hs l)
           (λ d s. step l d s.0) (k.chains.held l h))
           (k.chains.path l h);
-      held = λ l h. each-map (λ d. IsMemberOf refs d × HasWatch ws d l) (λ d. IsMemberOf refs d × HasWatch us d l) (chain_for_place ws hs l) (λ d s. (s.0, watches-far ws d l (c + 6) v (far d 1 s.0 (omega arith)) (far d 3 s.0 (omega arith)) s.1))
+      held = λ l h. each-map (λ d. IsItemOfList refs d × HasWatch ws d l) (λ d. IsItemOfList refs d × HasWatch us d l) (chain_for_lit_place ws hs l)
+          (λ d s. (s.0, watches-far ws d l (c + 6) v (far d 1 s.0 (omega arith)) (far d 3 s.0 (omega arith)) s.1))
           (k.chains.held l h);
       once = k.chains.once;
     } in
     let hd = headers-of ws hs refs k in
-    let hd2 : AreHeadersInsideAndApart us (IsMemberOf refs) = record { room = λ d s. (k.positive d s, omega (arith, size, k.whole d s)); apart = hd.apart } in
-    let fam : (l : ℕ) → l < length hs → chain_for_place us hs l ≡ chain_for_place ws hs l = λ l h. chain_for_place-is us hs (IsMemberOf refs) (chain_for_place ws hs) hd2 ch l h in
-    let P : (p : ℕ) → List ℕ → Type 0 = λ p ys. IsMemberOf ys p in
+    let hd2 : AreHeadersInsideAndApart us (IsItemOfList refs) = record { room = λ d s. (k.positive d s, omega (arith, size, k.whole d s)); apart = hd.apart } in
+    let fam : (l : ℕ) → l < length hs → chain_for_lit_place us hs l ≡ chain_for_lit_place ws hs l = λ l h. chain_for_lit_place-is us hs (IsItemOfList refs) (chain_for_lit_place ws hs) hd2 ch l h in
+    let P : (p : ℕ) → List ℕ → Type 0 = λ p ys. IsItemOfList ys p in
     record {
       chains = fam;
       linked = record {
@@ -96,7 +97,7 @@ turned ws hs refs c v k r =
         right_own = λ d s h. (let lg : 2 ≤ get_or ws d 0 = omega (arith, len d s, h) in rw (pl d s, w3 d s) (k.right_own d s lg));
         left_none = λ d s h. (let sh : get_or ws d 0 < 2 = omega (arith, len d s, h) in omega (arith, w1 d s, k.left_none d s sh));
         right_none = λ d s h. (let sh : get_or ws d 0 < 2 = omega (arith, len d s, h) in omega (arith, w3 d s, k.right_none d s sh));
-        chains = same-chains us hs (IsMemberOf refs) (chain_for_place ws hs) (chain_for_place us hs) fam ch;
+        chains = same-chains us hs (IsItemOfList refs) (chain_for_lit_place ws hs) (chain_for_lit_place us hs) fam ch;
         empty = λ l h. fam l (omega (arith, k.wide)) ∙ k.empty l h;
         standing = λ d l s l2 h w. subst (P d) (sym (fam l h)) (k.standing d l s l2 h (watch-back ws us d l (w1 d s) (w3 d s) w));
       };
@@ -110,7 +111,7 @@ rising ws k (c ∷ cs) b =
       (each-map (λ d. c + 7 + get_or ws c 0 ≤ d) (λ d. d ≢ c) cs (λ d h. omega arith) r.0, r.1),
     )
 
-cursors-set : (f g : ℕ → ℕ) (refs : List ℕ) (c v : ℕ) → Distinct refs → g c ≡ v → ((d : ℕ) → IsMemberOf refs d → d ≢ c → g d ≡ f d) → map g refs ≡ set_for_reference c refs (map f refs) v
+cursors-set : (f g : ℕ → ℕ) (refs : List ℕ) (c v : ℕ) → Distinct refs → g c ≡ v → ((d : ℕ) → IsItemOfList refs d → d ≢ c → g d ≡ f d) → map g refs ≡ set_for_reference c refs (map f refs) v
 cursors-set f g [] c v d e h = refl
 cursors-set f g (r ∷ rs) c v d e h =
     elim (eqb_tells r c) [
@@ -119,16 +120,16 @@ cursors-set f g (r ∷ rs) c v d e h =
       | inr t ↦ rw t.0 (ap (λ y. y ∷ map g rs) (h r (inl refl) t.1) ∙ ap (λ ys. f r ∷ ys) (cursors-set f g rs c v d.1 e (λ x s. h x (inr s))))
     ]
 
-pub record CursorSet (vars spare count : ℕ) (us hs : List ℕ) (a : ArenaLists) (c v : ℕ) : Type 0 where
-  pub holds : HoldsArena us hs vars count
-  pub lists : lists_of vars spare us hs (references_in us) ≡ record a { cursors = set_for_reference c a.references a.cursors v }
+pub record CursorSet (vars spare count : ℕ) (us hs : List ℕ) (a : ArenaContent) (c v : ℕ) : Type 0 where
+  pub holds : IsArenaInvariant us hs vars count
+  pub lists : lists_of vars spare us hs (references_in_block us) ≡ record a { cursors = set_for_reference c a.references a.cursors v }
 
-pub cursor-law : (vars spare count : ℕ) (ws hs : List ℕ) (a : ArenaLists) (c v : ℕ) →
-    HoldsArena ws hs vars count → lists_of vars spare ws hs (references_in ws) ≡ a →
-    IsMemberOf (references_in ws) c → v ≤ get_or ws c 0 → CursorSet vars spare count (set ws (c + 6) v) hs a c v
+pub cursor-law : (vars spare count : ℕ) (ws hs : List ℕ) (a : ArenaContent) (c v : ℕ) →
+    IsArenaInvariant ws hs vars count → lists_of vars spare ws hs (references_in_block ws) ≡ a →
+    IsItemOfList (references_in_block ws) c → v ≤ get_or ws c 0 → CursorSet vars spare count (set ws (c + 6) v) hs a c v
 unfolding lists_of
 cursor-law vars spare count ws hs a c v h e s le =
-    let refs = references_in ws in
+    let refs = references_in_block ws in
     let k = h.linked in
     let us = set ws (c + 6) v in
     let t = turned ws hs refs c v k s in
@@ -142,19 +143,19 @@ cursor-law vars spare count ws hs a c v h e s le =
         | inl p ↦ (let P : ℕ → Type 0 = λ j. get_or us (j + 6) 0 ≤ get_or us j 0 in subst P (sym p) (omega (arith, at, cursor-len ws hs refs c c v k s s)))
         | inr p ↦ omega (arith, away x p, cursor-len ws hs refs c x v k s q, h.laid.cursor x q)
       ];
-      apart = λ x q. ap (λ (ps : List ℕ). has_distinct_vars (map lit_from_place ps)) (cursor-places ws hs refs c x v k s q) ∙ h.laid.apart x q;
+      apart = λ x q. ap (λ (ps : List ℕ). has_distinct_vars (map lit_with_place_number ps)) (cursor-places ws hs refs c x v k s q) ∙ h.laid.apart x q;
     } in
-    let re : references_in us ≡ refs = references-are us refs d.blocks in
+    let re : references_in_block us ≡ refs = references-are us refs d.blocks in
     let P : List ℕ → Type 0 = λ rs. HasWatchChains us hs rs in
     let Q : List ℕ → Type 0 = λ rs. HasClausesInOrder us rs in
     let L = lists_of vars spare ws hs refs in
     let chains : (lists_of vars spare us hs refs).chains ≡ L.chains = gives-one
-    (lists_of vars spare us hs refs).chains L.chains (length hs) (chain_for_place ws hs)
-    (gives-as (lists_of vars spare us hs refs).chains (length hs) (chain_for_place us hs) (chain_for_place ws hs)
+    (lists_of vars spare us hs refs).chains L.chains (length hs) (chain_for_lit_place ws hs)
+    (gives-as (lists_of vars spare us hs refs).chains (length hs) (chain_for_lit_place us hs) (chain_for_lit_place ws hs)
     (gives-seen vars spare us hs refs) t.chains)
     (gives-seen vars spare ws hs refs) in
-    let clauses : map (literals_at us) refs ≡ map (literals_at ws) refs = map-same (literals_at us) (literals_at ws) refs (λ x q. ap (λ (ps : List ℕ). map lit_from_place ps) (cursor-places ws hs refs c x v k s q)) in
-    let cursors : map (cursor_at us) refs ≡ set_for_reference c refs (map (cursor_at ws) refs) v = cursors-set (cursor_at ws) (cursor_at us) refs c v (rising ws 1 refs h.laid.blocks).1 at (λ x q n. away x n) in
+    let clauses : map (literals_at us) refs ≡ map (literals_at ws) refs = map-same (literals_at us) (literals_at ws) refs (λ x q. ap (λ (ps : List ℕ). map lit_with_place_number ps) (cursor-places ws hs refs c x v k s q)) in
+    let cursors : map (clause_cursor_at us) refs ≡ set_for_reference c refs (map (clause_cursor_at ws) refs) v = cursors-set (clause_cursor_at ws) (clause_cursor_at us) refs c v (rising ws 1 refs h.laid.blocks).1 at (λ x q n. away x n) in
     record {
       holds = record {
         few = h.few;
@@ -168,16 +169,16 @@ cursor-law vars spare count ws hs a c v h e s le =
           ∙ arena-ext (lists_of vars spare us hs refs)
           (record L { cursors = set_for_reference c L.references L.cursors v }) refl refl refl clauses cursors
           chains
-          ∙ ap (λ (y : ArenaLists). record y { cursors = set_for_reference c y.references y.cursors v }) e;
+          ∙ ap (λ (y : ArenaContent). record y { cursors = set_for_reference c y.references y.cursors v }) e;
     }
 
-pub empty-holds : (vars : ℕ) → 2 * vars + 2 ≤ WORD_VALUE_LIMIT → HoldsArena (0 ∷ []) (replicate (2 * vars + 2) 0) vars 0
+pub empty-holds : (vars : ℕ) → 2 * vars + 2 ≤ WORD_VALUE_LIMIT → IsArenaInvariant (0 ∷ []) (replicate (2 * vars + 2) 0) vars 0
 empty-holds vars few =
     let ws : List ℕ = 0 ∷ [] in
     let hs : List ℕ = replicate (2 * vars + 2) 0 in
     let n : length hs ≡ 2 * vars + 2 = length-replicate (2 * vars + 2) 0 in
     let head : (l : ℕ) → l < length hs → get_or hs l 0 ≡ 0 = λ l h. get_or-replicate (2 * vars + 2) l 0 0 (omega (arith, n)) in
-    let none : (l : ℕ) → l < length hs → chain_for_place ws hs l ≡ [] = λ l h. ap (λ (k : ℕ). chain ws l 1 k) (head l h) in
+    let none : (l : ℕ) → l < length hs → chain_for_lit_place ws hs l ≡ [] = λ l h. ap (λ (k : ℕ). chain ws l 1 k) (head l h) in
     record {
       few = few;
       addressed = omega arith;
@@ -198,7 +199,7 @@ empty-holds vars few =
         right_none = λ c s h. absurd s;
         chains = record {
           path = λ l h. (let Q : List ℕ → Type 0 = λ ys. IsChainPath ws l (get_or hs l 0) ys in subst Q (sym (none l h)) (head l h));
-          held = λ l h. (let Q : List ℕ → Type 0 = λ ys. AllSatisfy (λ c. IsMemberOf [] c × HasWatch ws c l) ys in subst Q (sym (none l h)) tt);
+          held = λ l h. (let Q : List ℕ → Type 0 = λ ys. AllSatisfy (λ c. IsItemOfList [] c × HasWatch ws c l) ys in subst Q (sym (none l h)) tt);
           once = λ l h. (let Q : List ℕ → Type 0 = λ ys. Distinct ys in subst Q (sym (none l h)) tt);
         };
         empty = λ l h. none l (omega (arith, n));
@@ -220,7 +221,7 @@ empty-lists vars spare =
     let n : length hs ≡ 2 * vars + 2 = length-replicate (2 * vars + 2) 0 in
     let e : List (List ℕ) = replicate (2 * vars + 2) [] in
     let m : length e ≡ 2 * vars + 2 = length-replicate (2 * vars + 2) [] in
-    let none : (l : ℕ) → l < length hs → chain_for_place ws hs l ≡ [] = λ l h. (let z : get_or hs l 0 ≡ 0 = get_or-replicate (2 * vars + 2) l 0 0 (omega (arith, n)) in ap (λ (k : ℕ). chain ws l 1 k) z) in
-    let g = gives-as (lists_of vars spare ws hs []).chains (length hs) (chain_for_place ws hs) (λ l. []) (gives-seen vars spare ws hs []) none in
+    let none : (l : ℕ) → l < length hs → chain_for_lit_place ws hs l ≡ [] = λ l h. (let z : get_or hs l 0 ≡ 0 = get_or-replicate (2 * vars + 2) l 0 0 (omega (arith, n)) in ap (λ (k : ℕ). chain ws l 1 k) z) in
+    let g = gives-as (lists_of vars spare ws hs []).chains (length hs) (chain_for_lit_place ws hs) (λ l. []) (gives-seen vars spare ws hs []) none in
     let r : Gives e (length hs) (λ l. []) = record { size = m ∙ sym n; item = λ p l. get_or-replicate (2 * vars + 2) p [] [] (omega (arith, n)) } in
     arena-ext (lists_of vars spare ws hs []) (record { vars = vars; spare = spare; references = []; clauses = []; cursors = []; chains = e }) refl refl refl refl refl (gives-one (lists_of vars spare ws hs []).chains e (length hs) (λ l. []) g r)

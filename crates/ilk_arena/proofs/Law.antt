@@ -6,33 +6,33 @@ use Rattle.std.proofs.lemmas.List.{get_or_past, length-map}
 use Rattle.ilk_cnf.specs.Literal.{Literal, same_lit, has_lit}
 use Rattle.ilk_arena.specs.Arena.{place, chain_of, contains_reference, literals_of}
 use Rattle.ilk_arena.specs.Chains.{EachLongClauseWatchesTwo, WatchesTwo}
-use Rattle.ilk_arena.specs.Words.{IsMemberOf, HasWatch, left, right}
-use Rattle.ilk_arena.specs.Linked.{lit_from_place, literal_places_at, chain_for_place, lists_of, HasWatchChains}
+use Rattle.ilk_arena.specs.Words.{IsItemOfList, HasWatch, left, right}
+use Rattle.ilk_arena.specs.Linked.{lit_with_place_number, literal_places_at, chain_for_lit_place, lists_of, HasWatchChains}
 use Rattle.ilk_arena.proofs.Seen.{stands-from, stands-to, lit-at-place, chain-seen, chains-count, clause-seen, references-seen, places-length}
 use Rattle.ilk_arena.proofs.Unlinking.{each-at}
 use Rattle.ilk_arena.proofs.LinkedChains.{distinct-std}
 use Rattle.ilk_cnf.proofs.SameLiterals.{same-lit}
 
-pub place-of-lit : (p : ℕ) → place (lit_from_place p) ≡ p
+pub place-of-lit : (p : ℕ) → place (lit_with_place_number p) ≡ p
 place-of-lit p = go (p / 2) (p % 2) (omega arith) (omega arith)
   where
     go : (q r : ℕ) → r < 2 → 2 * q + r ≡ p → cond (eqb r 1) (2 * q + 1) (2 * q) ≡ p
     go q r h e = elim (eqb_tells r 1) [ inl t ↦ rw t.0 (omega (arith, t.1)) | inr t ↦ rw t.0 (omega (arith, t.1)) ]
 
-pub has-lit : (p : ℕ) (ps : List ℕ) → IsMemberOf ps p → has_lit (lit_from_place p) (map lit_from_place ps) ≡ true
+pub has-lit : (p : ℕ) (ps : List ℕ) → IsItemOfList ps p → has_lit (lit_with_place_number p) (map lit_with_place_number ps) ≡ true
 has-lit p [] s = absurd s
 has-lit p (q ∷ ps) s = elim s [
-  | inl e ↦ or_left _ _ (ap (λ (x : ℕ). same_lit (lit_from_place p) (lit_from_place x)) e ∙ same-lit (lit_from_place p))
+  | inl e ↦ or_left _ _ (ap (λ (x : ℕ). same_lit (lit_with_place_number p) (lit_with_place_number x)) e ∙ same-lit (lit_with_place_number p))
   | inr r ↦ or_right _ _ (has-lit p ps r)
 ]
 
-pub in-chain : (ws hs refs : List ℕ) (p c : ℕ) → HasWatchChains ws hs refs → p < length hs → IsMemberOf (chain_for_place ws hs p) c → IsMemberOf refs c × HasWatch ws c p
-in-chain ws hs refs p c k h s = each-at (λ d. IsMemberOf refs d × HasWatch ws d p) (chain_for_place ws hs p) c s (k.chains.held p h)
+pub in-chain : (ws hs refs : List ℕ) (p c : ℕ) → HasWatchChains ws hs refs → p < length hs → IsItemOfList (chain_for_lit_place ws hs p) c → IsItemOfList refs c × HasWatch ws c p
+in-chain ws hs refs p c k h s = each-at (λ d. IsItemOfList refs d × HasWatch ws d p) (chain_for_lit_place ws hs p) c s (k.chains.held p h)
 
 pub record InChain (ws hs refs : List ℕ) (l : Literal) (c : ℕ) : Type 0 where
   pub below : place l < length hs
-  pub stands : IsMemberOf (chain_for_place ws hs (place l)) c
-  pub known : IsMemberOf refs c
+  pub stands : IsItemOfList (chain_for_lit_place ws hs (place l)) c
+  pub known : IsItemOfList refs c
   pub watches : HasWatch ws c (place l)
   pub least : 2 ≤ place l
 
@@ -40,8 +40,8 @@ pub chain-has : (vars spare : ℕ) (ws hs refs : List ℕ) (l : Literal) (c : �
 chain-has vars spare ws hs refs l c k h =
     elim (cases_lt (place l) (length hs)) [
       | inl b ↦ (let S : List ℕ → Type 0 = λ ys. contains_reference c ys ≡ true in
-          let t : contains_reference c (chain_for_place ws hs (place l)) ≡ true = subst S (chain-seen vars spare ws hs refs (place l) b) h in
-          let s = stands-from c (chain_for_place ws hs (place l)) t in
+          let t : contains_reference c (chain_for_lit_place ws hs (place l)) ≡ true = subst S (chain-seen vars spare ws hs refs (place l) b) h in
+          let s = stands-from c (chain_for_lit_place ws hs (place l)) t in
           let r = in-chain ws hs refs (place l) c k b s in
           record {
             below = b;
@@ -49,7 +49,7 @@ chain-has vars spare ws hs refs l c k h =
             known = r.0;
             watches = r.1;
             least = elim (cases_lt (place l) 2) [
-              | inl w ↦ absurd (let Q : List ℕ → Type 0 = λ ys. IsMemberOf ys c in subst Q (k.empty (place l) w) s)
+              | inl w ↦ absurd (let Q : List ℕ → Type 0 = λ ys. IsItemOfList ys c in subst Q (k.empty (place l) w) s)
               | inr w ↦ w
             ];
           })
@@ -61,36 +61,36 @@ chain-has vars spare ws hs refs l c k h =
           cc)
     ]
 
-pub chain-gets : (vars spare : ℕ) (ws hs refs : List ℕ) (l : Literal) (c : ℕ) → place l < length hs → IsMemberOf (chain_for_place ws hs (place l)) c → contains_reference c (chain_of (lists_of vars spare ws hs refs) l) ≡ true
+pub chain-gets : (vars spare : ℕ) (ws hs refs : List ℕ) (l : Literal) (c : ℕ) → place l < length hs → IsItemOfList (chain_for_lit_place ws hs (place l)) c → contains_reference c (chain_of (lists_of vars spare ws hs refs) l) ≡ true
 chain-gets vars spare ws hs refs l c b s =
     let S : List ℕ → Type 0 = λ ys. contains_reference c ys ≡ true in
-    subst S (sym (chain-seen vars spare ws hs refs (place l) b)) (stands-to c (chain_for_place ws hs (place l)) s)
+    subst S (sym (chain-seen vars spare ws hs refs (place l) b)) (stands-to c (chain_for_lit_place ws hs (place l)) s)
 
-pub clause-length : (vars spare : ℕ) (ws hs refs : List ℕ) (c : ℕ) → HasWatchChains ws hs refs → IsMemberOf refs c → length (literals_of (lists_of vars spare ws hs refs) c) ≡ get_or ws c 0
+pub clause-length : (vars spare : ℕ) (ws hs refs : List ℕ) (c : ℕ) → HasWatchChains ws hs refs → IsItemOfList refs c → length (literals_of (lists_of vars spare ws hs refs) c) ≡ get_or ws c 0
 clause-length vars spare ws hs refs c k s =
-    ap (λ (ls : List Literal). length ls) (clause-seen vars spare ws hs refs c s) ∙ length-map (literal_places_at ws c) lit_from_place ∙ places-length ws c (k.whole c s)
+    ap (λ (ls : List Literal). length ls) (clause-seen vars spare ws hs refs c s) ∙ length-map (literal_places_at ws c) lit_with_place_number ∙ places-length ws c (k.whole c s)
 
-pub watch-gets : (vars spare : ℕ) (ws hs refs : List ℕ) (c p : ℕ) (l : Literal) → HasWatchChains ws hs refs → IsMemberOf refs c → IsMemberOf (literal_places_at ws c) p → HasWatch ws c p → l ≡ lit_from_place p
+pub watch-gets : (vars spare : ℕ) (ws hs refs : List ℕ) (c p : ℕ) (l : Literal) → HasWatchChains ws hs refs → IsItemOfList refs c → IsItemOfList (literal_places_at ws c) p → HasWatch ws c p → l ≡ lit_with_place_number p
     → contains_reference c (chain_of (lists_of vars spare ws hs refs) l) ≡ true
 watch-gets vars spare ws hs refs c p l k s o w e =
     let q : place l ≡ p = ap place e ∙ place-of-lit p in
     let h : p < length hs = k.small c p s o in
-    let S : ℕ → Type 0 = λ j. IsMemberOf (chain_for_place ws hs j) c in
+    let S : ℕ → Type 0 = λ j. IsItemOfList (chain_for_lit_place ws hs j) c in
     chain-gets vars spare ws hs refs l c (omega (arith, q)) (subst S (sym q) (k.standing c p s (k.least c p s o) h w))
 
-pub lit-of : (p : ℕ) (l : Literal) → p ≡ place l → l ≡ lit_from_place p
-lit-of p l e = sym (lit-at-place l) ∙ ap lit_from_place (sym e)
+pub lit-of : (p : ℕ) (l : Literal) → p ≡ place l → l ≡ lit_with_place_number p
+lit-of p l e = sym (lit-at-place l) ∙ ap lit_with_place_number (sym e)
 
-pub watches-two : (vars spare : ℕ) (ws hs refs : List ℕ) (c : ℕ) → HasWatchChains ws hs refs → IsMemberOf refs c → 2 ≤ get_or ws c 0 →
-    WatchesTwo (lists_of vars spare ws hs refs) c (lit_from_place (get_or ws (c + 1) 0)) (lit_from_place (get_or ws (c + 3) 0))
+pub watches-two : (vars spare : ℕ) (ws hs refs : List ℕ) (c : ℕ) → HasWatchChains ws hs refs → IsItemOfList refs c → 2 ≤ get_or ws c 0 →
+    WatchesTwo (lists_of vars spare ws hs refs) c (lit_with_place_number (get_or ws (c + 1) 0)) (lit_with_place_number (get_or ws (c + 3) 0))
 watches-two vars spare ws hs refs c k s h =
     let p = get_or ws (c + 1) 0 in
     let q = get_or ws (c + 3) 0 in
     let a = lists_of vars spare ws hs refs in
     let own = k.left_own c s h in
     let own2 = k.right_own c s h in
-    let H : List Literal → Type 0 = λ ls. has_lit (lit_from_place p) ls ≡ true in
-    let H2 : List Literal → Type 0 = λ ls. has_lit (lit_from_place q) ls ≡ true in
+    let H : List Literal → Type 0 = λ ls. has_lit (lit_with_place_number p) ls ≡ true in
+    let H2 : List Literal → Type 0 = λ ls. has_lit (lit_with_place_number q) ls ≡ true in
     let seen = clause-seen vars spare ws hs refs c s in
     record {
       differ = λ e. k.differ c s (sym (place-of-lit p) ∙ ap place e ∙ place-of-lit q);
@@ -105,18 +105,18 @@ watches-two vars spare ws hs refs c k s h =
       );
     }
   where
-    to : (l : Literal) → HasWatch ws c (place l) → (l ≡ lit_from_place (get_or ws (c + 1) 0)) ⊎ (l ≡ lit_from_place (get_or ws (c + 3) 0))
+    to : (l : Literal) → HasWatch ws c (place l) → (l ≡ lit_with_place_number (get_or ws (c + 1) 0)) ⊎ (l ≡ lit_with_place_number (get_or ws (c + 3) 0))
     to l (left e) = inl (lit-of (get_or ws (c + 1) 0) l e)
     to l (right e) = inr (lit-of (get_or ws (c + 3) 0) l e)
 
 pub arena-law : (vars spare : ℕ) (ws hs refs : List ℕ) → HasWatchChains ws hs refs → EachLongClauseWatchesTwo (lists_of vars spare ws hs refs)
 arena-law vars spare ws hs refs k =
     let a = lists_of vars spare ws hs refs in
-    let from : (c : ℕ) → contains_reference c a.references ≡ true → IsMemberOf refs c = λ c t. (let S : List ℕ → Type 0 = λ ys. contains_reference c ys ≡ true in stands-from c refs (subst S (references-seen vars spare ws hs refs) t)) in
+    let from : (c : ℕ) → contains_reference c a.references ≡ true → IsItemOfList refs c = λ c t. (let S : List ℕ → Type 0 = λ ys. contains_reference c ys ≡ true in stands-from c refs (subst S (references-seen vars spare ws hs refs) t)) in
     record {
       long = λ c t n. (let s = from c t in
           let m = clause-length vars spare ws hs refs c k s in
-          (lit_from_place (get_or ws (c + 1) 0), lit_from_place (get_or ws (c + 3) 0), watches-two vars spare ws hs refs c k s (omega (arith, m, n))));
+          (lit_with_place_number (get_or ws (c + 1) 0), lit_with_place_number (get_or ws (c + 3) 0), watches-two vars spare ws hs refs c k s (omega (arith, m, n))));
       short = λ c t n l. elim (cases_Bool (contains_reference c (chain_of a l))) [
         | inl b ↦ absurd (let s = from c t in
             let m = clause-length vars spare ws hs refs c k s in
@@ -127,7 +127,7 @@ arena-law vars spare ws hs refs k =
       ];
       once = λ l. elim (cases_lt (place l) (length hs)) [
         | inl b ↦ (let D : List ℕ → Type 0 = λ ys. IsDistinct eqb ys in
-            subst D (sym (chain-seen vars spare ws hs refs (place l) b)) (distinct-std (chain_for_place ws hs (place l)) (k.chains.once (place l) b)))
+            subst D (sym (chain-seen vars spare ws hs refs (place l) b)) (distinct-std (chain_for_lit_place ws hs (place l)) (k.chains.once (place l) b)))
         | inr b ↦ (let D : List ℕ → Type 0 = λ ys. IsDistinct eqb ys in
             let n = chains-count vars spare ws hs refs in
             subst D (sym (get_or_past a.chains (place l) [] (omega (arith, n)))) (distinct-std [] tt))

@@ -3,8 +3,8 @@ use Rattle.std.specs.List.{list_any, IsDistinct, AllByRecursion}
 use Rattle.std.proofs.lemmas.Bool.Decides.{eqb_tells}
 use Rattle.std.proofs.lemmas.Bool.{cases_order, or_cases, ne_eqb}
 use Rattle.std.proofs.lemmas.Map.Steps.{length-le_from_distinct_below}
-use Rattle.ilk_arena.specs.Words.{IsChainPath, AllSatisfy, IsMemberOf, HasWatch, Distinct, ChainsAreWatchPaths, AreHeadersInsideAndApart}
-use Rattle.ilk_arena.specs.Linked.{chain_for_place, HasWatchChains}
+use Rattle.ilk_arena.specs.Words.{IsChainPath, AllSatisfy, IsItemOfList, HasWatch, Distinct, ChainsAreWatchPaths, AreHeadersInsideAndApart}
+use Rattle.ilk_arena.specs.Linked.{chain_for_lit_place, HasWatchChains}
 use Rattle.ilk_arena.proofs.Paths.{chain-is}
 use Rattle.ilk_arena.proofs.ChainMoves.{each-map}
 
@@ -28,7 +28,7 @@ any-below n q (x ∷ xs) e h =
 pub short : (n : ℕ) (xs : List ℕ) → Distinct xs → AllSatisfy (λ c. c < n) xs → length xs ≤ n
 short n xs d e = length-le_from_distinct_below xs n (distinct-std xs d) (λ q h. any-below n q xs e h)
 
-pub headers-of : (ws hs refs : List ℕ) → HasWatchChains ws hs refs → AreHeadersInsideAndApart ws (IsMemberOf refs)
+pub headers-of : (ws hs refs : List ℕ) → HasWatchChains ws hs refs → AreHeadersInsideAndApart ws (IsItemOfList refs)
 headers-of ws hs refs k = record {
   room = λ c r. (k.positive c r, omega (arith, k.whole c r));
   apart = λ c d r s n. elim (cases_order c d) [
@@ -37,8 +37,8 @@ headers-of ws hs refs k = record {
   ];
 }
 
-pub chain_for_place-is : (ws hs : List ℕ) (R : ℕ → Type 0) (cs : ℕ → List ℕ) → AreHeadersInsideAndApart ws R → ChainsAreWatchPaths ws hs R cs → (l : ℕ) → l < length hs → chain_for_place ws hs l ≡ cs l
-chain_for_place-is ws hs R cs hd k l h =
+pub chain_for_lit_place-is : (ws hs : List ℕ) (R : ℕ → Type 0) (cs : ℕ → List ℕ) → AreHeadersInsideAndApart ws R → ChainsAreWatchPaths ws hs R cs → (l : ℕ) → l < length hs → chain_for_lit_place ws hs l ≡ cs l
+chain_for_lit_place-is ws hs R cs hd k l h =
     let below : AllSatisfy (λ c. c < length ws) (cs l) = each-map (λ c. R c × HasWatch ws c l) (λ c. c < length ws) (cs l) (λ c r. omega (arith, hd.room c r.0)) (k.held l h) in
     chain-is ws l (length ws) (get_or hs l 0) (cs l) (short (length ws) (cs l) (k.once l h) below) (k.path l h)
 

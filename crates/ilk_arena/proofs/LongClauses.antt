@@ -4,9 +4,9 @@ use Rattle.std.proofs.lemmas.List.{get_or_read, length-map}
 use Rattle.std.proofs.lemmas.Option.{slice_get_read}
 use Rattle.ilk_cnf.specs.Literal.{Literal, has_distinct_vars}
 use Rattle.ilk_cnf.specs.Formula.{is_clause_over}
-use Rattle.ilk_arena.specs.Arena.{ArenaLists, place}
+use Rattle.ilk_arena.specs.Arena.{ArenaContent, place}
 use Rattle.ilk_arena.specs.declared.place.TheConstants.{WORD_VALUE_LIMIT}
-use Rattle.ilk_arena.specs.Linked.{references_in, lists_of, HoldsArena}
+use Rattle.ilk_arena.specs.Linked.{references_in_block, lists_of, IsArenaInvariant}
 use Rattle.ilk_arena.proofs.Appending.{block}
 use Rattle.ilk_arena.proofs.AddedClauses.{Grown, words_long, heads_long, long-law, lit-fits}
 use Rattle.ilk_arena.proofs.Readings.{vars-are, spare-are}
@@ -18,8 +18,8 @@ pub record LiteralRead (hs : List ℕ) (ls : List Literal) (i : ℕ) (l : Litera
   pub chained : place l < length hs
 
 pub literal-read :
-    {vars count : ℕ} {ws hs : List ℕ} {x : ArenaLists} (old : ℕ) (ls : List Literal) (i : ℕ) (l : Literal) →
-    HoldsArena ws hs vars count → lists_of vars old ws hs (references_in ws) ≡ x →
+    {vars count : ℕ} {ws hs : List ℕ} {x : ArenaContent} (old : ℕ) (ls : List Literal) (i : ℕ) (l : Literal) →
+    IsArenaInvariant ws hs vars count → lists_of vars old ws hs (references_in_block ws) ≡ x →
     is_clause_over x.vars ls ≡ true → i < length ls → l ≡ get_or ls i l → LiteralRead hs ls i l
 literal-read {vars} {count} {ws} {hs} {x} old ls i l h e within below is =
     let within0 = ap (λ (n : ℕ). is_clause_over n ls) (vars-are vars old ws hs x e) ∙ within in
@@ -45,8 +45,8 @@ pub record LongWritten (ws hs us ks : List ℕ) (count reference : ℕ) (ls : Li
   pub heads_are : ks ≡ set (set hs left reference) right reference
 
 pub long-grown :
-    {vars count reference : ℕ} {ws hs us ks : List ℕ} {ls : List Literal} {x : ArenaLists} (spare old : ℕ) →
-    HoldsArena ws hs vars count → lists_of vars old ws hs (references_in ws) ≡ x →
+    {vars count reference : ℕ} {ws hs us ks : List ℕ} {ls : List Literal} {x : ArenaContent} (spare old : ℕ) →
+    IsArenaInvariant ws hs vars count → lists_of vars old ws hs (references_in_block ws) ≡ x →
     is_clause_over x.vars ls ≡ true → has_distinct_vars ls ≡ true → 2 ≤ length ls → length ls + 8 ≤ x.spare →
     old + length ws ≤ WORD_VALUE_LIMIT → LongWritten ws hs us ks count reference ls →
     Grown vars spare count us ks x ls reference

@@ -4,26 +4,26 @@ use Rattle.std.proofs.lemmas.Bool.Decides.{eqb_tells}
 use Rattle.std.proofs.lemmas.Bool.{cases_Bool, and_parts, and_from, leb-true, not-true, not_from_false}
 use Rattle.ilk_cnf.specs.Literal.{Literal, same_lit}
 use Rattle.ilk_cnf.specs.Formula.{is_lit_over}
-use Rattle.ilk_arena.specs.Arena.{ArenaLists, place, chain_of, contains_reference, literals_of, cursor_of, number_of_clause, first_of, reference_after, other_watch_of}
+use Rattle.ilk_arena.specs.Arena.{ArenaContent, place, chain_of, contains_reference, literals_of, clause_cursor, number_of_clause, first_of, reference_after_in_list, other_watch_of}
 use Rattle.ilk_arena.specs.declared.place.TheConstants.{WORD_VALUE_LIMIT}
-use Rattle.ilk_arena.specs.Words.{IsMemberOf, HasWatch, left, right, next_reference_in_chain, other_watch_place, reference_unless_zero}
-use Rattle.ilk_arena.specs.Linked.{lit_from_place, literal_places_at, chain_for_place, references_in, lists_of, HasWatchChains, HoldsArena}
+use Rattle.ilk_arena.specs.Words.{IsItemOfList, HasWatch, left, right, next_reference_in_chain, other_watch_place, reference_unless_zero}
+use Rattle.ilk_arena.specs.Linked.{lit_with_place_number, literal_places_at, chain_for_lit_place, references_in_block, lists_of, HasWatchChains, IsArenaInvariant}
 use Rattle.ilk_base.proofs.Lists.{find-only}
 use Rattle.ilk_arena.proofs.Blocks.{few-clauses}
-use Rattle.ilk_arena.proofs.Seen.{stands-from, lit-at-place, place-within, chain-seen, clause-seen, cursor-seen, references-seen, vars-seen, first-is, reference_after-is}
+use Rattle.ilk_arena.proofs.Seen.{stands-from, lit-at-place, place-within, chain-seen, clause-seen, cursor-seen, references-seen, vars-seen, first-is, reference_after_in_list-is}
 use Rattle.ilk_arena.proofs.Law.{place-of-lit, InChain, chain-has, clause-length, watch-gets, lit-of}
 use Rattle.ilk_arena.proofs.Relinking.{long-of}
 use Rattle.ilk_cnf.proofs.SameLiterals.{same-lit, lit-is}
 
-pub record Known (ws : List ℕ) (a : ArenaLists) (c : ℕ) : Type 0 where
-  pub stands : IsMemberOf (references_in ws) c
+pub record Known (ws : List ℕ) (a : ArenaContent) (c : ℕ) : Type 0 where
+  pub stands : IsItemOfList (references_in_block ws) c
   pub room : c + 7 + get_or ws c 0 ≤ length ws
   pub len : get_or ws c 0 ≡ length (literals_of a c)
   pub number : get_or ws (c + 5) 0 ≡ number_of_clause a c
-  pub cursor : get_or ws (c + 6) 0 ≡ cursor_of a c
+  pub cursor : get_or ws (c + 6) 0 ≡ clause_cursor a c
   pub within : get_or ws (c + 6) 0 ≤ get_or ws c 0
 
-position-at : (c : ℕ) (refs : List ℕ) → IsMemberOf refs c → slice_get refs (position_or_len (λ x. x == c) refs) ≡ Some c
+position-at : (c : ℕ) (refs : List ℕ) → IsItemOfList refs c → slice_get refs (position_or_len (λ x. x == c) refs) ≡ Some c
 position-at c [] s = absurd s
 position-at c (r ∷ rs) s =
     elim (eqb_tells r c) [
@@ -37,34 +37,34 @@ position-at c (r ∷ rs) s =
       ])
     ]
 
-pub stands-known : (vars spare : ℕ) (ws hs : List ℕ) (a : ArenaLists) (c : ℕ) → lists_of vars spare ws hs (references_in ws) ≡ a → contains_reference c a.references ≡ true → IsMemberOf (references_in ws) c
+pub stands-known : (vars spare : ℕ) (ws hs : List ℕ) (a : ArenaContent) (c : ℕ) → lists_of vars spare ws hs (references_in_block ws) ≡ a → contains_reference c a.references ≡ true → IsItemOfList (references_in_block ws) c
 stands-known vars spare ws hs a c e t =
-    let refs = references_in ws in
-    let rs : a.references ≡ refs = ap (λ (y : ArenaLists). y.references) (sym e) ∙ references-seen vars spare ws hs refs in
+    let refs = references_in_block ws in
+    let rs : a.references ≡ refs = ap (λ (y : ArenaContent). y.references) (sym e) ∙ references-seen vars spare ws hs refs in
     stands-from c refs (ap (contains_reference c) (sym rs) ∙ t)
 
-pub known : (vars spare count : ℕ) (ws hs : List ℕ) (a : ArenaLists) (c : ℕ) → HoldsArena ws hs vars count → lists_of vars spare ws hs (references_in ws) ≡ a → contains_reference c a.references ≡ true → Known ws a c
+pub known : (vars spare count : ℕ) (ws hs : List ℕ) (a : ArenaContent) (c : ℕ) → IsArenaInvariant ws hs vars count → lists_of vars spare ws hs (references_in_block ws) ≡ a → contains_reference c a.references ≡ true → Known ws a c
 known vars spare count ws hs a c h e t =
-    let refs = references_in ws in
+    let refs = references_in_block ws in
     let s = stands-known vars spare ws hs a c e t in
     record {
       stands = s;
       room = h.linked.whole c s;
-      len = sym (clause-length vars spare ws hs refs c h.linked s) ∙ ap (λ (x : ArenaLists). length (literals_of x c)) e;
-      number = h.laid.number (position_or_len (λ x. x == c) refs) c (position-at c refs s) ∙ ap (λ (rs : List ℕ). position_or_len (λ x. x == c) rs + 1) (sym (references-seen vars spare ws hs refs)) ∙ ap (λ (x : ArenaLists). number_of_clause x c) e;
-      cursor = sym (cursor-seen vars spare ws hs refs c s) ∙ ap (λ (x : ArenaLists). cursor_of x c) e;
+      len = sym (clause-length vars spare ws hs refs c h.linked s) ∙ ap (λ (x : ArenaContent). length (literals_of x c)) e;
+      number = h.laid.number (position_or_len (λ x. x == c) refs) c (position-at c refs s) ∙ ap (λ (rs : List ℕ). position_or_len (λ x. x == c) rs + 1) (sym (references-seen vars spare ws hs refs)) ∙ ap (λ (x : ArenaContent). number_of_clause x c) e;
+      cursor = sym (cursor-seen vars spare ws hs refs c s) ∙ ap (λ (x : ArenaContent). clause_cursor x c) e;
       within = h.laid.cursor c s;
     }
 
-pub record Within (ws hs : List ℕ) (a : ArenaLists) (l : Literal) : Type 0 where
+pub record Within (ws hs : List ℕ) (a : ArenaContent) (l : Literal) : Type 0 where
   pub few : 2 * l.var + 1 < WORD_VALUE_LIMIT
   pub below : place l < length hs
-  pub chain : chain_of a l ≡ chain_for_place ws hs (place l)
+  pub chain : chain_of a l ≡ chain_for_lit_place ws hs (place l)
 
-pub within : (vars spare count : ℕ) (ws hs : List ℕ) (a : ArenaLists) (l : Literal) → HoldsArena ws hs vars count → lists_of vars spare ws hs (references_in ws) ≡ a → is_lit_over a.vars l ≡ true → Within ws hs a l
+pub within : (vars spare count : ℕ) (ws hs : List ℕ) (a : ArenaContent) (l : Literal) → IsArenaInvariant ws hs vars count → lists_of vars spare ws hs (references_in_block ws) ≡ a → is_lit_over a.vars l ≡ true → Within ws hs a l
 within vars spare count ws hs a l h e t =
-    let refs = references_in ws in
-    let v : vars ≡ a.vars = sym (vars-seen vars spare ws hs refs) ∙ ap (λ (x : ArenaLists). x.vars) e in
+    let refs = references_in_block ws in
+    let v : vars ≡ a.vars = sym (vars-seen vars spare ws hs refs) ∙ ap (λ (x : ArenaContent). x.vars) e in
     let fv : is_lit_over vars l ≡ true = ap (λ (n : ℕ). is_lit_over n l) v ∙ t in
     let w = place-within vars l fv in
     let p : (ltb 0 l.var ≡ true) × (leb l.var vars ≡ true) = and_parts _ _ fv in
@@ -72,23 +72,24 @@ within vars spare count ws hs a l h e t =
     record {
       few = omega (arith, leb-true l.var vars p.1, h.few);
       below = b;
-      chain = ap (λ (x : ArenaLists). chain_of x l) (sym e) ∙ chain-seen vars spare ws hs refs (place l) b;
+      chain = ap (λ (x : ArenaContent). chain_of x l) (sym e) ∙ chain-seen vars spare ws hs refs (place l) b;
     }
 
-pub first-seen : (vars spare count : ℕ) (ws hs : List ℕ) (a : ArenaLists) (l : Literal) → HoldsArena ws hs vars count → Within ws hs a l → reference_unless_zero (get_or hs (place l) 0) ≡ first_of (chain_of a l)
-first-seen vars spare count ws hs a l h w = first-is ws (place l) (get_or hs (place l) 0) (chain_for_place ws hs (place l)) (h.linked.chains.path (place l) w.below) ∙ ap first_of (sym w.chain)
+pub first-seen : (vars spare count : ℕ) (ws hs : List ℕ) (a : ArenaContent) (l : Literal) → IsArenaInvariant ws hs vars count → Within ws hs a l → reference_unless_zero (get_or hs (place l) 0) ≡ first_of (chain_of a l)
+first-seen vars spare count ws hs a l h w = first-is ws (place l) (get_or hs (place l) 0) (chain_for_lit_place ws hs (place l)) (h.linked.chains.path (place l) w.below) ∙ ap first_of (sym w.chain)
 
-pub watching : (vars spare : ℕ) (ws hs : List ℕ) (a : ArenaLists) (l : Literal) (c : ℕ) → HasWatchChains ws hs (references_in ws) → lists_of vars spare ws hs (references_in ws) ≡ a → contains_reference c (chain_of a l) ≡ true
-    → InChain ws hs (references_in ws) l c
-watching vars spare ws hs a l c k e t = chain-has vars spare ws hs (references_in ws) l c k (ap (λ (x : ArenaLists). contains_reference c (chain_of x l)) e ∙ t)
+pub watching : (vars spare : ℕ) (ws hs : List ℕ) (a : ArenaContent) (l : Literal) (c : ℕ) → HasWatchChains ws hs (references_in_block ws) → lists_of vars spare ws hs (references_in_block ws) ≡ a → contains_reference c (chain_of a l) ≡ true
+    → InChain ws hs (references_in_block ws) l c
+watching vars spare ws hs a l c k e t = chain-has vars spare ws hs (references_in_block ws) l c k (ap (λ (x : ArenaContent). contains_reference c (chain_of x l)) e ∙ t)
 
-pub reference_after-seen : (vars count : ℕ) (ws hs : List ℕ) (a : ArenaLists) (l : Literal) (c : ℕ) → HoldsArena ws hs vars count → Within ws hs a l → InChain ws hs (references_in ws) l c
-    → reference_unless_zero (next_reference_in_chain ws (place l) c) ≡ reference_after c (chain_of a l)
-reference_after-seen vars count ws hs a l c h w i = reference_after-is ws (place l) (get_or hs (place l) 0) c (chain_for_place ws hs (place l)) (h.linked.chains.path (place l) w.below) i.stands ∙ ap (reference_after c) (sym w.chain)
+pub reference_after_in_list-seen : (vars count : ℕ) (ws hs : List ℕ) (a : ArenaContent) (l : Literal) (c : ℕ) → IsArenaInvariant ws hs vars count → Within ws hs a l → InChain ws hs (references_in_block ws) l c
+    → reference_unless_zero (next_reference_in_chain ws (place l) c) ≡ reference_after_in_list c (chain_of a l)
+reference_after_in_list-seen vars count ws hs a l c h w i = reference_after_in_list-is ws (place l) (get_or hs (place l) 0) c (chain_for_lit_place ws hs (place l)) (h.linked.chains.path (place l) w.below) i.stands
+    ∙ ap (reference_after_in_list c) (sym w.chain)
 
-pub record OtherWatch (ws : List ℕ) (a : ArenaLists) (c : ℕ) (l : Literal) : Type 0 where
+pub record OtherWatch (ws : List ℕ) (a : ArenaContent) (c : ℕ) (l : Literal) : Type 0 where
   pub low : 2 ≤ other_watch_place ws (place l) c
-  pub is : other_watch_of a c l ≡ Some (lit_from_place (other_watch_place ws (place l) c))
+  pub is : other_watch_of a c l ≡ Some (lit_with_place_number (other_watch_place ws (place l) c))
 
 record Other (ws : List ℕ) (c f q : ℕ) : Type 0 where
   watches : HasWatch ws c q
@@ -111,18 +112,18 @@ other_watch_place-is ws c f n w =
     rights p (left e) m t (right g) = sym e
     rights p (right e) m t (right g) = absurd (m (sym e ∙ g))
 
-watch-place : (ws hs refs : List ℕ) (c p : ℕ) → HasWatchChains ws hs refs → IsMemberOf refs c → 2 ≤ get_or ws c 0 → HasWatch ws c p → IsMemberOf (literal_places_at ws c) p
-watch-place ws hs refs c p k s h (left e) = (let S : ℕ → Type 0 = λ j. IsMemberOf (literal_places_at ws c) j in subst S e (k.left_own c s h))
-watch-place ws hs refs c p k s h (right e) = (let S : ℕ → Type 0 = λ j. IsMemberOf (literal_places_at ws c) j in subst S e (k.right_own c s h))
+watch-place : (ws hs refs : List ℕ) (c p : ℕ) → HasWatchChains ws hs refs → IsItemOfList refs c → 2 ≤ get_or ws c 0 → HasWatch ws c p → IsItemOfList (literal_places_at ws c) p
+watch-place ws hs refs c p k s h (left e) = (let S : ℕ → Type 0 = λ j. IsItemOfList (literal_places_at ws c) j in subst S e (k.left_own c s h))
+watch-place ws hs refs c p k s h (right e) = (let S : ℕ → Type 0 = λ j. IsItemOfList (literal_places_at ws c) j in subst S e (k.right_own c s h))
 
-index-of : (ps : List ℕ) (q : ℕ) → IsMemberOf ps q → (i : ℕ) × (slice_get (map lit_from_place ps) i ≡ Some (lit_from_place q))
+index-of : (ps : List ℕ) (q : ℕ) → IsItemOfList ps q → (i : ℕ) × (slice_get (map lit_with_place_number ps) i ≡ Some (lit_with_place_number q))
 index-of [] q s = absurd s
-index-of (p ∷ ps) q s = elim s [ inl e ↦ (0, ap (λ (x : ℕ). Some (lit_from_place x)) e) | inr r ↦ (let t = index-of ps q r in (suc t.0, t.1)) ]
+index-of (p ∷ ps) q s = elim s [ inl e ↦ (0, ap (λ (x : ℕ). Some (lit_with_place_number x)) e) | inr r ↦ (let t = index-of ps q r in (suc t.0, t.1)) ]
 
-pub other_watch_place-seen : (vars spare count : ℕ) (ws hs : List ℕ) (a : ArenaLists) (l : Literal) (c : ℕ) → HoldsArena ws hs vars count → lists_of vars spare ws hs (references_in ws) ≡ a → contains_reference c (chain_of a l) ≡ true →
+pub other_watch_place-seen : (vars spare count : ℕ) (ws hs : List ℕ) (a : ArenaContent) (l : Literal) (c : ℕ) → IsArenaInvariant ws hs vars count → lists_of vars spare ws hs (references_in_block ws) ≡ a → contains_reference c (chain_of a l) ≡ true →
     OtherWatch ws a c l
 other_watch_place-seen vars spare count ws hs a l c h e t =
-    let refs = references_in ws in
+    let refs = references_in_block ws in
     let k = h.linked in
     let i = watching vars spare ws hs a l c k e t in
     let f = place l in
@@ -132,7 +133,7 @@ other_watch_place-seen vars spare count ws hs a l c h e t =
     let lg : 2 ≤ get_or ws c 0 = long-of ws hs refs c f k s i.least i.watches in
     let o = other_watch_place-is ws c f (k.differ c s) i.watches in
     let own = watch-place ws hs refs c q k s lg o.watches in
-    let x = lit_from_place q in
+    let x = lit_with_place_number q in
     let n = index-of (literal_places_at ws c) q own in
     let p : Literal → Bool = λ m. contains_reference c (chain_of L m) && not (same_lit l m) in
     let in-list : slice_get (literals_of L c) n.0 ≡ Some x = ap (λ (ls : List Literal). slice_get ls n.0) (clause-seen vars spare ws hs refs c s) ∙ n.1 in
@@ -146,29 +147,29 @@ other_watch_place-seen vars spare count ws hs a l c h e t =
     let parts = and_parts (contains_reference c (chain_of L y)) (not (same_lit l y)) py in
     let w = chain-has vars spare ws hs refs y c k parts.0 in
     let differs : place y ≢ f = λ g. (
-    let same : y ≡ l = sym (lit-at-place y) ∙ ap lit_from_place g ∙ lit-at-place l in
+    let same : y ≡ l = sym (lit-at-place y) ∙ ap lit_with_place_number g ∙ lit-at-place l in
     let no : same_lit l y ≡ false = not-true (same_lit l y) parts.1 in
     let yes : same_lit l y ≡ true = ap (same_lit l) same ∙ same-lit l in
     absurd (cc)) in
     lit-of q y (sym (o.only (place y) w.watches differs))) in
     record {
       low = k.least c q s own;
-      is = ap (λ (y : ArenaLists). other_watch_of y c l) (sym e) ∙ find-only p (literals_of L c) x n.0 in-list passes only;
+      is = ap (λ (y : ArenaContent). other_watch_of y c l) (sym e) ∙ find-only p (literals_of L c) x n.0 in-list passes only;
     }
 
-pub vars-are : (vars spare : ℕ) (ws hs : List ℕ) (a : ArenaLists) → lists_of vars spare ws hs (references_in ws) ≡ a → vars ≡ a.vars
-vars-are vars spare ws hs a e = sym (vars-seen vars spare ws hs (references_in ws)) ∙ ap (λ (x : ArenaLists). x.vars) e
+pub vars-are : (vars spare : ℕ) (ws hs : List ℕ) (a : ArenaContent) → lists_of vars spare ws hs (references_in_block ws) ≡ a → vars ≡ a.vars
+vars-are vars spare ws hs a e = sym (vars-seen vars spare ws hs (references_in_block ws)) ∙ ap (λ (x : ArenaContent). x.vars) e
 
 pub spare-is : (vars spare : ℕ) (ws hs refs : List ℕ) → (lists_of vars spare ws hs refs).spare ≡ spare
 unfolding lists_of
 spare-is vars spare ws hs refs = refl
 
-pub spare-are : (vars spare : ℕ) (ws hs : List ℕ) (a : ArenaLists) → lists_of vars spare ws hs (references_in ws) ≡ a → spare ≡ a.spare
-spare-are vars spare ws hs a e = sym (spare-is vars spare ws hs (references_in ws)) ∙ ap (λ (x : ArenaLists). x.spare) e
+pub spare-are : (vars spare : ℕ) (ws hs : List ℕ) (a : ArenaContent) → lists_of vars spare ws hs (references_in_block ws) ≡ a → spare ≡ a.spare
+spare-are vars spare ws hs a e = sym (spare-is vars spare ws hs (references_in_block ws)) ∙ ap (λ (x : ArenaContent). x.spare) e
 
-pub spare-change : (vars spare more : ℕ) (ws hs : List ℕ) (a : ArenaLists) → lists_of vars spare ws hs (references_in ws) ≡ a → lists_of vars more ws hs (references_in ws) ≡ record a { spare = more }
+pub spare-change : (vars spare more : ℕ) (ws hs : List ℕ) (a : ArenaContent) → lists_of vars spare ws hs (references_in_block ws) ≡ a → lists_of vars more ws hs (references_in_block ws) ≡ record a { spare = more }
 unfolding lists_of
-spare-change vars spare more ws hs a e = ap (λ (x : ArenaLists). record x { spare = more }) e
+spare-change vars spare more ws hs a e = ap (λ (x : ArenaContent). record x { spare = more }) e
 
-pub count-fits : (vars count : ℕ) (ws hs : List ℕ) → HoldsArena ws hs vars count → count < length ws
-count-fits vars count ws hs h = omega (arith, h.counted, few-clauses ws (references_in ws) h.laid.blocks)
+pub count-fits : (vars count : ℕ) (ws hs : List ℕ) → IsArenaInvariant ws hs vars count → count < length ws
+count-fits vars count ws hs h = omega (arith, h.counted, few-clauses ws (references_in_block ws) h.laid.blocks)

@@ -3,8 +3,8 @@ use Rattle.std.proofs.lemmas.List.{get_or-set_other, drop-set-lt, drop-set-add, 
 use Rattle.std.proofs.lemmas.Bool.Decides.{nat_tests, eqb_tells}
 use Rattle.std.proofs.lemmas.Bool.{cases_eq, cases_order}
 use Rattle.std.proofs.Math.ListN.{length-set}
-use Rattle.ilk_arena.specs.Words.{link_index, watch_moved, words_after_unlink, heads_after_unlink, AllSatisfy, IsMemberOf, FollowsOrIsFirst, HasWatch, left, right, Distinct, ChainsAreWatchPaths, with_chain_replaced}
-use Rattle.ilk_arena.specs.Linked.{literal_places_at, chain_for_place, HasWatchChains}
+use Rattle.ilk_arena.specs.Words.{link_index, watch_moved, words_after_unlink, heads_after_unlink, AllSatisfy, IsItemOfList, FollowsOrHeadsChain, HasWatch, left, right, Distinct, ChainsAreWatchPaths, chains_with_one_replaced}
+use Rattle.ilk_arena.specs.Linked.{literal_places_at, chain_for_lit_place, HasWatchChains}
 use Rattle.ilk_arena.specs.Arena.{without_reference}
 use Rattle.ilk_arena.proofs.HeaderWrites.{link_index-in, moved-reads-left, moved-reads-right}
 use Rattle.ilk_arena.proofs.ChainMoves.{each-back, drop-first, drop-later}
@@ -35,7 +35,7 @@ without-gone c [] = tt
 without-gone c (x ∷ xs) =
     elim (eqb_tells x c) [ inl p ↦ rw p.0 (without-gone c xs) | inr p ↦ rw p.0 (p.1, without-gone c xs) ]
 
-pub stands-without : (c d : ℕ) (xs : List ℕ) → d ≢ c → IsMemberOf xs d → IsMemberOf (without_reference c xs) d
+pub stands-without : (c d : ℕ) (xs : List ℕ) → d ≢ c → IsItemOfList xs d → IsItemOfList (without_reference c xs) d
 stands-without c d [] n s = absurd s
 stands-without c d (x ∷ xs) n s =
     elim (eqb_tells x c) [
@@ -43,11 +43,11 @@ stands-without c d (x ∷ xs) n s =
       | inr p ↦ rw p.0 (elim s [ inl e ↦ inl e | inr r ↦ inr (stands-without c d xs n r) ])
     ]
 
-pub stands-in : (pre : List ℕ) (c : ℕ) (post : List ℕ) → IsMemberOf (pre ++ (c ∷ post)) c
+pub stands-in : (pre : List ℕ) (c : ℕ) (post : List ℕ) → IsItemOfList (pre ++ (c ∷ post)) c
 stands-in [] c post = inl refl
 stands-in (p ∷ pre) c post = inr (stands-in pre c post)
 
-pub each-at : (P : ℕ → Type 0) (xs : List ℕ) (c : ℕ) → IsMemberOf xs c → AllSatisfy P xs → P c
+pub each-at : (P : ℕ → Type 0) (xs : List ℕ) (c : ℕ) → IsItemOfList xs c → AllSatisfy P xs → P c
 each-at P [] c s e = absurd s
 each-at P (x ∷ xs) c s e = elim s [ inl q ↦ subst P q e.0 | inr r ↦ each-at P xs c r e.1 ]
 
@@ -85,22 +85,22 @@ same-after ws R c d i v clear rc rd lo hi =
 -- Two blocks that differ only in the watches and links of headers.
 pub record Alike (ws vs refs : List ℕ) : Type 0 where
   pub size : length vs ≡ length ws
-  pub same : (d : ℕ) → IsMemberOf refs d → Same ws vs d
+  pub same : (d : ℕ) → IsItemOfList refs d → Same ws vs d
 
 pub record SameWatches (ws vs refs : List ℕ) : Type 0 where
-  pub left_same : (d : ℕ) → IsMemberOf refs d → get_or vs (d + 1) 0 ≡ get_or ws (d + 1) 0
-  pub right_same : (d : ℕ) → IsMemberOf refs d → get_or vs (d + 3) 0 ≡ get_or ws (d + 3) 0
+  pub left_same : (d : ℕ) → IsItemOfList refs d → get_or vs (d + 1) 0 ≡ get_or ws (d + 1) 0
+  pub right_same : (d : ℕ) → IsItemOfList refs d → get_or vs (d + 3) 0 ≡ get_or ws (d + 3) 0
 
-pub alike-set : (ws hs refs : List ℕ) (c i v : ℕ) → HasWatchChains ws hs refs → IsMemberOf refs c → c < i → i < c + 5 → Alike ws (set ws i v) refs
+pub alike-set : (ws hs refs : List ℕ) (c i v : ℕ) → HasWatchChains ws hs refs → IsItemOfList refs c → c < i → i < c + 5 → Alike ws (set ws i v) refs
 alike-set ws hs refs c i v k r lo hi = record {
   size = simp length-set;
-  same = λ d s. same-after ws (IsMemberOf refs) c d i v k.clear r s lo hi;
+  same = λ d s. same-after ws (IsItemOfList refs) c d i v k.clear r s lo hi;
 }
 
-pub other-header : (ws hs refs : List ℕ) (c d : ℕ) → HasWatchChains ws hs refs → IsMemberOf refs c → IsMemberOf refs d → c ≢ d → (c + 7 ≤ d) ⊎ (d + 7 ≤ c)
+pub other-header : (ws hs refs : List ℕ) (c d : ℕ) → HasWatchChains ws hs refs → IsItemOfList refs c → IsItemOfList refs d → c ≢ d → (c + 7 ≤ d) ⊎ (d + 7 ≤ c)
 other-header ws hs refs c d k r s n = (headers-of ws hs refs k).apart c d r s n
 
-pub same-set : (ws hs refs : List ℕ) (f b v : ℕ) → HasWatchChains ws hs refs → IsMemberOf refs b → SameWatches ws (set ws (link_index ws f b) v) refs
+pub same-set : (ws hs refs : List ℕ) (f b v : ℕ) → HasWatchChains ws hs refs → IsItemOfList refs b → SameWatches ws (set ws (link_index ws f b) v) refs
 same-set ws hs refs f b v k r = record {
   left_same = λ d s. elim (cases_eq b d) [
     | inl e ↦ get_or-set_other ws (link_index ws f b) (d + 1) v 0 (grind (arith, link_index-in ws f b))
@@ -135,14 +135,14 @@ watch-back ws f c t v l h n wf w =
     pick2 ws vs c f t l p n a b (right x) (right q) = inl (sym q ∙ b)
 
 pub unlinked : (ws hs refs : List ℕ) (before : Option ℕ) (f c : ℕ) → HasWatchChains ws hs refs → f < length hs →
-    FollowsOrIsFirst before c (chain_for_place ws hs f) →
-    ChainsAreWatchPaths (words_after_unlink ws before f c) (heads_after_unlink hs ws before f c) (IsMemberOf refs)
-    (with_chain_replaced (chain_for_place ws hs) f (without_reference c (chain_for_place ws hs f)))
+    FollowsOrHeadsChain before c (chain_for_lit_place ws hs f) →
+    ChainsAreWatchPaths (words_after_unlink ws before f c) (heads_after_unlink hs ws before f c) (IsItemOfList refs)
+    (chains_with_one_replaced (chain_for_lit_place ws hs) f (without_reference c (chain_for_lit_place ws hs f)))
 unlinked ws hs refs None f c k h a =
-    let e : without_reference c (chain_for_place ws hs f) ≡ a.0 = rw a.1 (without-first c a.0 (let D : List ℕ → Type 0 = λ ys. Distinct ys in let d : Distinct (c ∷ a.0) = subst D a.1 (k.chains.once f h) in d.0)) in
-    rw e (drop-first ws hs (IsMemberOf refs) (chain_for_place ws hs) f c a.0 h a.1 k.chains)
+    let e : without_reference c (chain_for_lit_place ws hs f) ≡ a.0 = rw a.1 (without-first c a.0 (let D : List ℕ → Type 0 = λ ys. Distinct ys in let d : Distinct (c ∷ a.0) = subst D a.1 (k.chains.once f h) in d.0)) in
+    rw e (drop-first ws hs (IsItemOfList refs) (chain_for_lit_place ws hs) f c a.0 h a.1 k.chains)
 unlinked ws hs refs (Some b) f c k h a =
     let D : List ℕ → Type 0 = λ ys. Distinct ys in
     let d : Distinct (a.0 ++ (b ∷ (c ∷ a.1.0))) = subst D a.1.1 (k.chains.once f h) in
-    let e : without_reference c (chain_for_place ws hs f) ≡ a.0 ++ (b ∷ a.1.0) = rw a.1.1 (without-later a.0 b c a.1.0 d) in
-    rw e (drop-later ws hs (IsMemberOf refs) (chain_for_place ws hs) f b c a.0 a.1.0 h a.1.1 (headers-of ws hs refs k) k.chains)
+    let e : without_reference c (chain_for_lit_place ws hs f) ≡ a.0 ++ (b ∷ a.1.0) = rw a.1.1 (without-later a.0 b c a.1.0 d) in
+    rw e (drop-later ws hs (IsItemOfList refs) (chain_for_lit_place ws hs) f b c a.0 a.1.0 h a.1.1 (headers-of ws hs refs k) k.chains)

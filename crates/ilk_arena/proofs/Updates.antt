@@ -2,17 +2,17 @@ use Rattle.std.proofs.Common.{◌≡◌, ℕ, ◌<◌, inl, inr, List, [], ◌�
 use Rattle.std.proofs.lemmas.Bool.Decides.{eqb_tells}
 use Rattle.std.proofs.lemmas.List.{get_or-set_same, get_or-set_other, length-set}
 use Rattle.ilk_cnf.specs.Literal.{Literal, has_distinct_vars}
-use Rattle.ilk_arena.specs.Arena.{ArenaLists}
-use Rattle.ilk_arena.specs.Words.{IsMemberOf, with_chain_replaced}
-use Rattle.ilk_arena.specs.Linked.{lit_from_place, literals_at, cursor_at, chain_for_place, references_in, lists_of, HasWatchChains, HasClausesInOrder, HoldsArena}
+use Rattle.ilk_arena.specs.Arena.{ArenaContent}
+use Rattle.ilk_arena.specs.Words.{IsItemOfList, chains_with_one_replaced}
+use Rattle.ilk_arena.specs.Linked.{lit_with_place_number, literals_at, clause_cursor_at, chain_for_lit_place, references_in_block, lists_of, HasWatchChains, HasClausesInOrder, IsArenaInvariant}
 use Rattle.ilk_base.proofs.Lists.{list-ext}
 use Rattle.ilk_arena.proofs.Blocks.{references-are, blocks-same, stands-at}
 use Rattle.ilk_arena.proofs.Seen.{chain-seen, chains-count}
 use Rattle.ilk_arena.proofs.Unlinking.{Alike}
 
-pub arena-ext : (x y : ArenaLists) → x.vars ≡ y.vars → x.spare ≡ y.spare → x.references ≡ y.references → x.clauses ≡ y.clauses → x.cursors ≡ y.cursors → x.chains ≡ y.chains → x ≡ y
+pub arena-ext : (x y : ArenaContent) → x.vars ≡ y.vars → x.spare ≡ y.spare → x.references ≡ y.references → x.clauses ≡ y.clauses → x.cursors ≡ y.cursors → x.chains ≡ y.chains → x ≡ y
 arena-ext x y a b c d e f =
-    let A : (v s : ℕ) (rs : List ℕ) (cl : List (List Literal)) (cu : List ℕ) (ch : List (List ℕ)) → ArenaLists = λ v s rs cl cu ch. record { vars = v; spare = s; references = rs; clauses = cl; cursors = cu; chains = ch } in
+    let A : (v s : ℕ) (rs : List ℕ) (cl : List (List Literal)) (cu : List ℕ) (ch : List (List ℕ)) → ArenaContent = λ v s rs cl cu ch. record { vars = v; spare = s; references = rs; clauses = cl; cursors = cu; chains = ch } in
     ap (λ (v : ℕ). A v x.spare x.references x.clauses x.cursors x.chains) a
     ∙ ap (λ (s : ℕ). A y.vars s x.references x.clauses x.cursors x.chains) b
     ∙ ap (λ (rs : List ℕ). A y.vars y.spare rs x.clauses x.cursors x.chains) c
@@ -24,7 +24,7 @@ pub record Gives (chains : List (List ℕ)) (n : ℕ) (cs : ℕ → List ℕ) : 
   pub size : length chains ≡ n
   pub item : (p : ℕ) → p < n → get_or chains p [] ≡ cs p
 
-pub gives-set : (chains : List (List ℕ)) (n : ℕ) (cs : ℕ → List ℕ) (p : ℕ) (v w : List ℕ) → Gives chains n cs → p < n → v ≡ w → Gives (set chains p v) n (with_chain_replaced cs p w)
+pub gives-set : (chains : List (List ℕ)) (n : ℕ) (cs : ℕ → List ℕ) (p : ℕ) (v w : List ℕ) → Gives chains n cs → p < n → v ≡ w → Gives (set chains p v) n (chains_with_one_replaced cs p w)
 gives-set chains n cs p v w g h e = record {
   size = simp length-set g.size;
   item = λ q l. elim (eqb_tells q p) [
@@ -36,7 +36,7 @@ gives-set chains n cs p v w g h e = record {
 pub gives-one : (xs ys : List (List ℕ)) (n : ℕ) (cs : ℕ → List ℕ) → Gives xs n cs → Gives ys n cs → xs ≡ ys
 gives-one xs ys n cs a b = list-ext [] xs ys (a.size ∙ sym b.size) (λ i l. a.item i (omega (arith, a.size)) ∙ sym (b.item i (omega (arith, a.size))))
 
-pub gives-seen : (vars spare : ℕ) (ws hs refs : List ℕ) → Gives (lists_of vars spare ws hs refs).chains (length hs) (chain_for_place ws hs)
+pub gives-seen : (vars spare : ℕ) (ws hs refs : List ℕ) → Gives (lists_of vars spare ws hs refs).chains (length hs) (chain_for_lit_place ws hs)
 gives-seen vars spare ws hs refs = record {
   size = chains-count vars spare ws hs refs;
   item = λ p l. chain-seen vars spare ws hs refs p l;
@@ -45,7 +45,7 @@ gives-seen vars spare ws hs refs = record {
 pub gives-as : (xs : List (List ℕ)) (n : ℕ) (cs ds : ℕ → List ℕ) → Gives xs n cs → ((p : ℕ) → p < n → cs p ≡ ds p) → Gives xs n ds
 gives-as xs n cs ds g e = record { size = g.size; item = λ p l. g.item p l ∙ e p l }
 
-pub map-same : {A : Type 0} (f g : ℕ → A) (xs : List ℕ) → ((c : ℕ) → IsMemberOf xs c → f c ≡ g c) → map f xs ≡ map g xs
+pub map-same : {A : Type 0} (f g : ℕ → A) (xs : List ℕ) → ((c : ℕ) → IsItemOfList xs c → f c ≡ g c) → map f xs ≡ map g xs
 map-same f g [] e = refl
 map-same f g (x ∷ xs) e =
     ap (λ y. y ∷ map f xs) (e x (inl refl)) ∙ ap (λ ys. g x ∷ ys) (map-same f g xs (λ c s. e c (inr s)))
@@ -55,14 +55,14 @@ laid-alike ws us refs k a = record {
   blocks = blocks-same ws us 1 refs a.size (λ c s. (a.same c s).len) k.blocks;
   number = λ i c s. (a.same c (stands-at refs i c s)).number ∙ k.number i c s;
   cursor = λ c s. (let m = a.same c s in omega (arith, m.cursor, m.len, k.cursor c s));
-  apart = λ c s. ap (λ (ps : List ℕ). has_distinct_vars (map lit_from_place ps)) (a.same c s).places ∙ k.apart c s;
+  apart = λ c s. ap (λ (ps : List ℕ). has_distinct_vars (map lit_with_place_number ps)) (a.same c s).places ∙ k.apart c s;
 }
 
-pub holds-alike : (ws us hs ks : List ℕ) (vars count : ℕ) → HoldsArena ws hs vars count → Alike ws us (references_in ws) → length ks ≡ length hs → HasWatchChains us ks (references_in ws)
-    → HoldsArena us ks vars count × (references_in us ≡ references_in ws)
+pub holds-alike : (ws us hs ks : List ℕ) (vars count : ℕ) → IsArenaInvariant ws hs vars count → Alike ws us (references_in_block ws) → length ks ≡ length hs → HasWatchChains us ks (references_in_block ws)
+    → IsArenaInvariant us ks vars count × (references_in_block us ≡ references_in_block ws)
 holds-alike ws us hs ks vars count h a n li =
-    let d = laid-alike ws us (references_in ws) h.laid a in
-    let e : references_in us ≡ references_in ws = references-are us (references_in ws) d.blocks in
+    let d = laid-alike ws us (references_in_block ws) h.laid a in
+    let e : references_in_block us ≡ references_in_block ws = references-are us (references_in_block ws) d.blocks in
     let P : List ℕ → Type 0 = λ rs. HasWatchChains us ks rs in
     let Q : List ℕ → Type 0 = λ rs. HasClausesInOrder us rs in (
       record {
@@ -82,6 +82,6 @@ pub lists-alike : (vars spare : ℕ) (ws us hs ks refs : List ℕ) (chains : Lis
 unfolding lists_of
 lists-alike vars spare ws us hs ks refs chains a e =
     arena-ext (lists_of vars spare us ks refs) (record (lists_of vars spare ws hs refs) { chains = chains }) refl refl refl
-    (map-same (literals_at us) (literals_at ws) refs (λ c s. ap (λ (ps : List ℕ). map lit_from_place ps) (a.same c s).places))
-    (map-same (cursor_at us) (cursor_at ws) refs (λ c s. (a.same c s).cursor))
+    (map-same (literals_at us) (literals_at ws) refs (λ c s. ap (λ (ps : List ℕ). map lit_with_place_number ps) (a.same c s).places))
+    (map-same (clause_cursor_at us) (clause_cursor_at ws) refs (λ c s. (a.same c s).cursor))
     e

@@ -5,12 +5,12 @@ use Rattle.std.proofs.lemmas.Bool.Decides.{eqb_tells}
 use Rattle.std.proofs.lemmas.List.{get_or-set_other}
 use Rattle.std.proofs.lemmas.Map.Keys.{IsDistinct-head, IsDistinct-tail}
 use Rattle.ilk_cnf.specs.Literal.{Literal}
-use Rattle.ilk_arena.specs.Arena.{ArenaLists, place, chain_of, contains_reference, chains_with_first, chains_without, without_reference, with_clause_added, with_watch_moved}
-use Rattle.ilk_arena.specs.Linked.{lit_from_place}
+use Rattle.ilk_arena.specs.Arena.{ArenaContent, place, chain_of, contains_reference, chains_with_first, chains_without, without_reference, with_clause_added, with_watch_moved}
+use Rattle.ilk_arena.specs.Linked.{lit_with_place_number}
 use Rattle.ilk_arena.proofs.Seen.{lit-at-place}
 
 pub place-one : (l m : Literal) → place l ≡ place m → l ≡ m
-place-one l m e = sym (lit-at-place l) ∙ ap lit_from_place e ∙ lit-at-place m
+place-one l m e = sym (lit-at-place l) ∙ ap lit_with_place_number e ∙ lit-at-place m
 
 set-cases : (xs : List (List ℕ)) (i j : ℕ) (v : List ℕ) → (get_or (set xs i v) j [] ≡ get_or xs j []) ⊎ ((i ≡ j) × (get_or (set xs i v) j [] ≡ v))
 set-cases [] i j v = inl refl
@@ -46,14 +46,14 @@ stands-taken a f p c d h =
       | inr e ↦ ap (λ (i : ℕ). contains_reference d (get_or a i [])) (sym e.0) ∙ stands-left c d (get_or a (place f) []) (ap (contains_reference d) (sym e.1) ∙ h)
     ]
 
-pub stands-with_watch_moved : (a : ArenaLists) (c : ℕ) (f t : Literal) (d : ℕ) (p : Literal) → contains_reference d (chain_of (with_watch_moved a c f t) p) ≡ true → (contains_reference d (chain_of a p) ≡ true) ⊎ ((d ≡ c) × (p ≡ t))
+pub stands-with_watch_moved : (a : ArenaContent) (c : ℕ) (f t : Literal) (d : ℕ) (p : Literal) → contains_reference d (chain_of (with_watch_moved a c f t) p) ≡ true → (contains_reference d (chain_of a p) ≡ true) ⊎ ((d ≡ c) × (p ≡ t))
 stands-with_watch_moved a c f t d p h =
     elim (stands-put (chains_without f c a.chains) t p c d h) [
       | inl s ↦ inl (stands-taken a.chains f p c d s)
       | inr e ↦ inr e
     ]
 
-pub chain-left : (a : ArenaLists) (c : ℕ) (f t : Literal) → f ≢ t → chain_of (with_watch_moved a c f t) f ≡ without_reference c (chain_of a f)
+pub chain-left : (a : ArenaContent) (c : ℕ) (f t : Literal) → f ≢ t → chain_of (with_watch_moved a c f t) f ≡ without_reference c (chain_of a f)
 chain-left a c f t n =
     let other : get_or (chains_with_first t c (chains_without f c a.chains)) (place f) []
     ≡ get_or (chains_without f c a.chains) (place f) [] =
@@ -66,7 +66,7 @@ chain-left a c f t n =
     taken (x ∷ xs) zero = refl
     taken (x ∷ xs) (suc i) = taken xs i
 
-pub stands-with_clause_added : (a : ArenaLists) (l m : Literal) (ls : List Literal) (r s d : ℕ) (p : Literal) → contains_reference d (chain_of (with_clause_added a (l ∷ (m ∷ ls)) r s) p) ≡ true
+pub stands-with_clause_added : (a : ArenaContent) (l m : Literal) (ls : List Literal) (r s d : ℕ) (p : Literal) → contains_reference d (chain_of (with_clause_added a (l ∷ (m ∷ ls)) r s) p) ≡ true
     → (contains_reference d (chain_of a p) ≡ true) ⊎ ((d ≡ r) × ((p ≡ l) ⊎ (p ≡ m)))
 stands-with_clause_added a l m ls r s d p h =
     elim (stands-put (chains_with_first l r a.chains) m p r d h) [

@@ -7,7 +7,7 @@ use Rattle.ilk_cnf.specs.Literal.{Literal, same_lit}
 -- The content of an arena over the variables 1 to `vars`, in the order of adding: the reference,
 -- the literals and the cursor of each clause. `chains` has the chain of each literal at its place.
 -- Clauses may take `spare` more words before `reserve` is needed.
-pub record ArenaLists : Type 0 where
+pub record ArenaContent : Type 0 where
   pub vars : ℕ
   pub spare : ℕ
   pub references : List ℕ
@@ -20,7 +20,7 @@ abbrev pub place : Literal → ℕ
 place l = if l.positive then 2 * l.var + 1 else 2 * l.var
 
 -- Returns the references of the clauses that watch literal `l`.
-abbrev pub chain_of : ArenaLists → Literal → List ℕ
+abbrev pub chain_of : ArenaContent → Literal → List ℕ
 chain_of a l = slice_index_or a.chains (place l) []
 
 -- Returns whether the list `cs` has reference `c`.
@@ -35,15 +35,15 @@ item_at_reference_or_default c (r ∷ rs) [] d = d
 item_at_reference_or_default c (r ∷ rs) (x ∷ xs) d = if r == c then x else item_at_reference_or_default c rs xs d
 
 -- Returns the literals of clause `c`.
-abbrev pub literals_of : ArenaLists → ℕ → List Literal
+abbrev pub literals_of : ArenaContent → ℕ → List Literal
 literals_of a c = item_at_reference_or_default c a.references a.clauses []
 
 -- Returns the cursor of clause `c`.
-abbrev pub cursor_of : ArenaLists → ℕ → ℕ
-cursor_of a c = item_at_reference_or_default c a.references a.cursors 0
+abbrev pub clause_cursor : ArenaContent → ℕ → ℕ
+clause_cursor a c = item_at_reference_or_default c a.references a.cursors 0
 
 -- Returns the number of clause `c`: its position in the order of adding, from 1.
-abbrev pub number_of_clause : ArenaLists → ℕ → ℕ
+abbrev pub number_of_clause : ArenaContent → ℕ → ℕ
 number_of_clause a c = position_or_len (λ x. x == c) a.references + 1
 
 -- Returns the first of some references, or `None` if the list is empty.
@@ -52,19 +52,19 @@ first_of [] = None
 first_of (x ∷ xs) = Some x
 
 -- Returns the reference that follows `c` in a list, or `None` if there is none.
-abbrev pub reference_after : ℕ → List ℕ → Option ℕ
-reference_after c [] = None
-reference_after c (x ∷ xs) = if x == c then first_of xs else reference_after c xs
+abbrev pub reference_after_in_list : ℕ → List ℕ → Option ℕ
+reference_after_in_list c [] = None
+reference_after_in_list c (x ∷ xs) = if x == c then first_of xs else reference_after_in_list c xs
 
 -- Returns whether `c` comes right after the reference `before` in a list. If `before` is `None`,
 -- returns whether `c` comes first.
-abbrev pub follows_or_is_first : Option ℕ → ℕ → List ℕ → Bool
-follows_or_is_first before c [] = false
-follows_or_is_first None c (x ∷ xs) = x == c
-follows_or_is_first (Some b) c (x ∷ xs) = ((x == b) && follows_or_is_first None c xs) || follows_or_is_first (Some b) c xs
+abbrev pub follows_or_heads_chain : Option ℕ → ℕ → List ℕ → Bool
+follows_or_heads_chain before c [] = false
+follows_or_heads_chain None c (x ∷ xs) = x == c
+follows_or_heads_chain (Some b) c (x ∷ xs) = ((x == b) && follows_or_heads_chain None c xs) || follows_or_heads_chain (Some b) c xs
 
 -- Returns the watch of clause `c` other than `l`: its literal, not `l`, whose chain has `c`.
-abbrev pub other_watch_of : ArenaLists → ℕ → Literal → Option Literal
+abbrev pub other_watch_of : ArenaContent → ℕ → Literal → Option Literal
 other_watch_of a c l = find (λ m. contains_reference c (chain_of a m) && not (same_lit l m)) (literals_of a c)
 
 -- Returns the chains after reference `c` is put first in the chain of literal `l`.
@@ -87,7 +87,7 @@ chains_with_clause c (l ∷ []) chains = chains
 chains_with_clause c (l ∷ (m ∷ ls)) chains = chains_with_first m c (chains_with_first l c chains)
 
 -- Returns the arena after a clause `ls` is added at reference `c`, with `spare` words of room left.
-abbrev pub with_clause_added : ArenaLists → List Literal → ℕ → ℕ → ArenaLists
+abbrev pub with_clause_added : ArenaContent → List Literal → ℕ → ℕ → ArenaContent
 with_clause_added a ls c spare = record {
   vars = a.vars;
   spare = spare;
@@ -98,7 +98,7 @@ with_clause_added a ls c spare = record {
 }
 
 -- Returns the arena after clause `c` watches literal `t` in place of `f`.
-abbrev pub with_watch_moved : ArenaLists → ℕ → Literal → Literal → ArenaLists
+abbrev pub with_watch_moved : ArenaContent → ℕ → Literal → Literal → ArenaContent
 with_watch_moved a c f t = record a { chains = chains_with_first t c (chains_without f c a.chains) }
 
 -- Returns the second list with `x` at the position of reference `c` in the first.

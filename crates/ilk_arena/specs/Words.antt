@@ -54,9 +54,9 @@ AllSatisfy P [] = Unit {0}
 AllSatisfy P (c ∷ cs) = P c × AllSatisfy P cs
 
 -- Holds if `c` is an item of the list.
-abbrev pub IsMemberOf : List ℕ → ℕ → Type 0
-IsMemberOf [] c = ⊥
-IsMemberOf (x ∷ xs) c = (x ≡ c) ⊎ IsMemberOf xs c
+abbrev pub IsItemOfList : List ℕ → ℕ → Type 0
+IsItemOfList [] c = ⊥
+IsItemOfList (x ∷ xs) c = (x ≡ c) ⊎ IsItemOfList xs c
 
 -- Holds if no item occurs twice.
 abbrev pub Distinct : List ℕ → Type 0
@@ -64,9 +64,9 @@ Distinct [] = Unit {0}
 Distinct (c ∷ cs) = AllSatisfy (λ d. d ≢ c) cs × Distinct cs
 
 -- Holds if `c` comes right after the given reference, or first if none is given.
-abbrev pub FollowsOrIsFirst : Option ℕ → ℕ → List ℕ → Type 0
-FollowsOrIsFirst None c cs = (post : List ℕ) × (cs ≡ c ∷ post)
-FollowsOrIsFirst (Some b) c cs = (pre : List ℕ) × ((post : List ℕ) × (cs ≡ pre ++ (b ∷ (c ∷ post))))
+abbrev pub FollowsOrHeadsChain : Option ℕ → ℕ → List ℕ → Type 0
+FollowsOrHeadsChain None c cs = (post : List ℕ) × (cs ≡ c ∷ post)
+FollowsOrHeadsChain (Some b) c cs = (pre : List ℕ) × ((post : List ℕ) × (cs ≡ pre ++ (b ∷ (c ∷ post))))
 
 -- Holds if the header of clause `c` names place `l` as a watch.
 pub data HasWatch (ws : List ℕ) (c l : ℕ) : Type 0 where
@@ -86,5 +86,5 @@ pub record AreHeadersInsideAndApart (ws : List ℕ) (R : ℕ → Type 0) : Type 
   pub apart : (c d : ℕ) → R c → R d → c ≢ d → (c + 7 ≤ d) ⊎ (d + 7 ≤ c)
 
 -- Returns the chains `cs` after that of place `f` is replaced by `v`.
-abbrev pub with_chain_replaced : (ℕ → List ℕ) → ℕ → List ℕ → ℕ → List ℕ
-with_chain_replaced cs f v l = cond (eqb l f) v (cs l)
+abbrev pub chains_with_one_replaced : (ℕ → List ℕ) → ℕ → List ℕ → ℕ → List ℕ
+chains_with_one_replaced cs f v l = cond (eqb l f) v (cs l)

@@ -1,13 +1,13 @@
 ghost use Rattle.std.specs.Prelude.{◌≡◌, ◌≤◌, ◌<◌, ◌+◌, ◌*◌, ◌^◌, false, Some, [], length, slice_get, replicate, IfOk, IfSome, OnOk, OnErr, IsTrue};
 ghost use Rattle.ilk_cnf.specs.Formula.{is_clause_over, is_lit_over};
 ghost use Rattle.ilk_cnf.specs.Literal.{has_distinct_vars};
-ghost use Rattle.ilk_arena.specs.Arena.{with_clause_added, reference_after, chain_of, cursor_of, first_of, follows_or_is_first, literals_of, number_of_clause, other_watch_of, with_watch_moved, set_for_reference, contains_reference};
+ghost use Rattle.ilk_arena.specs.Arena.{with_clause_added, reference_after_in_list, chain_of, clause_cursor, first_of, follows_or_heads_chain, literals_of, number_of_clause, other_watch_of, with_watch_moved, set_for_reference, contains_reference};
 ghost use Rattle.ilk_arena.specs.Words.{reference_unless_zero};
 ghost use Rattle.ilk_arena.specs.Chains.{EachLongClauseWatchesTwo};
 
 use crate::block::push_clause_words;
 use crate::links::{move_watch, next_of, other_watched_place, set_both_heads};
-use crate::place::{WORD_VALUE_LIMIT, lit_from_place, place};
+use crate::place::{WORD_VALUE_LIMIT, lit_with_place_number, place};
 use ilk_cnf::Lit;
 use std::alloc::{AllocError, Global};
 use std::marker::Model;
@@ -33,17 +33,17 @@ pub struct Arena {
 
 impl Model for Arena {
     ghost use Rattle.std.specs.Prelude.{◌-◌, min, vec_len, vec_capacity};
-    ghost use Rattle.ilk_arena.specs.Arena.{ArenaLists};
-    ghost use Rattle.ilk_arena.specs.Linked.{lists_of, references_in, HoldsArena};
+    ghost use Rattle.ilk_arena.specs.Arena.{ArenaContent};
+    ghost use Rattle.ilk_arena.specs.Linked.{lists_of, references_in_block, IsArenaInvariant};
     ghost use Rattle.ilk_arena.specs.declared.place.TheConstants.{WORD_VALUE_LIMIT};
 
-    ghost Value = { ArenaLists };
+    ghost Value = { ArenaContent };
 
     ghost view = { λ a. lists_of a.vars (min (vec_capacity a.words) WORD_VALUE_LIMIT - vec_len
         a.words)
-        a.words.items a.heads.items (references_in a.words.items) };
+        a.words.items a.heads.items (references_in_block a.words.items) };
 
-    ghost invariant = { λ a. HoldsArena a.words.items a.heads.items a.vars a.count };
+    ghost invariant = { λ a. IsArenaInvariant a.words.items a.heads.items a.vars a.count };
 }
 
 #[inline(always)]
@@ -189,7 +189,7 @@ impl Arena {
         requires below { i < length (literals_of self.now c) }
         ensures { slice_get (literals_of self.now c) i ≡ Some result }
     {
-        lit_from_place(self.words[c as usize + HEADER + i as usize])
+        lit_with_place_number(self.words[c as usize + HEADER + i as usize])
     }
 
     /// Returns the number of clause `c`: clauses are numbered from 1, in the order of adding.
@@ -203,14 +203,14 @@ impl Arena {
     /// Returns the cursor of clause `c`: a position among its literals, at first 0.
     pub fn cursor(&self, c: u64) -> u64
         requires { IsTrue (contains_reference c self.now.references) }
-        ensures cursor { result ≡ cursor_of self.now c }
+        ensures cursor { result ≡ clause_cursor self.now c }
         ensures within { result ≤ length (literals_of self.now c) }
     {
         self.words[c as usize + CURSOR] as u64
     }
 
     /// Sets the cursor of clause `c` to position `i` among its literals.
-    pub fn set_cursor(&mut self, c: u64, i: u64)
+    pub fn set_clause_cursor(&mut self, c: u64, i: u64)
         requires known { IsTrue (contains_reference c self.old.references) }
         requires within { i ≤ length (literals_of self.old c) }
         ensures { self.new
@@ -237,7 +237,7 @@ impl Arena {
     pub fn next_watch(&self, c: u64, l: Lit) -> Option<u64>
         requires within { IsTrue (is_lit_over self.now.vars l) }
         requires stands { IsTrue (contains_reference c (chain_of self.now l)) }
-        ensures { result ≡ reference_after c (chain_of self.now l) }
+        ensures { result ≡ reference_after_in_list c (chain_of self.now l) }
     {
         reference(next_of(&self.words, place(l), c))
     }
@@ -248,7 +248,7 @@ impl Arena {
         requires stands { IsTrue (contains_reference c (chain_of self.now l)) }
         ensures { other_watch_of self.now c l ≡ Some result }
     {
-        lit_from_place(other_watched_place(&self.words, place(l), c))
+        lit_with_place_number(other_watched_place(&self.words, place(l), c))
     }
 
     /// Moves a watch of clause `c` from literal `from` to its literal number `to`, which it doesn't
@@ -256,7 +256,7 @@ impl Arena {
     /// `before` is `None`. It becomes first in the chain of the new literal.
     pub fn rewatch(&mut self, before: Option<u64>, c: u64, from: Lit, to: u64)
         requires within { IsTrue (is_lit_over self.old.vars from) }
-        requires follows { IsTrue (follows_or_is_first before c (chain_of self.old from)) }
+        requires follows { IsTrue (follows_or_heads_chain before c (chain_of self.old from)) }
         requires to_in { to < length (literals_of self.old c) }
         requires unwatched { IfSome (slice_get (literals_of self.old c) to)
             (λ l. contains_reference c (chain_of self.old l) ≡ false) }

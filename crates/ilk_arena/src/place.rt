@@ -1,6 +1,6 @@
 ghost use Rattle.std.specs.Prelude.{◌≡◌, ◌<◌, ◌≤◌, ◌+◌, ◌*◌};
 ghost use Rattle.ilk_arena.specs.Arena.{place};
-ghost use Rattle.ilk_arena.specs.Linked.{lit_from_place};
+ghost use Rattle.ilk_arena.specs.Linked.{lit_with_place_number};
 
 use ilk_cnf::Lit;
 
@@ -20,9 +20,9 @@ pub(crate) fn place(l: Lit) -> u32
 
 /// Returns the literal with place `place`.
 #[inline(always)]
-pub(crate) fn lit_from_place(place: u32) -> Lit
+pub(crate) fn lit_with_place_number(place: u32) -> Lit
     requires { 2 ≤ place }
-    ensures { result ≡ lit_from_place place }
+    ensures { result ≡ lit_with_place_number place }
 {
     Lit::new(place as u64 / 2, place % 2 == 1)
 }

@@ -10,7 +10,7 @@ use Rattle.ilk_cnf.specs.Literal.{Literal, has_lit}
 use Rattle.ilk_cnf.specs.Code.{literal_of}
 use Rattle.ilk_cnf.specs.Formula.{is_clause_over, are_clauses_over, is_lit_over}
 use Rattle.ilk_log.specs.Propagation.{clause_numbered, is_false, is_falsified, only_lit_if_unset, unit_lit}
-use Rattle.ilk_audit.specs.Hinted.{status_of_hinted_clause, clause_status, status_from_unfalsified, IsUnitLitSettable, unfalsified_lits}
+use Rattle.ilk_audit.specs.Hinted.{status_of_hinted_clause, clause_status, status_from_unfalsified, AnyUnitLitIsSettable, unfalsified_lits}
 use Rattle.ilk_audit.specs.Stored.{literals_of}
 use Rattle.ilk_audit.specs.Taken.{why_hints_reach_no_conflict, has_hint_left}
 use Rattle.ilk_audit.specs.declared.hinted.ClauseStatus.{ClauseStatus}
@@ -116,21 +116,21 @@ first-open n set (m ∷ c) l ls e w =
           (ap (is_false set) (sym q) ∙ f, ap (is_lit_over n) (sym q) ∙ p.0))
     ]
 
-settable-in : (n : ℕ) (set c ls : List Literal) → unfalsified_lits set c ≡ ls → is_clause_over n c ≡ true → IsUnitLitSettable n set (status_from_unfalsified set ls)
+settable-in : (n : ℕ) (set c ls : List Literal) → unfalsified_lits set c ≡ ls → is_clause_over n c ≡ true → AnyUnitLitIsSettable n set (status_from_unfalsified set ls)
 settable-in n set c [] e w = tt
 settable-in n set c (l ∷ []) e w =
     let p = first-open n set c l [] e w in
     by_true (has_lit l set) refl p
   where
-    by_true : (b : Bool) → has_lit l set ≡ b → (is_false set l ≡ false) × (is_lit_over n l ≡ true) → IsUnitLitSettable n set (cond b Other (OneUnset l))
+    by_true : (b : Bool) → has_lit l set ≡ b → (is_false set l ≡ false) × (is_lit_over n l ≡ true) → AnyUnitLitIsSettable n set (cond b Other (OneUnset l))
     by_true true t p = tt
     by_true false f p = (p.1, var-unset l set f p.0)
 settable-in n set c (l ∷ (m ∷ ls)) e w = tt
 
-pub settable-at : (n : ℕ) (clauses : List (List Literal)) (set : List Literal) (h : ℕ) → are_clauses_over n clauses ≡ true → IsUnitLitSettable n set (status_of_hinted_clause clauses set h)
+pub settable-at : (n : ℕ) (clauses : List (List Literal)) (set : List Literal) (h : ℕ) → are_clauses_over n clauses ≡ true → AnyUnitLitIsSettable n set (status_of_hinted_clause clauses set h)
 settable-at n clauses set zero w = tt
 settable-at n clauses set (suc i) w = go (slice_get clauses i) refl
   where
-    go : (o : Option (List Literal)) → slice_get clauses i ≡ o → IsUnitLitSettable n set (option_map_or (clause_status set) o Missing)
+    go : (o : Option (List Literal)) → slice_get clauses i ≡ o → AnyUnitLitIsSettable n set (option_map_or (clause_status set) o Missing)
     go None e = tt
     go (Some c) e = settable-in n set c (unfalsified_lits set c) refl (list_all-slice_get (is_clause_over n) clauses i c w e)

@@ -9,12 +9,12 @@ use Rattle.ilk_cnf.specs.Code.{code_of}
 use Rattle.ilk_cnf.specs.Formula.{is_clause_over, is_lit_over}
 use Rattle.ilk_cnf.proofs.SameLiterals.{same-lit, lit-is, has-var}
 use Rattle.ilk_log.specs.Propagation.{is_false}
-use Rattle.ilk_audit.specs.Stored.{IsFalseLitTable, VarsAndAssignedLits}
+use Rattle.ilk_audit.specs.Stored.{IsFalseLitTable, VarCountAndTrueLits}
 use Rattle.ilk_cnf.proofs.Gates.{negated_lit-negated_lit}
 use Rattle.ilk_cnf.proofs.Literals.{is_lit_over-parts}
 use Rattle.ilk_audit.proofs.Numbers.{same-code}
 
-abbrev partial_of : ℕ → List Literal → VarsAndAssignedLits
+abbrev partial_of : ℕ → List Literal → VarCountAndTrueLits
 partial_of n ls = record { vars = n; set = ls }
 
 pub var-unset : (l : Literal) (ls : List Literal) → has_lit l ls ≡ false → has_lit (negated_lit l) ls ≡ false → has_var l.var ls ≡ false

@@ -9,9 +9,9 @@ codes_in (Narrow codes) = codes.items
 codes_in (Wide codes) = codes.items
 
 -- Returns whether the numbers of all literals over the variables 1 to `n` fit in the list's width.
-abbrev pub fits_lits_of_vars : ℕ → LitCodes → Bool
-fits_lits_of_vars n (Narrow codes) = nat_lt (2 * n + 1) (2 ^ 32)
-fits_lits_of_vars n (Wide codes) = true
+abbrev pub lit_codes_fit_width : ℕ → LitCodes → Bool
+lit_codes_fit_width n (Narrow codes) = nat_lt (2 * n + 1) (2 ^ 32)
+lit_codes_fit_width n (Wide codes) = true
 
 -- Holds if the list has memory for `count` more numbers.
 abbrev pub HasCapacityForMore : ℕ → LitCodes → Type 0

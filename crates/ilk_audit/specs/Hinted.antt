@@ -28,8 +28,8 @@ status_of_hinted_clause clauses set h = option_map_or (clause_status set) (claus
 
 -- Holds if the one unset literal that the status names, if any, is over an unset variable from 1 to
 -- `n`.
-abbrev pub IsUnitLitSettable : ℕ → List Literal → ClauseStatus → Type 0
-IsUnitLitSettable n set Missing = Unit {0}
-IsUnitLitSettable n set AllFalse = Unit {0}
-IsUnitLitSettable n set (OneUnset l) = IsTrue (is_lit_over n l) × (has_var l.var set ≡ false)
-IsUnitLitSettable n set Other = Unit {0}
+abbrev pub AnyUnitLitIsSettable : ℕ → List Literal → ClauseStatus → Type 0
+AnyUnitLitIsSettable n set Missing = Unit {0}
+AnyUnitLitIsSettable n set AllFalse = Unit {0}
+AnyUnitLitIsSettable n set (OneUnset l) = IsTrue (is_lit_over n l) × (has_var l.var set ≡ false)
+AnyUnitLitIsSettable n set Other = Unit {0}

@@ -2,10 +2,10 @@
 //! another, and the end of each. A number takes four bytes, unless there are too many variables.
 
 ghost use Rattle.std.specs.Prelude.{◌≡◌, ◌≤◌, ◌<◌, ◌-◌, ◌^◌, ◌⊎◌, ◌∷◌, [], Some, drop, length, option_to_list, slice_get, take, IfNone, IfOk, IfSome, IsTrue, OnOk, OnErr};
-ghost use Rattle.ilk_cnf.specs.Formula.{is_clause_over, with_vars_and_clauses, IsFormula};
+ghost use Rattle.ilk_cnf.specs.Formula.{is_clause_over, with_var_count_and_clauses, IsFormula};
 ghost use Rattle.ilk_cnf.specs.Literal.{has_distinct_vars};
 ghost use Rattle.ilk_audit.specs.Codes.{codes_in};
-ghost use Rattle.ilk_audit.specs.Hinted.{status_of_hinted_clause, clause_status, status_from_unfalsified, IsUnitLitSettable};
+ghost use Rattle.ilk_audit.specs.Hinted.{status_of_hinted_clause, clause_status, status_from_unfalsified, AnyUnitLitIsSettable};
 ghost use Rattle.ilk_audit.specs.Stored.{literals_of};
 
 use crate::codes::{LitCodes, literal_of};
@@ -29,14 +29,14 @@ impl Model for ClauseDb {
     ghost use Rattle.std.specs.Prelude.{length};
     ghost use Rattle.ilk_cnf.specs.Formula.{Formula};
     ghost use Rattle.ilk_audit.specs.Codes.{codes_in};
-    ghost use Rattle.ilk_audit.specs.Stored.{BoundsSplitCodesIntoClauses, split_into_clauses};
+    ghost use Rattle.ilk_audit.specs.Stored.{CodesSplitIntoValidClauses, split_into_clauses};
 
     ghost Value = { Formula };
 
     ghost view = { λ b. record
         { vars = b.vars; clauses = split_into_clauses b.bounds.items (codes_in b.codes) } };
 
-    ghost invariant = { λ b. BoundsSplitCodesIntoClauses b.vars b.codes b.bounds.items };
+    ghost invariant = { λ b. CodesSplitIntoValidClauses b.vars b.codes b.bounds.items };
 }
 
 fn found_open(partial: &PartialAssignment, lone: Option<Lit>) -> ClauseStatus
@@ -150,7 +150,7 @@ impl ClauseDb {
         requires within { IsTrue (is_clause_over self.old.vars clause.now) }
         requires differ { IsTrue (has_distinct_vars clause.now) }
         ensures ok { OnOk result (self.new
-            ≡ with_vars_and_clauses self.old self.old.vars (clause.now ∷ [])) }
+            ≡ with_var_count_and_clauses self.old self.old.vars (clause.now ∷ [])) }
         ensures err { OnErr result (self.new ≡ self.old) }
     {
         self.codes.reserve(clause.len())?;
@@ -165,7 +165,7 @@ impl ClauseDb {
     pub fn clause_status(&self, partial: &PartialAssignment, number: u64) -> ClauseStatus
         requires { partial.now.vars ≡ self.now.vars }
         ensures found { result ≡ status_of_hinted_clause self.now.clauses partial.now.set number }
-        ensures unit { IsUnitLitSettable partial.now.vars partial.now.set result }
+        ensures unit { AnyUnitLitIsSettable partial.now.vars partial.now.set result }
     {
         match part_at(self.bounds.as_slice(), number) {
             Some((from, to)) => found_between(partial, &self.codes, from, to),

@@ -1,7 +1,7 @@
 ghost use Rattle.std.specs.Prelude.{ℕ, ◌≡◌, ◌≤◌, ◌<◌, ◌+◌, ◌*◌, ◌/◌, ◌^◌, ◌++◌, [], map, length, vec_len, vec_capacity, OnOk, IsTrue};
 ghost use Rattle.ilk_cnf.specs.Code.{code_of, literal_of};
 ghost use Rattle.ilk_cnf.specs.Formula.{is_clause_over};
-ghost use Rattle.ilk_audit.specs.Codes.{codes_in, fits_lits_of_vars, HasCapacityForMore};
+ghost use Rattle.ilk_audit.specs.Codes.{codes_in, lit_codes_fit_width, HasCapacityForMore};
 
 use ilk_cnf::Lit;
 use std::alloc::{AllocError, Global};
@@ -60,7 +60,7 @@ impl LitCodes {
     /// `vars`.
     pub fn new(alloc: Global, vars: u64) -> LitCodes
         ensures empty { codes_in result ≡ [] }
-        ensures fit { IsTrue (fits_lits_of_vars vars result) }
+        ensures fit { IsTrue (lit_codes_fit_width vars result) }
     {
         if vars < 1 << 31 {
             LitCodes::Narrow(Vec::new(alloc))
@@ -82,7 +82,7 @@ impl LitCodes {
     /// Reserves memory for `count` more literals.
     pub fn reserve(&mut self, count: usize) -> Result<(), AllocError>
         ensures same { codes_in self.new ≡ codes_in self.old }
-        ensures fit { (n : ℕ) → fits_lits_of_vars n self.new ≡ fits_lits_of_vars n self.old }
+        ensures fit { (n : ℕ) → lit_codes_fit_width n self.new ≡ lit_codes_fit_width n self.old }
         ensures room { OnOk result (HasCapacityForMore count self.new) }
     {
         match self {
@@ -95,11 +95,11 @@ impl LitCodes {
     /// has to be reserved.
     pub fn push_lit_codes_within_capacity(&mut self, vars: u64, clause: &[Lit])
         requires numbered { vars ≤ 2 ^ 62 }
-        requires fit { IsTrue (fits_lits_of_vars vars self.old) }
+        requires fit { IsTrue (lit_codes_fit_width vars self.old) }
         requires within { IsTrue (is_clause_over vars clause.now) }
         requires room { HasCapacityForMore (length clause.now) self.old }
         ensures codes { codes_in self.new ≡ codes_in self.old ++ map code_of clause.now }
-        ensures fit { IsTrue (fits_lits_of_vars vars self.new) }
+        ensures fit { IsTrue (lit_codes_fit_width vars self.new) }
     {
         match self {
             LitCodes::Narrow(codes) => append_narrow(codes, vars, clause),

@@ -21,9 +21,9 @@ pub(crate) struct PartialAssignment {
 
 impl Model for PartialAssignment {
     ghost use Rattle.std.specs.Prelude.{reverse};
-    ghost use Rattle.ilk_audit.specs.Stored.{VarsAndAssignedLits, IsFalseLitTable};
+    ghost use Rattle.ilk_audit.specs.Stored.{VarCountAndTrueLits, IsFalseLitTable};
 
-    ghost Value = { VarsAndAssignedLits };
+    ghost Value = { VarCountAndTrueLits };
 
     ghost view = { λ p. record { vars = p.vars; set = reverse p.trail.items } };
 

@@ -10,7 +10,7 @@ use Rattle.ilk_base.proofs.Ranges.{below_or_past}
 use Rattle.ilk_base.proofs.Tested.{list_any-at, list_any-from}
 use Rattle.ilk_ir.specs.System.{PlainRule, after_rule, after_settings}
 use Rattle.ilk_ir.specs.Tree.{tree_holds}
-use Rattle.ilk_plant.specs.Plant.{IsPlant, PlantLists, section_inward_if_border, next_to, point_number}
+use Rattle.ilk_plant.specs.Plant.{IsPlant, PlantLists, inward_direction_if_border, next_to, point_number}
 use Rattle.ilk_plant.specs.Sound.{IsAcyclic}
 use Rattle.ilk_plant.specs.declared.network.Dir.{Dir}
 use Rattle.ilk_plant.specs.declared.network.Dir.TheVariants.{Up, Down}
@@ -23,7 +23,7 @@ use Rattle.ilk_layout.specs.Laws.{IsWellFormedAndSafe}
 use Rattle.ilk_behave.specs.Behaviour.{events_of_plant, events_of_rules, rules_of_event, system_of_plant}
 use Rattle.ilk_behave.specs.Numbered.{IsEventOfPlant}
 use Rattle.ilk_behave.specs.Settings.{map_or_no_rules}
-use Rattle.ilk_behave.specs.Steps.{RulesAlwaysMatchEvent, SomeEventRuleGivesValues, EventRuleGivesValues, SystemMatchesEvents, guard_holds_in_image}
+use Rattle.ilk_behave.specs.Steps.{RulesAlwaysMatchEvent, SomeEventRuleIsEnabled, EventRuleGivesValues, SystemMatchesEvents, guard_holds_in_image}
 use Rattle.ilk_behave.specs.TrainRules.{head_rules_to_neighbour, tail_rule_to_neighbour}
 use Rattle.ilk_behave.proofs.AllocateSteps.{allocate-steps, lock-steps}
 use Rattle.ilk_behave.proofs.EnterSteps.{enter-steps, leave-steps}
@@ -36,7 +36,7 @@ use Rattle.ilk_behave.proofs.PointSteps.{settle-steps, throw-steps}
 use Rattle.ilk_behave.proofs.ReleaseSteps.{finish-steps, release-steps}
 use Rattle.ilk_behave.proofs.RouteSteps.{cancel-steps, mark-steps, sense-steps}
 use Rattle.ilk_behave.proofs.TailSteps.{tail-steps}
-use Rattle.ilk_motion.proofs.Shape.{section_inward_if_border-known}
+use Rattle.ilk_motion.proofs.Shape.{inward_direction_if_border-known}
 
 event-steps : (p : PlantLists) → IsPlant p → IsAcyclic p → (event : Event) → RulesAlwaysMatchEvent p event
 event-steps p plant never (Mark r) s shape calm = mark-steps p plant s shape calm r
@@ -76,7 +76,7 @@ rule-numbered p plant (Finish r) j rule at = let route = thing-of (slice_get p.r
 rule-numbered p plant (Cancel r) j rule at = let route = thing-of (slice_get p.routes r) _ j rule at in slice_get_within p.routes r route.0 route.1
 rule-numbered p plant (Throw x) j rule at = let point = thing-of (point_number p x) _ j rule at in point-known p x point.0 point.1
 rule-numbered p plant (Settle x) j rule at = let point = thing-of (point_number p x) _ j rule at in point-known p x point.0 point.1
-rule-numbered p plant (Enter x) j rule at = let edge = thing-of (section_inward_if_border p x) _ j rule at in section_inward_if_border-known p x edge.0 edge.1
+rule-numbered p plant (Enter x) j rule at = let edge = thing-of (inward_direction_if_border p x) _ j rule at in inward_direction_if_border-known p x edge.0 edge.1
 rule-numbered p plant (Head x) j rule at = towards-known p plant x (λ d y. flat_map (head_rules_to_neighbour p x d y) (true ∷ false ∷ [])) j rule at
 rule-numbered p plant (Tail x) j rule at = towards-known p plant x (λ d y. map (tail_rule_to_neighbour p x d y) (true ∷ false ∷ [])) j rule at
 rule-numbered p plant (Leave x) j rule at = let section = thing-of (slice_get p.sections x) _ j rule at in slice_get_within p.sections x section.0 section.1
@@ -130,7 +130,7 @@ given p s event i values h =
     record { place = mine.0; rule = found.0; at = mine.1; fires = fires.0; is = fires.1 }
 
 module _ (p : PlantLists) (plant : IsPlant p) (never : IsAcyclic p) where
-  gives-where-enabled : (s : State) (event : Event) → IsWellFormedAndSafe p s → is_some (next p s event) ≡ true → SomeEventRuleGivesValues p s event
+  gives-where-enabled : (s : State) (event : Event) → IsWellFormedAndSafe p s → is_some (next p s event) ≡ true → SomeEventRuleIsEnabled p s event
   gives-where-enabled s event calm h =
       let step = event-steps p plant never event s calm.shape calm.no_hazard in
       let found : (j : ℕ) × (rule : PlainRule) × (slice_get (rules_of_event p event) j ≡ Some rule) × (guard_holds_in_image p s rule ≡ true) = list_any-at (guard_holds_in_image p s) (rules_of_event p event) (step.enabled ∙ h) in
@@ -142,7 +142,7 @@ module _ (p : PlantLists) (plant : IsPlant p) (never : IsAcyclic p) where
         gives = record { of_event = number.1; gives = ap (option_and_then (λ r. after_rule r (image_of p s))) number.2 ∙ ap (λ b. then_some b (after_settings (image_of p s) found.1.sets)) found.3 };
       }
 
-  enabled-where-given : (s : State) (event : Event) → IsWellFormedAndSafe p s → SomeEventRuleGivesValues p s event → is_some (next p s event) ≡ true
+  enabled-where-given : (s : State) (event : Event) → IsWellFormedAndSafe p s → SomeEventRuleIsEnabled p s event → is_some (next p s event) ≡ true
   enabled-where-given s event calm h =
       let step = event-steps p plant never event s calm.shape calm.no_hazard in
       let one = given p s event h.number h.values h.gives in

@@ -12,7 +12,7 @@ use Rattle.ilk_ir.specs.declared.system.Setting.{Setting}
 use Rattle.ilk_ir.proofs.Trees.{all_of-holds}
 use Rattle.ilk_plant.specs.Plant.{IsPlant, PlantLists, point_number}
 use Rattle.ilk_plant.specs.Shape.{HasShape}
-use Rattle.ilk_plant.specs.State.{has_lock_state, is_unlocked_and_vacant, is_occupied, detected_position}
+use Rattle.ilk_plant.specs.State.{has_lock_state, is_unlocked_and_vacant, is_occupied, detected_position_in_state}
 use Rattle.ilk_plant.specs.TableRules.{sections_locked_for}
 use Rattle.ilk_plant.specs.declared.network.Position.{Position}
 use Rattle.ilk_plant.specs.declared.state.Aspect.TheVariants.{Closed, Open}
@@ -26,7 +26,7 @@ use Rattle.ilk_plant.proofs.Shapes.{seen_and_released_fit_path-counts, seen_and_
 use Rattle.ilk_model.specs.Hazard.{hazard}
 use Rattle.ilk_routes.specs.Boards.{has_aspect, is_protecting_locked_route, is_protecting_board}
 use Rattle.ilk_routes.specs.Claims.{required_points}
-use Rattle.ilk_routes.specs.Lies.{lie_from_position, is_detected_as_listed, is_lie_at_position, with_commands}
+use Rattle.ilk_routes.specs.Lies.{lie_from_position, is_point_detected_as_listed, is_lie_at_position, with_commands}
 use Rattle.ilk_routes.specs.Locks.{with_locks}
 use Rattle.ilk_routes.specs.Modes.{has_mode, is_allocating_or_locked, same_mode}
 use Rattle.ilk_routes.specs.Routes.{after_allocate, after_lock, can_allocate_if_marked, can_lock_if_allocating}
@@ -37,19 +37,19 @@ use Rattle.ilk_layout.proofs.Writes.{board-written, image_with, mode-written}
 use Rattle.ilk_layout.specs.Conditions.{is_board_aspect, section_point_is_detected, is_listed_point_detected, mode_is}
 use Rattle.ilk_behave.specs.Guards.{free_and_vacant_at, not_alloc_or_locked}
 use Rattle.ilk_behave.specs.RouteRules.{routes_protected_by, rules_of_allocate, rules_of_lock}
-use Rattle.ilk_behave.specs.Settings.{set_board_aspect, command_as_listed, set_locks, set_mode, rule}
+use Rattle.ilk_behave.specs.Settings.{set_board_aspect, command_listed_point, set_locks, set_mode, rule}
 use Rattle.ilk_behave.specs.Steps.{RulesMatchEvent}
 use Rattle.ilk_behave.proofs.RouteSteps.{locked-known, state-of}
 use Rattle.ilk_base.proofs.ListTests.{all-at, filtered-none, list_all-alike, list_all-flat_map, list_all-not}
 use Rattle.ilk_behave.proofs.Tools.{no_rules, rule_step}
 use Rattle.ilk_layout.proofs.ConditionValues.{at-holds, board-holds, has_mode-holds, lies-test, lock-holds, mode-holds, vacant-holds}
-use Rattle.ilk_behave.proofs.Writing.{by_image, command_as_listed-lies, commands-written, locks-written, same-occupancies, after_settings-append, with_lists, with_route}
+use Rattle.ilk_behave.proofs.Writing.{by_image, command_listed_point-lies, commands-written, locks-written, same-occupancies, after_settings-append, with_lists, with_route}
 
 module _ (p : PlantLists) (plant : IsPlant p) (s : State) (shape : HasShape p s) (calm : hazard p s ≡ None) where
-  pub lie-holds : (x : ℕ) (at : Position) → tree_holds (image_of p s) (section_point_is_detected p x (lie_from_position at)) ≡ is_some_and (detected_position p s x) (λ lie. is_lie_at_position lie at)
+  pub lie-holds : (x : ℕ) (at : Position) → tree_holds (image_of p s) (section_point_is_detected p x (lie_from_position at)) ≡ is_some_and (detected_position_in_state p s x) (λ lie. is_lie_at_position lie at)
   lie-holds x at = by_number (point_number p x) refl
     where
-      by_number : (o : Option ℕ) → point_number p x ≡ o → tree_holds (image_of p s) (section_point_is_detected p x (lie_from_position at)) ≡ is_some_and (detected_position p s x) (λ lie. is_lie_at_position lie at)
+      by_number : (o : Option ℕ) → point_number p x ≡ o → tree_holds (image_of p s) (section_point_is_detected p x (lie_from_position at)) ≡ is_some_and (detected_position_in_state p s x) (λ lie. is_lie_at_position lie at)
       by_number None e = rw e refl
       by_number (Some n) e =
           let below : n < length s.points = (let known = point_number-below p x in let less = rw e at known in let count = shape.points in omega (arith, less)) in
@@ -97,7 +97,7 @@ module _ (p : PlantLists) (plant : IsPlant p) (s : State) (shape : HasShape p s)
       slice_get s.routes r ≡ Some now →
       after_settings (image_with s (occupancy_values p s))
       (set_mode r Allocating ∷ set_locks p (sections_locked_for route) LockedLock
-      ++ flat_map (command_as_listed p) (required_points route))
+      ++ flat_map (command_listed_point p) (required_points route))
       ≡ image_with
       (record s {
         routes = set s.routes r (record now { mode = Allocating });
@@ -121,11 +121,11 @@ module _ (p : PlantLists) (plant : IsPlant p) (s : State) (shape : HasShape p s)
       let s2 = record s1 { locks = locks } in
       let shape2 : HasShape p s2 = with_lists p s1 s.points s.boards locks shape1 refl refl (length-with_locks s.locks (sections_locked_for route) LockedLock) in
       let points = with_commands p s.points (required_points route) in
-      after_settings-append (image_with s e) (set_mode r Allocating ∷ set_locks p (sections_locked_for route) LockedLock) (flat_map (command_as_listed p) (required_points route))
-      ∙ ap (λ values. after_settings (after_settings values (set_locks p (sections_locked_for route) LockedLock)) (flat_map (command_as_listed p) (required_points route))) (mode-written p s e shape r now Allocating here)
-      ∙ ap (λ values. after_settings values (flat_map (command_as_listed p) (required_points route))) (locks-written p s1 e (sections_locked_for route) LockedLock shape1 (locked-known p route of))
+      after_settings-append (image_with s e) (set_mode r Allocating ∷ set_locks p (sections_locked_for route) LockedLock) (flat_map (command_listed_point p) (required_points route))
+      ∙ ap (λ values. after_settings (after_settings values (set_locks p (sections_locked_for route) LockedLock)) (flat_map (command_listed_point p) (required_points route))) (mode-written p s e shape r now Allocating here)
+      ∙ ap (λ values. after_settings values (flat_map (command_listed_point p) (required_points route))) (locks-written p s1 e (sections_locked_for route) LockedLock shape1 (locked-known p route of))
       ∙ commands-written p s2 e (required_points route) shape2
-      ∙ ap (image_with (record s2 { points = points })) (sym (same-occupancies p s (set s.routes r now1) points s.boards locks (command_as_listed-lies p s (required_points route))))
+      ∙ ap (image_with (record s2 { points = points })) (sym (same-occupancies p s (set s.routes r now1) points s.boards locks (command_listed_point-lies p s (required_points route))))
 
   pub allocate-steps : (r : ℕ) → RulesMatchEvent p s (after_allocate p s r) (rules_of_allocate p r)
   allocate-steps r = by_route (slice_get p.routes r) refl
@@ -136,7 +136,7 @@ module _ (p : PlantLists) (plant : IsPlant p) (s : State) (shape : HasShape p s)
           let now = state-of p plant s shape calm r route e in
           let allocated = record s { routes = set s.routes r (record now.0 { mode = Allocating }); locks = with_locks s.locks (sections_locked_for route) LockedLock; points = with_commands p s.points (required_points route) } in
           let conditions : List Tree = mode_is r Marked ∷ flat_map not_alloc_or_locked route.conflicts ++ flat_map (free_and_vacant_at p) (sections_locked_for route) in
-          let sets : List Setting = set_mode r Allocating ∷ set_locks p (sections_locked_for route) LockedLock ++ flat_map (command_as_listed p) (required_points route) in
+          let sets : List Setting = set_mode r Allocating ∷ set_locks p (sections_locked_for route) LockedLock ++ flat_map (command_listed_point p) (required_points route) in
           rw (e, now.1) (rule_step p s allocated (same_mode now.0.mode Marked && can_allocate_if_marked s route) (rule conditions sets)
           (all_of-holds (image_of p s) conditions ∙ allocate-guard r route now.0 e now.1)
           (λ h. by_image p s allocated sets (allocate-sets r route now.0 e now.1)))
@@ -153,8 +153,8 @@ module _ (p : PlantLists) (plant : IsPlant p) (s : State) (shape : HasShape p s)
   lock-guard r route now known here =
       let of = plant.routes_known r route known in
       let holds = tree_holds (image_of p s) in
-      let lies : list_all holds (map (is_listed_point_detected p) (required_points route)) ≡ list_all (is_detected_as_listed p s) (required_points route) =
-      list_all-map holds (is_listed_point_detected p) (required_points route) ∙ list_all-alike (λ listed. holds (is_listed_point_detected p listed)) (is_detected_as_listed p s) (required_points route) (λ i listed at. lie-holds listed.point
+      let lies : list_all holds (map (is_listed_point_detected p) (required_points route)) ≡ list_all (is_point_detected_as_listed p s) (required_points route) =
+      list_all-map holds (is_listed_point_detected p) (required_points route) ∙ list_all-alike (λ listed. holds (is_listed_point_detected p listed)) (is_point_detected_as_listed p s) (required_points route) (λ i listed at. lie-holds listed.point
       listed.at) in
       let boards : list_all holds (map (λ m. is_board_aspect p m Closed) route.protecting_boards) ≡ list_all (λ m. has_aspect s m Closed) route.protecting_boards =
       list_all-map holds (λ m. is_board_aspect p m Closed) route.protecting_boards
@@ -176,7 +176,7 @@ module _ (p : PlantLists) (plant : IsPlant p) (s : State) (shape : HasShape p s)
       list_all-append holds (map (is_listed_point_detected p) (required_points route))
       (map (λ m. is_board_aspect p m Closed) route.protecting_boards)
       ∙ ap (λ b. b && list_all holds (map (λ m. is_board_aspect p m Closed) route.protecting_boards)) lies
-      ∙ ap (λ b. list_all (is_detected_as_listed p s) (required_points route) && b) boards in
+      ∙ ap (λ b. list_all (is_point_detected_as_listed p s) (required_points route) && b) boards in
       let parts = list_all-append holds (map (is_listed_point_detected p) (required_points route) ++ map (λ m. is_board_aspect p m Closed) route.protecting_boards) (map (λ q. negation (mode_is q Locked)) (routes_protected_by p route.source)) in
       ap
       (λ b. b
@@ -193,7 +193,7 @@ module _ (p : PlantLists) (plant : IsPlant p) (s : State) (shape : HasShape p s)
       first
       ∙ ap
       (λ b.
-      (list_all (is_detected_as_listed p s) (required_points route)
+      (list_all (is_point_detected_as_listed p s) (required_points route)
       && list_all (λ m. has_aspect s m Closed) route.protecting_boards) && b) free)
 
   lock-sets : (r : ℕ) (route : Route) (now : RouteState) → slice_get p.routes r ≡ Some route →

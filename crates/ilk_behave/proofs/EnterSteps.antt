@@ -10,10 +10,10 @@ use Rattle.ilk_base.proofs.Tested.{list_any-from}
 use Rattle.ilk_ir.specs.Tree.{tree_holds}
 use Rattle.ilk_ir.specs.System.{PlainRule, after_settings}
 use Rattle.ilk_plant.specs.Network.{contains_section}
-use Rattle.ilk_plant.specs.Plant.{IsPlant, PlantLists, section_inward_if_border}
+use Rattle.ilk_plant.specs.Plant.{IsPlant, PlantLists, inward_direction_if_border}
 use Rattle.ilk_plant.specs.Shape.{HasShape}
 use Rattle.ilk_plant.specs.Sound.{IsAcyclic}
-use Rattle.ilk_plant.specs.State.{has_lock_state, is_unlocked_and_vacant, is_occupied, detected_position}
+use Rattle.ilk_plant.specs.State.{has_lock_state, is_unlocked_and_vacant, is_occupied, detected_position_in_state}
 use Rattle.ilk_plant.specs.declared.network.Dir.{Dir}
 use Rattle.ilk_plant.specs.declared.network.Dir.TheVariants.{Up, Down}
 use Rattle.ilk_plant.specs.declared.network.Section.{Section}
@@ -50,7 +50,7 @@ module _ (p : PlantLists) (plant : IsPlant p) (never : IsAcyclic p) (s : State) 
       let nay : (x == y) ≡ false = ne_eqb x y (λ e. apart (sym e)) in
       occupancy-more p s s.trains (new_train_on x d) y ∙ rw nay refl
 
-  entered-here : (x : ℕ) (d : Dir) → section_inward_if_border p x ≡ Some d → is_occupied s x ≡ false → occupancy_or_crash p (with_trains s (s.trains ++ new_train_on x d ∷ [])) x ≡ Taken d true true
+  entered-here : (x : ℕ) (d : Dir) → inward_direction_if_border p x ≡ Some d → is_occupied s x ≡ false → occupancy_or_crash p (with_trains s (s.trains ++ new_train_on x d ∷ [])) x ≡ Taken d true true
   entered-here x d edge none =
       let own : (x == x) ≡ true = eq-eqb x x refl in
       let vacant = vacant-as p s x none in
@@ -63,7 +63,7 @@ module _ (p : PlantLists) (plant : IsPlant p) (never : IsAcyclic p) (s : State) 
       by_section (Some (Point stem plus minus faces)) e = (let bad : None ≡ Some d = rw e at edge in cc)
 
   pub enter-steps : (x : ℕ) → RulesMatchEvent p s (after_enter p s x) (rules_of_enter p x)
-  enter-steps x = by_border (section_inward_if_border p x) refl
+  enter-steps x = by_border (inward_direction_if_border p x) refl
     where
       shuffle : (v l : Bool) → (v && (l && true)) ≡ (l && v)
       shuffle true true = refl
@@ -71,7 +71,7 @@ module _ (p : PlantLists) (plant : IsPlant p) (never : IsAcyclic p) (s : State) 
       shuffle false true = refl
       shuffle false false = refl
 
-      known : (d : Dir) → section_inward_if_border p x ≡ Some d → x < length p.sections
+      known : (d : Dir) → inward_direction_if_border p x ≡ Some d → x < length p.sections
       known d e = by_section (slice_get p.sections x) refl
         where
           by_section : (o : Option Section) → slice_get p.sections x ≡ o → x < length p.sections
@@ -83,7 +83,7 @@ module _ (p : PlantLists) (plant : IsPlant p) (never : IsAcyclic p) (s : State) 
       free true false h = refl
       free false b h = cc
 
-      by_border : (o : Option Dir) → section_inward_if_border p x ≡ o → RulesMatchEvent p s (after_enter p s x) (rules_of_enter p x)
+      by_border : (o : Option Dir) → inward_direction_if_border p x ≡ o → RulesMatchEvent p s (after_enter p s x) (rules_of_enter p x)
       by_border None e = rw e (no_rules p s)
       by_border (Some d) e =
           let within = known d e in
@@ -107,9 +107,9 @@ module _ (p : PlantLists) (plant : IsPlant p) (never : IsAcyclic p) (s : State) 
       let found = removed-find (has_x y) s.trains i t at away in
       rw (two, wrong, found) refl
     where
-      right : (plus minus : ℕ) → is_wrong_under_body y plus minus (detected_position p s y) t.body ≡ false
-      right plus minus = elim (cases_Bool (is_wrong_under_body y plus minus (detected_position p s y) t.body)) [
-        | inl aye ↦ absurd (false≢true (sym away ∙ is_wrong_under_body-has y plus minus (detected_position p s y) t.body aye))
+      right : (plus minus : ℕ) → is_wrong_under_body y plus minus (detected_position_in_state p s y) t.body ≡ false
+      right plus minus = elim (cases_Bool (is_wrong_under_body y plus minus (detected_position_in_state p s y) t.body)) [
+        | inl aye ↦ absurd (false≢true (sym away ∙ is_wrong_under_body-has y plus minus (detected_position_in_state p s y) t.body aye))
         | inr nay ↦ nay
       ]
 
@@ -117,7 +117,7 @@ module _ (p : PlantLists) (plant : IsPlant p) (never : IsAcyclic p) (s : State) 
       by_section None e = rw e refl
       by_section (Some (Linear a b c f)) e = rw e refl
       by_section (Some (Point stem plus minus faces)) e =
-          rw e (removed-any (λ (train : Train). is_wrong_under_body y plus minus (detected_position p s y) train.body) s.trains i t at (right plus minus))
+          rw e (removed-any (λ (train : Train). is_wrong_under_body y plus minus (detected_position_in_state p s y) train.body) s.trains i t at (right plus minus))
 
   left-here : (i x : ℕ) (t : Train) → slice_get s.trains i ≡ Some t → contains_section x t.body ≡ true → x < length p.sections → occupancy_or_crash p (with_trains s (remove s.trains i)) x ≡ Vacant
   left-here i x t at has within =

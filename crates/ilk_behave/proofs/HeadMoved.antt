@@ -14,7 +14,7 @@ use Rattle.ilk_plant.specs.Network.{contains_section}
 use Rattle.ilk_plant.specs.Plant.{IsPlant, PlantLists, board_of}
 use Rattle.ilk_plant.specs.Shape.{HasShape, has_nonempty_connected_body}
 use Rattle.ilk_plant.specs.Sound.{IsAcyclic}
-use Rattle.ilk_plant.specs.State.{is_occupied, detected_position}
+use Rattle.ilk_plant.specs.State.{is_occupied, detected_position_in_state}
 use Rattle.ilk_plant.specs.declared.network.Dir.{Dir}
 use Rattle.ilk_plant.specs.declared.network.Section.{Section}
 use Rattle.ilk_plant.specs.declared.network.Section.TheVariants.{Linear, Point}
@@ -55,9 +55,9 @@ module _ (p : PlantLists) (plant : IsPlant p) (never : IsAcyclic p) (s : State) 
       by_section : (o : Option Section) → slice_get p.sections x ≡ o → is_point_wrong_between p s x before (Some y) ≡ false
       by_section None e = rw e refl
       by_section (Some (Linear a b c f)) e = rw e refl
-      by_section (Some (Point stem plus minus faces)) e = lies (detected_position p s x) refl
+      by_section (Some (Point stem plus minus faces)) e = lies (detected_position_in_state p s x) refl
         where
-          lies : (o : Option Lie) → detected_position p s x ≡ o → is_point_wrong_between p s x before (Some y) ≡ false
+          lies : (o : Option Lie) → detected_position_in_state p s x ≡ o → is_point_wrong_between p s x before (Some y) ≡ false
           lies None f = rw (e, f) refl
           lies (Some Moving) f = absurd (false≢true (sym (rw (e, f) at right)))
           lies (Some LiesPlus) f =
@@ -66,7 +66,7 @@ module _ (p : PlantLists) (plant : IsPlant p) (never : IsAcyclic p) (s : State) 
               (or_from (is_some_and before (λ z. z == minus)) (y == minus)
               (or_parts (is_some_and before (λ z. z == minus)) false none).0
               (ne_eqb y minus
-              (λ same. (other-leg p plant (detected_position p s) x stem plus minus faces d e).0 f
+              (λ same. (other-leg p plant (detected_position_in_state p s) x stem plus minus faces d e).0 f
               (led ∙ ap Some same))))
           lies (Some LiesMinus) f =
               let none : (is_some_and before (λ z. z == plus) || false) ≡ false = rw (e, f) at right in
@@ -74,7 +74,7 @@ module _ (p : PlantLists) (plant : IsPlant p) (never : IsAcyclic p) (s : State) 
               (or_from (is_some_and before (λ z. z == plus)) (y == plus)
               (or_parts (is_some_and before (λ z. z == plus)) false none).0
               (ne_eqb y plus
-              (λ same. (other-leg p plant (detected_position p s) x stem plus minus faces d e).1 f
+              (λ same. (other-leg p plant (detected_position_in_state p s) x stem plus minus faces d e).1 f
               (led ∙ ap Some same))))
 
   module _ (i k x y : ℕ) (t : Train) (at : slice_get s.trains i ≡ Some t) (place : slice_get t.body k ≡ Some x) (last : k + 1 ≡ length t.body) (led : ahead p s x t.dir ≡ Some y) (open_board : may_pass_board s (board_of p x t.dir) ≡ true) where

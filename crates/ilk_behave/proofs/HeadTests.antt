@@ -14,7 +14,7 @@ use Rattle.ilk_plant.specs.Network.{contains_section, same_direction}
 use Rattle.ilk_plant.specs.Plant.{IsPlant, PlantLists, board_of, next_to, point_number}
 use Rattle.ilk_plant.specs.Shape.{HasShape}
 use Rattle.ilk_plant.specs.Sound.{IsAcyclic}
-use Rattle.ilk_plant.specs.State.{is_occupied, detected_position}
+use Rattle.ilk_plant.specs.State.{is_occupied, detected_position_in_state}
 use Rattle.ilk_plant.specs.declared.network.Dir.{Dir}
 use Rattle.ilk_plant.specs.declared.network.Dir.TheVariants.{Up, Down}
 use Rattle.ilk_plant.specs.declared.network.Section.{Section}
@@ -32,7 +32,7 @@ use Rattle.ilk_plant.proofs.InLists.{only-one}
 use Rattle.ilk_motion.specs.Ahead.{ahead}
 use Rattle.ilk_motion.specs.Trains.{is_open, may_pass_board}
 use Rattle.ilk_routes.specs.Boards.{same_aspect}
-use Rattle.ilk_routes.specs.Lies.{is_detected_moving, lie_from_position, is_lie_at_position}
+use Rattle.ilk_routes.specs.Lies.{is_lie_moving, lie_from_position, is_lie_at_position}
 use Rattle.ilk_model.specs.Hazard.{hazard}
 use Rattle.ilk_layout.specs.Image.{image_of}
 use Rattle.ilk_layout.specs.Standing.{is_point_wrong_between}
@@ -93,10 +93,10 @@ module _ (p : PlantLists) (plant : IsPlant p) (never : IsAcyclic p) (s : State) 
       same (Some Open) = refl
       same (Some Closed) = refl
 
-  moving-holds : (x : ℕ) → tree_holds (image_of p s) (section_point_is_detected p x Moving) ≡ is_some_and (detected_position p s x) is_detected_moving
+  moving-holds : (x : ℕ) → tree_holds (image_of p s) (section_point_is_detected p x Moving) ≡ is_some_and (detected_position_in_state p s x) is_lie_moving
   moving-holds x = by_number (point_number p x) refl
     where
-      by_number : (o : Option ℕ) → point_number p x ≡ o → tree_holds (image_of p s) (section_point_is_detected p x Moving) ≡ is_some_and (detected_position p s x) is_detected_moving
+      by_number : (o : Option ℕ) → point_number p x ≡ o → tree_holds (image_of p s) (section_point_is_detected p x Moving) ≡ is_some_and (detected_position_in_state p s x) is_lie_moving
       by_number None e = rw e refl
       by_number (Some n) e =
           let below : n < length s.points = (let known = point_number-below p x in let less = rw e at known in let count = shape.points in omega (arith, less)) in
@@ -106,12 +106,12 @@ module _ (p : PlantLists) (plant : IsPlant p) (never : IsAcyclic p) (s : State) 
   pub takes-holds : (x y : ℕ) (d : Dir) → contains_section y (next_to p x d) ≡ true → list_all (tree_holds (image_of p s)) (not_wrong_from p x d y) ≡ not (is_point_wrong_between p s y (Some x) None)
   takes-holds x y d near = by_section (slice_get p.sections y) refl (back-opposite p plant x y d near)
     where
-      wrong-known : (stem plus minus : ℕ) (faces : Dir) (l : Lie) → slice_get p.sections y ≡ Some (Point stem plus minus faces) → detected_position p s y ≡ Some l → is_point_wrong_between p s y (Some x) None ≡ wrong_from x plus minus l
+      wrong-known : (stem plus minus : ℕ) (faces : Dir) (l : Lie) → slice_get p.sections y ≡ Some (Point stem plus minus faces) → detected_position_in_state p s y ≡ Some l → is_point_wrong_between p s y (Some x) None ≡ wrong_from x plus minus l
       wrong-known stem plus minus faces Moving e f = rw (e, f) refl
       wrong-known stem plus minus faces LiesPlus e f = rw (e, f) refl
       wrong-known stem plus minus faces LiesMinus e f = rw (e, f) refl
 
-      stem : (plus minus : ℕ) (l : Lie) → (x == minus) ≡ false → (x == plus) ≡ false → (not (is_detected_moving l) && true) ≡ not (wrong_from x plus minus l)
+      stem : (plus minus : ℕ) (l : Lie) → (x == minus) ≡ false → (x == plus) ≡ false → (not (is_lie_moving l) && true) ≡ not (wrong_from x plus minus l)
       stem plus minus Moving not_minus not_plus = refl
       stem plus minus LiesPlus not_minus not_plus = rw not_minus refl
       stem plus minus LiesMinus not_minus not_plus = rw not_plus refl
@@ -133,7 +133,7 @@ module _ (p : PlantLists) (plant : IsPlant p) (never : IsAcyclic p) (s : State) 
           let lie = lie-known p plant never s shape calm y stem_of plus minus faces e in
           let is : stem_of ≡ x = only-one x stem_of h in
           ap (list_all (tree_holds (image_of p s))) takes
-          ∙ ap (λ b. not b && true) (moving-holds y ∙ ap (λ o. is_some_and o is_detected_moving) lie.1)
+          ∙ ap (λ b. not b && true) (moving-holds y ∙ ap (λ o. is_some_and o is_lie_moving) lie.1)
           ∙ stem plus minus lie.0 (ne_eqb x minus (λ same. differ.1 (is ∙ same))) (ne_eqb x plus (λ same. differ.2 (is ∙ same)))
           ∙ ap not (sym (wrong-known stem_of plus minus faces lie.0 e lie.1))
 

@@ -21,7 +21,7 @@ use Rattle.ilk_plant.proofs.Rows.{contains_section-at}
 use Rattle.ilk_routes.specs.Claims.{sections_outside_path, required_points}
 use Rattle.ilk_layout.specs.Variables.{lock_var, commanded_var}
 use Rattle.ilk_layout.proofs.Valid.{lock_is-valid, is_point_commanded-valid}
-use Rattle.ilk_behave.specs.Settings.{command_as_listed, set_section_lock, set_locks, set_commanded}
+use Rattle.ilk_behave.specs.Settings.{command_listed_point, set_section_lock, set_locks, set_commanded}
 use Rattle.ilk_plant.proofs.PointNumbers.{number-once}
 use Rattle.ilk_behave.proofs.RulesValid.{all-flat_map, all-map, fits}
 use Rattle.ilk_behave.proofs.SetOnce.{SetElsewhere, SetOnce, elsewhere-flat_map, elsewhere-map, once-append, once-flat_map, once-map}
@@ -32,7 +32,7 @@ module _ (p : PlantLists) where
   locks xs hold = set_locks p xs hold
 
   abbrev commands : List Listed → List Setting
-  commands entries = flat_map (command_as_listed p) entries
+  commands entries = flat_map (command_listed_point p) entries
 
   pub locks-fit : (xs : List ℕ) (hold : Hold) → ((i x : ℕ) → slice_get xs i ≡ Some x → x < length p.sections) → list_all (fits p) (set_locks p xs hold) ≡ true
   locks-fit xs hold within =
@@ -58,11 +58,11 @@ module _ (p : PlantLists) where
           let one : made.0 ≡ y = omega (arith, var, same) in
           apart i j y (made.1 ∙ ap Some one) there
 
-  pub commands-fit : (entries : List Listed) → list_all (fits p) (flat_map (command_as_listed p) entries) ≡ true
+  pub commands-fit : (entries : List Listed) → list_all (fits p) (flat_map (command_listed_point p) entries) ≡ true
   commands-fit entries =
-      all-flat_map (fits p) (command_as_listed p) entries (λ i listed at. one listed (point_number p listed.point) refl)
+      all-flat_map (fits p) (command_listed_point p) entries (λ i listed at. one listed (point_number p listed.point) refl)
     where
-      one : (listed : Listed) (o : Option ℕ) → point_number p listed.point ≡ o → list_all (fits p) (command_as_listed p listed) ≡ true
+      one : (listed : Listed) (o : Option ℕ) → point_number p listed.point ≡ o → list_all (fits p) (command_listed_point p listed) ≡ true
       one listed None e = rw e refl
       one listed (Some n) e =
           let known = point_number-below p listed.point in
@@ -73,38 +73,38 @@ module _ (p : PlantLists) where
           only zero m at = same_Some n m at
           only (suc i) m at = cc
 
-  command_as_listed-elsewhere : (v : ℕ) (listed : Listed) → ((n : ℕ) → point_number p listed.point ≡ Some n → commanded_var p n ≡ v → ⊥) → SetElsewhere v (command_as_listed p listed)
-  command_as_listed-elsewhere v listed other = by_number (point_number p listed.point) refl
+  command_listed_point-elsewhere : (v : ℕ) (listed : Listed) → ((n : ℕ) → point_number p listed.point ≡ Some n → commanded_var p n ≡ v → ⊥) → SetElsewhere v (command_listed_point p listed)
+  command_listed_point-elsewhere v listed other = by_number (point_number p listed.point) refl
     where
-      by_number : (o : Option ℕ) → point_number p listed.point ≡ o → SetElsewhere v (command_as_listed p listed)
+      by_number : (o : Option ℕ) → point_number p listed.point ≡ o → SetElsewhere v (command_listed_point p listed)
       by_number None e = rw e tt
       by_number (Some n) e = rw e (other n e, tt)
 
-  command_as_listed-once : (listed : Listed) → SetOnce (command_as_listed p listed)
-  command_as_listed-once listed = by_number (point_number p listed.point) refl
+  command_listed_point-once : (listed : Listed) → SetOnce (command_listed_point p listed)
+  command_listed_point-once listed = by_number (point_number p listed.point) refl
     where
-      by_number : (o : Option ℕ) → point_number p listed.point ≡ o → SetOnce (command_as_listed p listed)
+      by_number : (o : Option ℕ) → point_number p listed.point ≡ o → SetOnce (command_listed_point p listed)
       by_number None e = rw e tt
       by_number (Some n) e = rw e (tt, tt)
 
-  command_as_listed-sets : (listed : Listed) (k : ℕ) (s : Setting) → slice_get (command_as_listed p listed) k ≡ Some s → (n : ℕ) × (point_number p listed.point ≡ Some n) × (s.var ≡ commanded_var p n)
-  command_as_listed-sets listed k s at = by_number (point_number p listed.point) refl k at
+  command_listed_point-sets : (listed : Listed) (k : ℕ) (s : Setting) → slice_get (command_listed_point p listed) k ≡ Some s → (n : ℕ) × (point_number p listed.point ≡ Some n) × (s.var ≡ commanded_var p n)
+  command_listed_point-sets listed k s at = by_number (point_number p listed.point) refl k at
     where
-      by_number : (o : Option ℕ) → point_number p listed.point ≡ o → (k : ℕ) → slice_get (command_as_listed p listed) k ≡ Some s → (n : ℕ) × (point_number p listed.point ≡ Some n) × (s.var ≡ commanded_var p n)
+      by_number : (o : Option ℕ) → point_number p listed.point ≡ o → (k : ℕ) → slice_get (command_listed_point p listed) k ≡ Some s → (n : ℕ) × (point_number p listed.point ≡ Some n) × (s.var ≡ commanded_var p n)
       by_number None e k at = let none = rw e at at in cc
       by_number (Some n) e zero at =
           let first : slice_get (set_commanded p n listed.at ∷ []) 0 ≡ Some s = rw e at at in
           (n, e, ap (λ (z : Setting). z.var) (sym (same_Some (set_commanded p n listed.at) s first)))
       by_number (Some n) e (suc k) at = let none = rw e at at in cc
 
-  pub commands-elsewhere : (v : ℕ) (entries : List Listed) → ((n : ℕ) → n < point_count p → commanded_var p n ≡ v → ⊥) → SetElsewhere v (flat_map (command_as_listed p) entries)
+  pub commands-elsewhere : (v : ℕ) (entries : List Listed) → ((n : ℕ) → n < point_count p → commanded_var p n ≡ v → ⊥) → SetElsewhere v (flat_map (command_listed_point p) entries)
   commands-elsewhere v entries other =
-      elsewhere-flat_map v (command_as_listed p) entries (λ i listed at. command_as_listed-elsewhere v listed (λ n e same. other n (let known = point_number-below p listed.point in rw e at known) same))
+      elsewhere-flat_map v (command_listed_point p) entries (λ i listed at. command_listed_point-elsewhere v listed (λ n e same. other n (let known = point_number-below p listed.point in rw e at known) same))
 
-  commands-once : (entries : List Listed) → EachOnce (map (λ (listed : Listed). listed.point) entries) → SetOnce (flat_map (command_as_listed p) entries)
+  commands-once : (entries : List Listed) → EachOnce (map (λ (listed : Listed). listed.point) entries) → SetOnce (flat_map (command_listed_point p) entries)
   commands-once entries once =
-      once-flat_map (command_as_listed p) entries (λ i listed at. command_as_listed-once listed) (λ i j x y k s apart at also set. command_as_listed-elsewhere s.var y (λ n e same. (
-      let first = command_as_listed-sets x k s set in
+      once-flat_map (command_listed_point p) entries (λ i listed at. command_listed_point-once listed) (λ i j x y k s apart at also set. command_listed_point-elsewhere s.var y (λ n e same. (
+      let first = command_listed_point-sets x k s set in
       let number : first.0 ≡ n = (let var = first.2 in omega (arith, var, same)) in
       let section : x.point ≡ y.point = number-once p x.point y.point n (first.1 ∙ ap Some number) e in
       apart (once i j y.point (pointed entries i x at ∙ ap Some section) (pointed entries j y also)))))
@@ -156,9 +156,9 @@ module _ (p : PlantLists) where
               | inr h ↦ protecting-apart k h.0 x here (h.1 ∙ ap Some one)
             ]))
 
-    pub wanted-once : SetOnce (flat_map (command_as_listed p) (required_points route))
+    pub wanted-once : SetOnce (flat_map (command_listed_point p) (required_points route))
     wanted-once =
-        subst SetOnce (sym (flat_map-append (command_as_listed p) route.points route.protecting_points))
+        subst SetOnce (sym (flat_map-append (command_listed_point p) route.points route.protecting_points))
         (once-append (commands route.points) (commands route.protecting_points)
         (commands-once route.points
         (numbers_differ-places (map (λ (listed : Listed). listed.point) route.points)
@@ -167,11 +167,11 @@ module _ (p : PlantLists) where
         (numbers_differ-places (map (λ (listed : Listed). listed.point) route.protecting_points)
         of.protecting_points_once)) cross)
       where
-        cross : (i : ℕ) (s : Setting) → slice_get (flat_map (command_as_listed p) route.points) i ≡ Some s → SetElsewhere s.var (flat_map (command_as_listed p) route.protecting_points)
+        cross : (i : ℕ) (s : Setting) → slice_get (flat_map (command_listed_point p) route.points) i ≡ Some s → SetElsewhere s.var (flat_map (command_listed_point p) route.protecting_points)
         cross i s at =
-            let found = in-one (command_as_listed p) route.points i s at in
-            elsewhere-flat_map s.var (command_as_listed p) route.protecting_points (λ j y there. command_as_listed-elsewhere s.var y (λ n e same. (
-            let first = command_as_listed-sets found.1 found.2 s found.4 in
+            let found = in-one (command_listed_point p) route.points i s at in
+            elsewhere-flat_map s.var (command_listed_point p) route.protecting_points (λ j y there. command_listed_point-elsewhere s.var y (λ n e same. (
+            let first = command_listed_point-sets found.1 found.2 s found.4 in
             let number : first.0 ≡ n = (let var = first.2 in omega (arith, var, same)) in
             let section : found.1.point ≡ y.point = number-once p found.1.point y.point n (first.1 ∙ ap Some number) e in
             let passed = all-at (λ (listed : Listed). IsTrue (contains_section listed.point (route.path ++ route.overlap))) route.points found.0 found.1 of.points_passed found.3 in

@@ -10,7 +10,7 @@ use Rattle.ilk_plant.specs.Network.{contains_section}
 use Rattle.ilk_plant.specs.Plant.{IsPlant, PlantLists}
 use Rattle.ilk_plant.specs.Shape.{HasShape, has_nonempty_connected_body}
 use Rattle.ilk_plant.specs.Sound.{IsAcyclic}
-use Rattle.ilk_plant.specs.State.{is_occupied, detected_position}
+use Rattle.ilk_plant.specs.State.{is_occupied, detected_position_in_state}
 use Rattle.ilk_plant.specs.declared.network.Section.{Section}
 use Rattle.ilk_plant.specs.declared.network.Section.TheVariants.{Linear, Point}
 use Rattle.ilk_plant.specs.declared.state.State.{State}
@@ -33,8 +33,8 @@ right-under p s i x t safe at = by_section (slice_get p.sections x) refl (or_par
     by_section None e right = rw e refl
     by_section (Some (Linear a b c d)) e right = rw e refl
     by_section (Some (Point stem plus minus faces)) e right =
-        let none : list_any (λ (train : Train). is_wrong_under_body x plus minus (detected_position p s x) train.body) s.trains ≡ false = rw e at right in
-        rw e (list_any-none (λ (train : Train). is_wrong_under_body x plus minus (detected_position p s x) train.body) s.trains i t none at)
+        let none : list_any (λ (train : Train). is_wrong_under_body x plus minus (detected_position_in_state p s x) train.body) s.trains ≡ false = rw e at right in
+        rw e (list_any-none (λ (train : Train). is_wrong_under_body x plus minus (detected_position_in_state p s x) train.body) s.trains i t none at)
 
 pub none-wrong : (p : PlantLists) (s : State) (x : ℕ) → ((i : ℕ) (t : Train) → slice_get s.trains i ≡ Some t → is_point_wrong_under p s x t.body ≡ false) → is_wrong_under_train p s x ≡ false
 none-wrong p s x right = by_section (slice_get p.sections x) refl
@@ -43,7 +43,7 @@ none-wrong p s x right = by_section (slice_get p.sections x) refl
     by_section None e = rw e refl
     by_section (Some (Linear a b c d)) e = rw e refl
     by_section (Some (Point stem plus minus faces)) e =
-        rw e (none-pass (λ (train : Train). is_wrong_under_body x plus minus (detected_position p s x) train.body) s.trains (λ i t at. (let here = right i t at in rw e at here)))
+        rw e (none-pass (λ (train : Train). is_wrong_under_body x plus minus (detected_position_in_state p s x) train.body) s.trains (λ i t at. (let here = right i t at in rw e at here)))
 
 pub some-wrong : (p : PlantLists) (s : State) (i x : ℕ) (t : Train) → slice_get s.trains i ≡ Some t → is_point_wrong_under p s x t.body ≡ true → is_wrong_under_train p s x ≡ true
 some-wrong p s i x t at wrong = by_section (slice_get p.sections x) refl
@@ -52,7 +52,8 @@ some-wrong p s i x t at wrong = by_section (slice_get p.sections x) refl
     by_section None e = absurd (false≢true (rw e at wrong))
     by_section (Some (Linear a b c d)) e = absurd (false≢true (rw e at wrong))
     by_section (Some (Point stem plus minus faces)) e =
-        (let here : is_wrong_under_body x plus minus (detected_position p s x) t.body ≡ true = rw e at wrong in rw e (list_any-from (λ (train : Train). is_wrong_under_body x plus minus (detected_position p s x) train.body) s.trains i t at here))
+        (let here : is_wrong_under_body x plus minus (detected_position_in_state p s x) t.body
+        ≡ true = rw e at wrong in rw e (list_any-from (λ (train : Train). is_wrong_under_body x plus minus (detected_position_in_state p s x) train.body) s.trains i t at here))
 
 pub safe-from : (p : PlantLists) (s : State) (x : ℕ) →
     ((i j : ℕ) (t u : Train) → slice_get s.trains i ≡ Some t → slice_get s.trains j ≡ Some u →

@@ -5,7 +5,7 @@ use Rattle.ilk_base.proofs.Lists.{item_at, slice_get-set_other}
 use Rattle.ilk_base.proofs.Ranges.{map-range-congr}
 use Rattle.ilk_plant.specs.Plant.{PlantLists, point_number}
 use Rattle.ilk_plant.specs.Shape.{HasShape}
-use Rattle.ilk_plant.specs.State.{is_occupied, detected_position}
+use Rattle.ilk_plant.specs.State.{is_occupied, detected_position_in_state}
 use Rattle.ilk_plant.specs.declared.state.PointState.{PointState}
 use Rattle.ilk_plant.specs.declared.state.State.{State}
 use Rattle.ilk_plant.proofs.PointNumbers.{number-once, point_number-below}
@@ -15,7 +15,7 @@ use Rattle.ilk_layout.specs.Values.{occupancy_value}
 use Rattle.ilk_layout.proofs.Changes.{occupancy-kept, table-one}
 use Rattle.ilk_layout.proofs.Trains.{wrong-none}
 
-pub point-of : (p : PlantLists) (s : State) → HasShape p s → (x n : ℕ) → point_number p x ≡ Some n → (point : PointState) × (slice_get s.points n ≡ Some point) × (detected_position p s x ≡ Some point.at)
+pub point-of : (p : PlantLists) (s : State) → HasShape p s → (x n : ℕ) → point_number p x ≡ Some n → (point : PointState) × (slice_get s.points n ≡ Some point) × (detected_position_in_state p s x ≡ Some point.at)
 point-of p s shape x n e =
     let below : n < length s.points = (let known = point_number-below p x in let less = rw e at known in let count = shape.points in omega (arith, less)) in
     let point = item_at s.points n below in
@@ -25,10 +25,10 @@ abbrev pub with_point : State → ℕ → PointState → State
 with_point s n point = record s { points = set s.points n point }
 
 module _ (p : PlantLists) (s : State) (x n : ℕ) (point : PointState) (number : point_number p x ≡ Some n) where
-  lie-other : (y : ℕ) → (y ≡ x → ⊥) → detected_position p (with_point s n point) y ≡ detected_position p s y
+  lie-other : (y : ℕ) → (y ≡ x → ⊥) → detected_position_in_state p (with_point s n point) y ≡ detected_position_in_state p s y
   lie-other y apart = by_number (point_number p y) refl
     where
-      by_number : (o : Option ℕ) → point_number p y ≡ o → detected_position p (with_point s n point) y ≡ detected_position p s y
+      by_number : (o : Option ℕ) → point_number p y ≡ o → detected_position_in_state p (with_point s n point) y ≡ detected_position_in_state p s y
       by_number None e = rw e refl
       by_number (Some m) e =
           let other = slice_get-set_other s.points n m point (λ same. apart (number-once p y x n (e ∙ ap Some (sym same)) number)) in

@@ -10,7 +10,7 @@ use Rattle.ilk_plant.specs.Plant.{PlantLists}
 use Rattle.ilk_model.specs.declared.event.Event.{Event}
 use Rattle.ilk_model.specs.declared.event.Event.TheVariants.{Mark, Allocate, Lock, Sense, Release, Finish, Throw, Settle, Enter, Head, Tail, Leave, Cancel}
 use Rattle.ilk_behave.specs.Behaviour.{events_of_plant, events_of_route, events_of_section}
-use Rattle.ilk_behave.specs.Numbered.{IsEventOfPlant, AreEventsOfPlant}
+use Rattle.ilk_behave.specs.Numbered.{IsEventOfPlant, EachIsEventOfPlant}
 
 abbrev pub events_before_route : ℕ → List Event
 events_before_route n = flat_map events_of_route (range_with_len 0 n)
@@ -32,11 +32,11 @@ sections-more p n events is =
 pub sections-start : (p : PlantLists) (n : ℕ) → n ≡ length p.routes → events_before_route n ≡ events_before_section p 0
 sections-start p n all = ap events_before_route all ∙ sym (append-nil (events_before_route (length p.routes)))
 
-pub route-numbered : (p : PlantLists) (r : ℕ) (events : List Event) → r < length p.routes → events ≡ events_of_route r → AreEventsOfPlant p events
+pub route-numbered : (p : PlantLists) (r : ℕ) (events : List Event) → r < length p.routes → events ≡ events_of_route r → EachIsEventOfPlant p events
 route-numbered p r events within is =
     All-same (IsEventOfPlant p) events (events_of_route r) is (All-from_recursion (IsEventOfPlant p) (events_of_route r) (within, (within, (within, (within, (within, (within, (within, tt))))))))
 
-pub section-numbered : (p : PlantLists) (x : ℕ) (events : List Event) → x < length p.sections → events ≡ events_of_section x → AreEventsOfPlant p events
+pub section-numbered : (p : PlantLists) (x : ℕ) (events : List Event) → x < length p.sections → events ≡ events_of_section x → EachIsEventOfPlant p events
 section-numbered p x events within is =
     All-same (IsEventOfPlant p) events (events_of_section x) is (All-from_recursion (IsEventOfPlant p) (events_of_section x) (within, (within, (within, (within, (within, (within, tt)))))))
 

@@ -10,7 +10,7 @@ use Rattle.ilk_ir.specs.declared.system.Setting.{Setting}
 use Rattle.ilk_plant.specs.Network.{is_point}
 use Rattle.ilk_plant.specs.Plant.{IsPlant, PlantLists, point_number}
 use Rattle.ilk_plant.specs.Shape.{HasShape}
-use Rattle.ilk_plant.specs.State.{is_occupied, detected_position}
+use Rattle.ilk_plant.specs.State.{is_occupied, detected_position_in_state}
 use Rattle.ilk_plant.specs.declared.network.Position.{Position}
 use Rattle.ilk_plant.specs.declared.network.Position.TheVariants.{Plus, Minus}
 use Rattle.ilk_plant.specs.declared.network.Section.{Section}
@@ -20,7 +20,7 @@ use Rattle.ilk_plant.specs.declared.state.Lie.TheVariants.{Plus as LiesPlus, Min
 use Rattle.ilk_plant.specs.declared.state.PointState.{PointState}
 use Rattle.ilk_plant.specs.declared.state.State.{State}
 use Rattle.ilk_model.specs.Hazard.{hazard, is_section_hazardous, has_two_trains, is_wrong_under_train}
-use Rattle.ilk_routes.specs.Lies.{is_detected_moving, lie_from_position, is_lie_at_position}
+use Rattle.ilk_routes.specs.Lies.{is_lie_moving, lie_from_position, is_lie_at_position}
 use Rattle.ilk_routes.specs.Points.{after_settle, after_throw}
 use Rattle.ilk_layout.specs.Image.{image_of, occupancy_values}
 use Rattle.ilk_layout.specs.Occupancy.{occupancy_or_crash}
@@ -40,7 +40,7 @@ use Rattle.ilk_layout.proofs.ConditionValues.{at-holds, to-holds, vacant-holds}
 use Rattle.ilk_behave.proofs.Writing.{by_image, with_lists}
 
 module _ (p : PlantLists) (plant : IsPlant p) (s : State) (shape : HasShape p s) (calm : hazard p s ≡ None) where
-  moving-alone : (x n : ℕ) → point_number p x ≡ Some n → detected_position p s x ≡ Some Moving → is_occupied s x ≡ false
+  moving-alone : (x n : ℕ) → point_number p x ≡ Some n → detected_position_in_state p s x ≡ Some Moving → is_occupied s x ≡ false
   moving-alone x n number moves =
       let section = numbered-section p x n number in
       let within = slice_get_within p.sections x section.0 section.1 in
@@ -72,7 +72,7 @@ module _ (p : PlantLists) (plant : IsPlant p) (s : State) (shape : HasShape p s)
           let two = to-holds p s shape n point to at in
           rw (one, two) refl
 
-      moves : (at : Lie) (to : Position) → (((detected_value at == 2) && ((commanded_value to == 0) && true)) || ((detected_value at == 2) && ((commanded_value to == 1) && true))) ≡ is_detected_moving at
+      moves : (at : Lie) (to : Position) → (((detected_value at == 2) && ((commanded_value to == 0) && true)) || ((detected_value at == 2) && ((commanded_value to == 1) && true))) ≡ is_lie_moving at
       moves LiesPlus Plus = refl
       moves LiesPlus Minus = refl
       moves LiesMinus Plus = refl
@@ -101,7 +101,7 @@ module _ (p : PlantLists) (plant : IsPlant p) (s : State) (shape : HasShape p s)
           let at_plus = rule (is_point_detected p n Moving ∷ is_point_commanded p n Plus ∷ []) (set_detected p n (lie_from_position Plus) ∷ []) in
           let at_minus = rule (is_point_detected p n Moving ∷ is_point_commanded p n Minus ∷ []) (set_detected p n (lie_from_position Minus) ∷ []) in
           rw (e, point.1) (two_rules_step p s t ((detected_value point.0.at == 2) && ((commanded_value point.0.to == 0) && true)) ((detected_value point.0.at == 2) && ((commanded_value point.0.to == 1) && true))
-          (is_detected_moving point.0.at) at_plus at_minus
+          (is_lie_moving point.0.at) at_plus at_minus
           (guard n point.0 Plus point.1) (guard n point.0 Minus point.1) (moves point.0.at point.0.to)
           (λ h. by_image p s t (set_detected p n (lie_from_position Plus) ∷ []) (settle-sets x n point.0 Plus e point.1 (alone ((commanded_value point.0.to == 0) && true) h) (is-to (detected_value point.0.at == 2) point.0.to Plus h)))
           (λ h. by_image p s t (set_detected p n (lie_from_position Minus) ∷ []) (settle-sets x n point.0 Minus e point.1 (alone ((commanded_value point.0.to == 1) && true) h) (is-to (detected_value point.0.at == 2) point.0.to Minus h))))
@@ -113,13 +113,13 @@ module _ (p : PlantLists) (plant : IsPlant p) (s : State) (shape : HasShape p s)
       let there = point-of p t shaped x n number in
       let stays : slice_get t.points n ≡ Some (record point { at = Moving }) = slice_get-set_same s.points n (record point { at = Moving }) (slice_get_within s.points n point at) in
       let is : there.0 ≡ record point { at = Moving } = same_Some there.0 (record point { at = Moving }) (sym there.1 ∙ stays) in
-      let moves : detected_position p t x ≡ Some Moving = there.2 ∙ ap (λ (q : PointState). Some q.at) is in
+      let moves : detected_position_in_state p t x ≡ Some Moving = there.2 ∙ ap (λ (q : PointState). Some q.at) is in
       let section = numbered-section p x n number in
       let wrong : is_wrong_under_train p t x ≡ true = by_section section.0 section.1 section.2 moves in
       let hazard : is_section_hazardous p t x ≡ true = ap (λ b. has_two_trains t x || b) wrong ∙ or-true (has_two_trains t x) in
       rw hazard refl
     where
-      by_section : (section : Section) → slice_get p.sections x ≡ Some section → is_point section ≡ true → detected_position p (with_point s n (record point { at = Moving })) x ≡ Some Moving
+      by_section : (section : Section) → slice_get p.sections x ≡ Some section → is_point section ≡ true → detected_position_in_state p (with_point s n (record point { at = Moving })) x ≡ Some Moving
           → is_wrong_under_train p (with_point s n (record point { at = Moving })) x ≡ true
       by_section (Linear a b c d) e is moves = cc
       by_section (Point stem plus minus faces) e is moves = rw (e, moves) some
@@ -134,7 +134,7 @@ module _ (p : PlantLists) (plant : IsPlant p) (s : State) (shape : HasShape p s)
           &&
           ((not (detected_value at == 1) || (not (commanded_value to == 1) || false))
           && (v && true))))
-          ≡ ((not (is_detected_moving at) && not (is_lie_at_position at to)) && v)
+          ≡ ((not (is_lie_moving at) && not (is_lie_at_position at to)) && v)
       elsewhere LiesPlus Plus v = refl
       elsewhere LiesPlus Minus true = refl
       elsewhere LiesPlus Minus false = refl
@@ -151,7 +151,7 @@ module _ (p : PlantLists) (plant : IsPlant p) (s : State) (shape : HasShape p s)
       parts : (n : ℕ) (point : PointState) → slice_get s.points n ≡ Some point → (v : Bool) (last : Tree) →
           tree_holds (image_of p s) last ≡ v →
           guard_holds_in_image p s (rule (rests_out_of_position p n ++ last ∷ []) [])
-          ≡ ((not (is_detected_moving point.at) && not (is_lie_at_position point.at point.to)) && v)
+          ≡ ((not (is_lie_moving point.at) && not (is_lie_at_position point.at point.to)) && v)
       parts n point at v last is =
           let moving = at-holds p s shape n point Moving at in
           let plus = at-holds p s shape n point LiesPlus at in
@@ -171,7 +171,7 @@ module _ (p : PlantLists) (plant : IsPlant p) (s : State) (shape : HasShape p s)
           let t = with_point s n thrown in
           let written = at-written p s (occupancy_values p s) shape n point.0 Moving point.1 in
           let shaped : HasShape p t = with_lists p s (set s.points n thrown) s.boards s.locks shape (length-set s.points n thrown) refl refl in
-          let off = not (is_detected_moving point.0.at) && not (is_lie_at_position point.0.at point.0.to) in
+          let off = not (is_lie_moving point.0.at) && not (is_lie_at_position point.0.at point.0.to) in
           let clear_sets : List Setting = set_detected p n Moving ∷ [] in
           let crash_sets : List Setting = set_detected p n Moving ∷ set_occupancy p x Crash ∷ [] in
           rw (e, point.1) (two_rules_step p s t (off && not (is_occupied s x)) (off && not (not (is_occupied s x))) off (rule (rests_out_of_position p n ++ no_train_at p x ∷ []) clear_sets)

@@ -20,7 +20,7 @@ use Rattle.ilk_layout.specs.Conditions.{is_board_aspect, is_listed_point_detecte
 use Rattle.ilk_layout.proofs.Valid.{is_board_aspect-valid, is_listed_point_detected-valid, lock_is-valid, mode_is-valid, no_train_at-valid}
 use Rattle.ilk_behave.specs.Guards.{free_and_vacant_at, not_alloc_or_locked}
 use Rattle.ilk_behave.specs.RouteRules.{routes_protected_by, rules_of_allocate, rules_of_cancel, rules_of_lock, rules_of_mark}
-use Rattle.ilk_behave.specs.Settings.{set_board_aspect, command_as_listed, set_section_lock, set_locks, set_mode, rule}
+use Rattle.ilk_behave.specs.Settings.{set_board_aspect, command_listed_point, set_section_lock, set_locks, set_mode, rule}
 use Rattle.ilk_behave.proofs.LocksOnce.{all_locks-once, commands-elsewhere, commands-fit, locks-elsewhere, locks-fit, wanted-once}
 use Rattle.ilk_behave.proofs.RouteSteps.{locked-known}
 use Rattle.ilk_behave.proofs.RulesValid.{all-append, all-cons, all-flat_map, all-map, fits, is_valid, is_valid_rule, one_rule-valid, rule-valid, two_rules-valid}
@@ -80,9 +80,9 @@ module _ (p : PlantLists) (plant : IsPlant p) where
           let of = plant.routes_known r route e in
           let known = locked-known p route of in
           let locks : List Setting = set_locks p (sections_locked_for route) LockedLock in
-          let commands : List Setting = flat_map (command_as_listed p) (required_points route) in
+          let commands : List Setting = flat_map (command_listed_point p) (required_points route) in
           let conditions : List Tree = mode_is r Marked ∷ flat_map not_alloc_or_locked route.conflicts ++ flat_map (free_and_vacant_at p) (sections_locked_for route) in
-          let sets : List Setting = set_mode r Allocating ∷ set_locks p (sections_locked_for route) LockedLock ++ flat_map (command_as_listed p) (required_points route) in
+          let sets : List Setting = set_mode r Allocating ∷ set_locks p (sections_locked_for route) LockedLock ++ flat_map (command_listed_point p) (required_points route) in
           rw e (one_rule-valid p (rule conditions sets) (rule-valid p conditions sets
           (all-append (is_valid p) (mode_is r Marked ∷ flat_map not_alloc_or_locked route.conflicts) (flat_map (free_and_vacant_at p) (sections_locked_for route))
           (all-cons (is_valid p) (mode_is r Marked) (flat_map not_alloc_or_locked route.conflicts) (mode_is-valid p r Marked within)
@@ -107,7 +107,7 @@ module _ (p : PlantLists) (plant : IsPlant p) where
           cross : r < length p.routes → (route : Route) → (i : ℕ) (s : Setting) →
               slice_get (set_mode r Allocating ∷ set_locks p (sections_locked_for route) LockedLock) i
               ≡ Some s →
-              SetElsewhere s.var (flat_map (command_as_listed p) (required_points route))
+              SetElsewhere s.var (flat_map (command_listed_point p) (required_points route))
           cross within route zero s at =
               commands-elsewhere p s.var (required_points route) (λ n less same. (let var : mode_var r ≡ s.var = ap (λ (z : Setting). z.var) (same_Some (set_mode r Allocating) s at) in omega (arith, within, less, same, var)))
           cross within route (suc i) s at =

@@ -7,7 +7,7 @@ use Rattle.std.proofs.lemmas.List.FromFn.{length-range_with_len}
 use Rattle.std.proofs.lemmas.List.Sums.{count_by-le-length, length-filter}
 use Rattle.ilk_ir.specs.System.{PlainRule}
 use Rattle.ilk_plant.specs.Network.{neighbours_on, same_direction}
-use Rattle.ilk_plant.specs.Plant.{IsPlant, PlantLists, section_inward_if_border, next_to, point_number}
+use Rattle.ilk_plant.specs.Plant.{IsPlant, PlantLists, inward_direction_if_border, next_to, point_number}
 use Rattle.ilk_plant.specs.declared.network.Dir.{Dir}
 use Rattle.ilk_plant.specs.declared.network.Dir.TheVariants.{Up, Down}
 use Rattle.ilk_plant.specs.declared.network.Section.{Section}
@@ -103,9 +103,9 @@ module _ (p : PlantLists) (plant : IsPlant p) where
       by_number (Some n) e = rw e (omega arith)
 
   few-enter : (x : ℕ) → length (rules_of_enter p x) ≤ 1
-  few-enter x = by_inward (section_inward_if_border p x) refl
+  few-enter x = by_inward (inward_direction_if_border p x) refl
     where
-      by_inward : (o : Option Dir) → section_inward_if_border p x ≡ o → length (rules_of_enter p x) ≤ 1
+      by_inward : (o : Option Dir) → inward_direction_if_border p x ≡ o → length (rules_of_enter p x) ≤ 1
       by_inward None e = rw e (omega arith)
       by_inward (Some d) e = rw e (omega arith)
 

@@ -18,7 +18,7 @@ use Rattle.ilk_plant.specs.Network.{contains_section, same_direction}
 use Rattle.ilk_plant.specs.Plant.{IsPlant, PlantLists, next_to}
 use Rattle.ilk_plant.specs.Shape.{HasShape}
 use Rattle.ilk_plant.specs.Sound.{IsAcyclic}
-use Rattle.ilk_plant.specs.State.{detected_position}
+use Rattle.ilk_plant.specs.State.{detected_position_in_state}
 use Rattle.ilk_plant.specs.declared.network.Dir.{Dir}
 use Rattle.ilk_plant.specs.declared.network.Dir.TheVariants.{Up, Down}
 use Rattle.ilk_plant.specs.declared.network.Section.{Section}
@@ -79,8 +79,8 @@ module _ (p : PlantLists) (plant : IsPlant p) (s : State) (shape : HasShape p s)
           leg_set_if_facing p x d y ≡ cond (same_direction faces d) (section_point_is_detected p x (lie_from_position (leg_position plus y)) ∷ []) []
       towards stem plus minus faces d e = leads-by p x y d (slice_get p.sections x) refl ∙ ap (leading p x y d) e
 
-      goes : (stem plus minus : ℕ) (faces d : Dir) → slice_get p.sections x ≡ Some (Point stem plus minus faces) → ahead p s x d ≡ cond (same_direction faces d) (detected_position p s x >>= detected_leg plus minus) (Some stem)
-      goes stem plus minus faces d e = ap (λ o. o >>= (λ section. section_led_to section d (detected_position p s x))) e
+      goes : (stem plus minus : ℕ) (faces d : Dir) → slice_get p.sections x ≡ Some (Point stem plus minus faces) → ahead p s x d ≡ cond (same_direction faces d) (detected_position_in_state p s x >>= detected_leg plus minus) (Some stem)
+      goes stem plus minus faces d e = ap (λ o. o >>= (λ section. section_led_to section d (detected_position_in_state p s x))) e
 
       facing : (stem plus minus : ℕ) (faces d : Dir) (b : Bool) → same_direction faces d ≡ b →
           slice_get p.sections x ≡ Some (Point stem plus minus faces) → contains_section y (next_to p x d) ≡ true →
@@ -92,13 +92,13 @@ module _ (p : PlantLists) (plant : IsPlant p) (s : State) (shape : HasShape p s)
           let lie = lie-holds p plant s shape calm x (leg_position plus y) in
           ap (list_all (tree_holds (image_of p s))) (towards stem plus minus faces d e ∙ ap (λ b. cond b (section_point_is_detected p x (lie_from_position (leg_position plus y)) ∷ []) []) f)
           ∙ ap (λ b. b && true) lie
-          ∙ by_lie plus minus (detected_position p s x) apart.0 near
-          ∙ ap (λ o. is_some_and o (λ z. z == y)) (sym (goes stem plus minus faces d e ∙ ap (λ b. cond b (detected_position p s x >>= detected_leg plus minus) (Some stem)) f))
+          ∙ by_lie plus minus (detected_position_in_state p s x) apart.0 near
+          ∙ ap (λ o. is_some_and o (λ z. z == y)) (sym (goes stem plus minus faces d e ∙ ap (λ b. cond b (detected_position_in_state p s x >>= detected_leg plus minus) (Some stem)) f))
       facing stem plus minus faces d false f e h =
           let near : contains_section y (stem ∷ []) ≡ true = rw (e, f) at h in
           ap (list_all (tree_holds (image_of p s))) (towards stem plus minus faces d e ∙ ap (λ b. cond b (section_point_is_detected p x (lie_from_position (leg_position plus y)) ∷ []) []) f)
           ∙ sym (eq-eqb stem y (only-one y stem near))
-          ∙ ap (λ o. is_some_and o (λ z. z == y)) (sym (goes stem plus minus faces d e ∙ ap (λ b. cond b (detected_position p s x >>= detected_leg plus minus) (Some stem)) f))
+          ∙ ap (λ o. is_some_and o (λ z. z == y)) (sym (goes stem plus minus faces d e ∙ ap (λ b. cond b (detected_position_in_state p s x >>= detected_leg plus minus) (Some stem)) f))
 
       by_section : (o : Option Section) → slice_get p.sections x ≡ o → (d : Dir) → contains_section y (next_to p x d) ≡ true → list_all (tree_holds (image_of p s)) (leg_set_if_facing p x d y) ≡ is_some_and (ahead p s x d) (λ z. z == y)
       by_section None e d h = (let bad : false ≡ true = rw e at h in absurd (false≢true bad))

@@ -5,7 +5,7 @@ use Rattle.std.proofs.lemmas.Option.{same_Some}
 use Rattle.ilk_ir.specs.Tree.{Tree}
 use Rattle.ilk_plant.specs.Network.{contains_section, same_direction}
 use Rattle.ilk_plant.specs.Plant.{PlantLists}
-use Rattle.ilk_plant.specs.State.{detected_position}
+use Rattle.ilk_plant.specs.State.{detected_position_in_state}
 use Rattle.ilk_plant.specs.declared.network.Dir.{Dir}
 use Rattle.ilk_plant.specs.declared.network.Position.{Position}
 use Rattle.ilk_plant.specs.declared.network.Position.TheVariants.{Plus, Minus}
@@ -51,8 +51,8 @@ rest-wrong p s x body right = by_section (slice_get p.sections x) refl
     by_section None e = rw e refl
     by_section (Some (Linear a b c d)) e = rw e refl
     by_section (Some (Point stem plus minus faces)) e =
-        let none : is_wrong_under_body x plus minus (detected_position p s x) body ≡ false = rw e at right in
-        rw e (false_from_ne_true (is_wrong_under_body x plus minus (detected_position p s x) (remove body 0)) (λ h. false≢true (sym none ∙ rest-is_wrong_under_body x plus minus (detected_position p s x) body h)))
+        let none : is_wrong_under_body x plus minus (detected_position_in_state p s x) body ≡ false = rw e at right in
+        rw e (false_from_ne_true (is_wrong_under_body x plus minus (detected_position_in_state p s x) (remove body 0)) (λ h. false≢true (sym none ∙ rest-is_wrong_under_body x plus minus (detected_position_in_state p s x) body h)))
 
 pub first-two : (x : ℕ) (body : List ℕ) → is_first_of_several x body ≡ true → (y : ℕ) × (slice_get body 0 ≡ Some x) × (slice_get body 1 ≡ Some y)
 first-two x [] h = cc

@@ -8,7 +8,7 @@ use Rattle.ilk_ir.specs.Tree.{Tree, any_of, negation, trees_from_list}
 use Rattle.ilk_ir.specs.declared.system.Setting.{Setting}
 use Rattle.ilk_ir.proofs.Trees.{any_of-valid}
 use Rattle.ilk_plant.specs.Network.{contains_section, same_direction}
-use Rattle.ilk_plant.specs.Plant.{IsPlant, PlantLists, board_of, section_inward_if_border, next_to, point_count, point_number}
+use Rattle.ilk_plant.specs.Plant.{IsPlant, PlantLists, board_of, inward_direction_if_border, next_to, point_count, point_number}
 use Rattle.ilk_plant.specs.declared.network.Dir.{Dir}
 use Rattle.ilk_plant.specs.declared.network.Position.{Position}
 use Rattle.ilk_plant.specs.declared.network.Position.TheVariants.{Plus, Minus}
@@ -101,7 +101,7 @@ module _ (p : PlantLists) (plant : IsPlant p) where
   pub enter-valid : (x : ℕ) → list_all (is_valid_rule p) (rules_of_enter p x) ≡ true
   enter-valid x = by_section (slice_get p.sections x) refl
     where
-      by_inward : x < length p.sections → (o : Option Dir) → section_inward_if_border p x ≡ o → list_all (is_valid_rule p) (rules_of_enter p x) ≡ true
+      by_inward : x < length p.sections → (o : Option Dir) → inward_direction_if_border p x ≡ o → list_all (is_valid_rule p) (rules_of_enter p x) ≡ true
       by_inward inside None e = rw e refl
       by_inward inside (Some d) e =
           let conditions : List Tree = no_train_at p x ∷ lock_is p x FreeLock ∷ [] in
@@ -112,8 +112,8 @@ module _ (p : PlantLists) (plant : IsPlant p) where
           (tt, tt)))
 
       by_section : (o : Option Section) → slice_get p.sections x ≡ o → list_all (is_valid_rule p) (rules_of_enter p x) ≡ true
-      by_section None e = let none : section_inward_if_border p x ≡ None = rw e refl in rw none refl
-      by_section (Some section) e = by_inward (slice_get_within p.sections x section e) (section_inward_if_border p x) refl
+      by_section None e = let none : inward_direction_if_border p x ≡ None = rw e refl in rw none refl
+      by_section (Some section) e = by_inward (slice_get_within p.sections x section e) (inward_direction_if_border p x) refl
 
   board_open_if_any-valid : (x : ℕ) (d : Dir) → list_all (is_valid p) (board_open_if_any p x d) ≡ true
   board_open_if_any-valid x d = by_board (board_of p x d) refl

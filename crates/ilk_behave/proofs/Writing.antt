@@ -9,7 +9,7 @@ use Rattle.ilk_ir.specs.System.{after_settings}
 use Rattle.ilk_ir.specs.declared.system.Setting.{Setting}
 use Rattle.ilk_plant.specs.Plant.{PlantLists, point_number}
 use Rattle.ilk_plant.specs.Shape.{HasShape, seen_and_released_fit_path}
-use Rattle.ilk_plant.specs.State.{detected_position}
+use Rattle.ilk_plant.specs.State.{detected_position_in_state}
 use Rattle.ilk_plant.specs.declared.state.Aspect.{Aspect}
 use Rattle.ilk_plant.specs.declared.state.Hold.{Hold}
 use Rattle.ilk_plant.specs.declared.state.PointState.{PointState}
@@ -29,7 +29,7 @@ use Rattle.ilk_layout.specs.Values.{occupancy_value}
 use Rattle.ilk_layout.proofs.Changes.{occupancy-kept}
 use Rattle.ilk_layout.proofs.Writes.{image_with, lock-written, to-written}
 use Rattle.ilk_layout.proofs.ConditionValues.{image-is}
-use Rattle.ilk_behave.specs.Settings.{command_as_listed, set_locks, set_commanded}
+use Rattle.ilk_behave.specs.Settings.{command_listed_point, set_locks, set_commanded}
 
 pub by_image : (p : PlantLists) (s t : State) (sets : List Setting) → after_settings (image_with s (occupancy_values p s)) sets ≡ image_with t (occupancy_values p t) → after_settings (image_of p s) sets ≡ image_of p t
 by_image p s t sets h = ap (λ values. after_settings values sets) (image-is p s) ∙ h ∙ sym (image-is p t)
@@ -80,7 +80,7 @@ locks-written p s occupancies (x ∷ xs) hold shape within =
 
 pub commands-written : (p : PlantLists) (s : State) (occupancies : List ℕ) (entries : List Listed) →
     HasShape p s →
-    after_settings (image_with s occupancies) (flat_map (command_as_listed p) entries)
+    after_settings (image_with s occupancies) (flat_map (command_listed_point p) entries)
     ≡ image_with (record s { points = with_commands p s.points entries }) occupancies
 commands-written p s occupancies [] shape =
     ap (λ points. image_with (record s { points = points }) occupancies) (sym (with_commands-none p s.points))
@@ -89,29 +89,29 @@ commands-written p s occupancies (listed ∷ rest) shape =
   where
     by_number :
         ((points : List PointState) → HasShape p (record s { points = points }) →
-        after_settings (image_with (record s { points = points }) occupancies) (flat_map (command_as_listed p) rest)
+        after_settings (image_with (record s { points = points }) occupancies) (flat_map (command_listed_point p) rest)
         ≡ image_with (record s { points = with_commands p points rest }) occupancies) →
         (o : Option ℕ) → point_number p listed.point ≡ o →
-        after_settings (image_with s occupancies) (flat_map (command_as_listed p) (listed ∷ rest))
+        after_settings (image_with s occupancies) (flat_map (command_listed_point p) (listed ∷ rest))
         ≡ image_with (record s { points = with_commands p s.points (listed ∷ rest) }) occupancies
     by_number later None e =
-        let nothing : command_as_listed p listed ≡ [] = rw e refl in
-        ap (λ ss. after_settings (image_with s occupancies) (ss ++ flat_map (command_as_listed p) rest)) nothing
+        let nothing : command_listed_point p listed ≡ [] = rw e refl in
+        ap (λ ss. after_settings (image_with s occupancies) (ss ++ flat_map (command_listed_point p) rest)) nothing
         ∙ later s.points shape ∙ ap (λ points. image_with (record s { points = points }) occupancies) (with_commands-no_point p s.points listed rest e)
     by_number later (Some n) e =
-        let one : command_as_listed p listed ≡ set_commanded p n listed.at ∷ [] = rw e refl in
+        let one : command_listed_point p listed ≡ set_commanded p n listed.at ∷ [] = rw e refl in
         let below : n < length s.points = (let known = point_number-below p listed.point in let less = rw e at known in let count = shape.points in omega (arith, less)) in
         let point = item_at s.points n below in
         let next = set s.points n (record point.0 { to = listed.at }) in
-        ap (λ ss. after_settings (image_with s occupancies) (ss ++ flat_map (command_as_listed p) rest)) one
-        ∙ ap (λ values. after_settings values (flat_map (command_as_listed p) rest)) (to-written p s occupancies shape n point.0 listed.at point.1)
+        ap (λ ss. after_settings (image_with s occupancies) (ss ++ flat_map (command_listed_point p) rest)) one
+        ∙ ap (λ values. after_settings values (flat_map (command_listed_point p) rest)) (to-written p s occupancies shape n point.0 listed.at point.1)
         ∙ later next (with_lists p s next s.boards s.locks shape (length-set s.points n (record point.0 { to = listed.at })) refl refl)
         ∙ ap (λ points. image_with (record s { points = points }) occupancies) (with_commands-first p s.points listed rest n point.0 e point.1)
 
 pub same-occupancies :
     (p : PlantLists) (s : State) (routes : List RouteState) (points : List PointState) (boards : List Aspect)
     (locks : List Hold) →
-    ((x : ℕ) → detected_position p (record s { points = points }) x ≡ detected_position p s x) →
+    ((x : ℕ) → detected_position_in_state p (record s { points = points }) x ≡ detected_position_in_state p s x) →
     occupancy_values p (record s { routes = routes; points = points; boards = boards; locks = locks })
     ≡ occupancy_values p s
 same-occupancies p s routes points boards locks same =
@@ -120,14 +120,14 @@ same-occupancies p s routes points boards locks same =
     t : State
     t = record s { routes = routes; points = points; boards = boards; locks = locks }
 
-pub command_as_listed-lies : (p : PlantLists) (s : State) (entries : List Listed) (x : ℕ) → detected_position p (record s { points = with_commands p s.points entries }) x ≡ detected_position p s x
-command_as_listed-lies p s entries x = by_number (point_number p x) refl
+pub command_listed_point-lies : (p : PlantLists) (s : State) (entries : List Listed) (x : ℕ) → detected_position_in_state p (record s { points = with_commands p s.points entries }) x ≡ detected_position_in_state p s x
+command_listed_point-lies p s entries x = by_number (point_number p x) refl
   where
     kept : (n : ℕ) (o : Option PointState) → (option_map (λ (point : PointState). record point { to = unwrap_or (listed_position p n entries) point.to }) o >>= (λ (point : PointState). Some point.at)) ≡ (o >>= (λ (point : PointState). Some point.at))
     kept n None = refl
     kept n (Some point) = refl
 
-    by_number : (o : Option ℕ) → point_number p x ≡ o → detected_position p (record s { points = with_commands p s.points entries }) x ≡ detected_position p s x
+    by_number : (o : Option ℕ) → point_number p x ≡ o → detected_position_in_state p (record s { points = with_commands p s.points entries }) x ≡ detected_position_in_state p s x
     by_number None e = rw e refl
     by_number (Some n) e =
         let f : ℕ → PointState → PointState = λ k point. record point { to = unwrap_or (listed_position p k entries) point.to } in

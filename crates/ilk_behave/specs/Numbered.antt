@@ -21,5 +21,5 @@ IsEventOfPlant p (Leave x) = x < length p.sections
 IsEventOfPlant p (Cancel r) = r < length p.routes
 
 -- Holds if the route or section of each event is one of the plant.
-abbrev pub AreEventsOfPlant : PlantLists → List Event → Type 0
-AreEventsOfPlant p events = All (IsEventOfPlant p) events
+abbrev pub EachIsEventOfPlant : PlantLists → List Event → Type 0
+EachIsEventOfPlant p events = All (IsEventOfPlant p) events

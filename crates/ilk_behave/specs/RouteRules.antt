@@ -14,7 +14,7 @@ use Rattle.ilk_routes.specs.Boards.{is_protecting_board}
 use Rattle.ilk_routes.specs.Claims.{sections_outside_path, required_points}
 use Rattle.ilk_layout.specs.Conditions.{is_board_aspect, is_listed_point_detected, lock_is, mode_is, train_at, is_released_count, is_seen_count, no_train_at}
 use Rattle.ilk_behave.specs.Guards.{free_and_vacant_at, not_alloc_or_locked}
-use Rattle.ilk_behave.specs.Settings.{set_board_aspect, command_as_listed, set_section_lock, set_locks, set_mode, set_released_count, rule, map_or_no_rules, set_seen_count}
+use Rattle.ilk_behave.specs.Settings.{set_board_aspect, command_listed_point, set_section_lock, set_locks, set_mode, set_released_count, rule, map_or_no_rules, set_seen_count}
 use Rattle.ilk_plant.specs.Network.{last_of}
 
 -- The rule of `mark r`: if route `r` is Free, it becomes Marked.
@@ -31,7 +31,7 @@ rules_of_allocate p r =
     rule (mode_is r Marked ∷ flat_map not_alloc_or_locked route.conflicts ++ flat_map (free_and_vacant_at p) (sections_locked_for route))
     (set_mode r Allocating
     ∷ set_locks p (sections_locked_for route) LockedLock
-    ++ flat_map (command_as_listed p) (required_points route))
+    ++ flat_map (command_listed_point p) (required_points route))
     ∷ [])
 
 -- The numbers of the routes that list board `m` as a protecting board.

@@ -66,8 +66,8 @@ abbrev pub set_locks : PlantLists → List ℕ → Hold → List Setting
 set_locks p sections hold = map (λ x. set_section_lock p x hold) sections
 
 -- The setting that commands a listed point to its listed position.
-abbrev pub command_as_listed : PlantLists → Listed → List Setting
-command_as_listed p listed = map (λ n. set_commanded p n listed.at) (option_to_list (point_number p listed.point))
+abbrev pub command_listed_point : PlantLists → Listed → List Setting
+command_listed_point p listed = map (λ n. set_commanded p n listed.at) (option_to_list (point_number p listed.point))
 
 -- The setting that closes the board of section `x` for direction `d`, if there is one.
 abbrev pub close_board_if_any : PlantLists → ℕ → Dir → List Setting

@@ -35,7 +35,7 @@ pub record EventRuleGivesValues (p : PlantLists) (s : State) (event : Event) (i 
   pub gives : after_rule_number (system_of_plant p) i (image_of p s) ≡ Some values
 
 -- Holds if some rule of `event` has a guard that holds in the image of state `s`.
-pub record SomeEventRuleGivesValues (p : PlantLists) (s : State) (event : Event) : Type 0 where
+pub record SomeEventRuleIsEnabled (p : PlantLists) (s : State) (event : Event) : Type 0 where
   pub number : ℕ
   pub values : List ℕ
   pub gives : EventRuleGivesValues p s event number values
@@ -44,5 +44,5 @@ pub record SomeEventRuleGivesValues (p : PlantLists) (s : State) (event : Event)
 -- An event is enabled if and only if the guard of one of its rules holds. The settings of each such
 -- rule give the image of the next state.
 pub record SystemMatchesEvents (p : PlantLists) : Type 0 where
-  pub enabled : (s : State) (event : Event) → IsWellFormedAndSafe p s → IsSome (next p s event) ↔ SomeEventRuleGivesValues p s event
+  pub enabled : (s : State) (event : Event) → IsWellFormedAndSafe p s → IsSome (next p s event) ↔ SomeEventRuleIsEnabled p s event
   pub after : (s t : State) (event : Event) (i : ℕ) (values : List ℕ) → IsWellFormedAndSafe p s → next p s event ≡ Some t → EventRuleGivesValues p s event i values → values ≡ image_of p t

@@ -3,7 +3,7 @@ use Rattle.std.specs.Prelude.{ℕ, Bool, true, false, not, List, [], ◌∷◌, 
 use Rattle.ilk_ir.specs.System.{PlainRule}
 use Rattle.ilk_ir.specs.Tree.{Tree, any_of, negation, trees_from_list}
 use Rattle.ilk_ir.specs.declared.system.Setting.{Setting}
-use Rattle.ilk_plant.specs.Plant.{PlantLists, section_inward_if_border, next_to}
+use Rattle.ilk_plant.specs.Plant.{PlantLists, inward_direction_if_border, next_to}
 use Rattle.ilk_plant.specs.declared.network.Dir.{Dir}
 use Rattle.ilk_plant.specs.declared.network.Dir.TheVariants.{Up, Down}
 use Rattle.ilk_plant.specs.declared.state.Hold.TheVariants.{Free as FreeLock}
@@ -21,7 +21,7 @@ all_directions = Up ∷ Down ∷ []
 -- Free, it gets a train in the inward direction, with tail and head.
 abbrev pub rules_of_enter : PlantLists → ℕ → List PlainRule
 rules_of_enter p x =
-    map_or_no_rules (section_inward_if_border p x) (λ inward.
+    map_or_no_rules (inward_direction_if_border p x) (λ inward.
     rule (no_train_at p x ∷ lock_is p x FreeLock ∷ []) (set_occupancy p x (Taken inward true true) ∷ []) ∷ [])
 
 -- The conditions of `head x` for a train in direction `d` that moves to `y`. Its head is at `x`,

@@ -102,7 +102,7 @@ pub(crate) fn count_event_rules(plant: &Plant, event: Event) -> u32
         Event::Release(r) => release_rule_count(plant, r),
         Event::Finish(r) => finish_rule_count(plant, r),
         Event::Throw(x) | Event::Settle(x) => point_rule_count(plant, x),
-        Event::Enter(x) => if plant.section_inward_if_border(x).is_some() {
+        Event::Enter(x) => if plant.inward_direction_if_border(x).is_some() {
             1
         } else {
             0

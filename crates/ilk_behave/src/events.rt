@@ -1,7 +1,7 @@
 ghost use Rattle.std.specs.Prelude.{◌≡◌, ◌↔◌, ◌≤◌, ◌+◌, None, Some, IfErr, IfOk, length, slice_get};
 ghost use Rattle.ilk_behave.specs.Behaviour as behaviour;
 ghost use Rattle.ilk_behave.specs.Behaviour.{event_of_rule, events_of_rules, system_of_plant};
-ghost use Rattle.ilk_behave.specs.Numbered.{AreEventsOfPlant};
+ghost use Rattle.ilk_behave.specs.Numbered.{EachIsEventOfPlant};
 
 use crate::counts::count_event_rules;
 use ilk_model::Event;
@@ -40,7 +40,7 @@ pub(crate) fn events_of_section(x: u32) -> [Event; 6]
 // Returns the event of rule number `place` among the rules of `events`. If there are too few,
 // returns `Err` with `place` minus their count.
 fn find_event(plant: &Plant, events: &[Event], place: u32) -> Result<Event, u32>
-    requires { AreEventsOfPlant plant.now events.now }
+    requires { EachIsEventOfPlant plant.now events.now }
     ensures found { IfOk result
         (λ event. slice_get (events_of_rules plant.now events.now) place ≡ Some event) }
     ensures past { IfErr result

@@ -37,4 +37,4 @@ pub use laws::{
     tail_rules_match_event, throw_rules_match_event,
 };
 pub use system::behaviour;
-pub use validity::{MAX_EVENT_RULES, each_event_has_few_rules, system_is_valid};
+pub use validity::{MAX_RULES_PER_EVENT, each_event_has_few_rules, system_is_valid};

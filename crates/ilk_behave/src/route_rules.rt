@@ -92,7 +92,7 @@ fn allocate_sets(alloc: Global, plant: &Plant, r: u32, route: &Route) -> Result<
         (λ sets. sets
         ≡ settings.set_mode r Allocating
         ∷ settings.set_locks plant.now (sections_locked_for route.now) LockedLock
-        ++ flat_map (settings.command_as_listed plant.now) (required_points route.now)) }
+        ++ flat_map (settings.command_listed_point plant.now) (required_points route.now)) }
 {
     let mut sets = Row::new(alloc);
     sets.push(set_mode(plant, r, Mode::Allocating))?;

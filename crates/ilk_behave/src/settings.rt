@@ -151,7 +151,8 @@ pub(crate) fn push_set_point_locks(
 }
 
 fn push_command(sets: &mut Sets, plant: &Plant, listed: &Listed) -> Result<(), AllocError>
-    ensures { OnOk result (sets.new ≡ sets.old ++ settings.command_as_listed plant.now listed.now) }
+    ensures { OnOk result (sets.new ≡ sets.old
+        ++ settings.command_listed_point plant.now listed.now) }
 {
     if let Some(n) = point_number_at(plant, listed.point) {
         sets.push(set_commanded(plant, n, listed.at))?;
@@ -166,7 +167,7 @@ pub(crate) fn push_commands_as_listed(
     points: &Row<Listed>,
 ) -> Result<(), AllocError>
     ensures { OnOk result
-        (sets.new ≡ sets.old ++ flat_map (settings.command_as_listed plant.now) points.now) }
+        (sets.new ≡ sets.old ++ flat_map (settings.command_listed_point plant.now) points.now) }
 {
     for listed in points.as_slice() {
         push_command(sets, plant, listed)?;

@@ -3,7 +3,7 @@ ghost use Rattle.ilk_ir.specs.System.{plain_rule, plain_system, system_valid};
 ghost use Rattle.ilk_behave.specs.Behaviour.{rules_of_event, system_of_plant};
 ghost use Rattle.std.specs.List.{flat_map};
 ghost use Rattle.ilk_behave.specs.Behaviour.{events_of_plant};
-ghost use Rattle.ilk_behave.specs.Numbered.{IsEventOfPlant, AreEventsOfPlant};
+ghost use Rattle.ilk_behave.specs.Numbered.{IsEventOfPlant, EachIsEventOfPlant};
 ghost use Rattle.ilk_behave.specs.Steps.{SystemMatchesEvents};
 
 use crate::events::{events_of_route, events_of_section};
@@ -55,7 +55,7 @@ fn push_rules_of_all(
     plant: &Plant,
     events: &[Event],
 ) -> Result<(), AllocError>
-    requires { AreEventsOfPlant plant.now events.now }
+    requires { EachIsEventOfPlant plant.now events.now }
     ensures { OnOk result
         (map plain_rule rules.new
         ≡ map plain_rule rules.old ++ flat_map (rules_of_event plant.now) events.now) }

@@ -24,7 +24,7 @@ pub(crate) fn push_enter_rules(
         (map plain_rule rules.new
         ≡ map plain_rule rules.old ++ definitions.rules_of_enter plant.now x) }
 {
-    if let Some(inward) = plant.section_inward_if_border(x) {
+    if let Some(inward) = plant.inward_direction_if_border(x) {
         let mut forms = Vec::new(alloc);
         forms.push(no_train_at(plant, x))?;
         forms.push(lock_is(plant, x, Hold::Free))?;

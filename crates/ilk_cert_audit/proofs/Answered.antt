@@ -10,7 +10,7 @@ use Rattle.ilk_lines.specs.Lines.{Bytes}
 use Rattle.ilk_log.specs.declared.step.Step.{Step as LogStep}
 use Rattle.ilk_log.specs.Derived.{is_derived, is_empty_clause}
 use Rattle.ilk_log.specs.StepText.{has_writable_numbers, step_text}
-use Rattle.ilk_cert_audit.specs.Stages.{IsDerivedStepLine, IsStepLineOfKind, IsLineOfSingleStep}
+use Rattle.ilk_cert_audit.specs.Stages.{IsDerivedStepLine, IsOutcomeOfStepLine, IsOnlyStepOfLine}
 use Rattle.ilk_cert_audit.specs.declared.next.Line.TheVariants as line
 use Rattle.ilk_cert_audit.proofs.Numbers.{derived-numbers}
 
@@ -32,7 +32,7 @@ closed-empty s None e = elim (cases_Bool (is_empty_clause s.clause)) [
   | inr f ↦ absurd (let z : Good ≡ Closed = rw f at e in cc)
 ]
 
-abbrev following : (a new : AuditState) (text : Bytes) (t : LogStep) → IsFew a → IsLineOfSingleStep text t → is_taken (step_answer a t) ≡ true → new ≡ after_step a t → IsDerivedStepLine text a new
+abbrev following : (a new : AuditState) (text : Bytes) (t : LogStep) → IsFew a → IsOnlyStepOfLine text t → is_taken (step_answer a t) ≡ true → new ≡ after_step a t → IsDerivedStepLine text a new
 following a new text t few read taken after = record {
   step = t;
   own = read.own;
@@ -41,16 +41,16 @@ following a new text t few read taken after = record {
   after = after ∙ rw taken refl;
 }
 
-pub good_follows : (a new : AuditState) (text : Bytes) (t : LogStep) → IsFew a → IsLineOfSingleStep text t → Good ≡ step_answer a t → new ≡ after_step a t → IsStepLineOfKind text a new line.Follows
+pub good_follows : (a new : AuditState) (text : Bytes) (t : LogStep) → IsFew a → IsOnlyStepOfLine text t → Good ≡ step_answer a t → new ≡ after_step a t → IsOutcomeOfStepLine text a new line.Follows
 good_follows a new text t few read e after = (following a new text t few read (ap is_taken (sym e)) after, good-open t (why_step_not_derived a.vars a.clauses t) (sym e))
 
-pub closed_closes : (a new : AuditState) (text : Bytes) (t : LogStep) → IsFew a → IsLineOfSingleStep text t → Closed ≡ step_answer a t → new ≡ after_step a t → IsStepLineOfKind text a new line.Closes
+pub closed_closes : (a new : AuditState) (text : Bytes) (t : LogStep) → IsFew a → IsOnlyStepOfLine text t → Closed ≡ step_answer a t → new ≡ after_step a t → IsOutcomeOfStepLine text a new line.Closes
 closed_closes a new text t few read e after = (following a new text t few read (ap is_taken (sym e)) after, closed-empty t (why_step_not_derived a.vars a.clauses t) (sym e))
 
-pub bad_is : (a new : AuditState) (text : Bytes) (t : LogStep) (why : Why) → IsFew a → IsLineOfSingleStep text t → Bad why ≡ step_answer a t → IsStepLineOfKind text a new line.Bad
+pub bad_is : (a new : AuditState) (text : Bytes) (t : LogStep) (why : Why) → IsFew a → IsOnlyStepOfLine text t → Bad why ≡ step_answer a t → IsOutcomeOfStepLine text a new line.Bad
 bad_is a new text t why few read e u own d =
     let same = read.only u own (derived-numbers a.vars a.clauses u few.vars few.clauses d) in
     true≢false (sym d ∙ ap (is_derived a.vars a.clauses) (sym same) ∙ sym (taken_derived a t) ∙ ap is_taken (sym e))
 
-pub unread_is : (a new : AuditState) (text : Bytes) → IsFew a → ((u : LogStep) → text ≡ step_text u → has_writable_numbers u ≡ true → ⊥) → IsStepLineOfKind text a new line.Bad
+pub unread_is : (a new : AuditState) (text : Bytes) → IsFew a → ((u : LogStep) → text ≡ step_text u → has_writable_numbers u ≡ true → ⊥) → IsOutcomeOfStepLine text a new line.Bad
 unread_is a new text few none u own d = none u own (derived-numbers a.vars a.clauses u few.vars few.clauses d)

@@ -8,7 +8,7 @@ use Rattle.ilk_unroll.specs.declared.queries.Wanted.{Wanted}
 use Rattle.ilk_unroll.specs.Goal.{PlainGoal}
 use Rattle.ilk_unroll.specs.Query.{query_formula}
 use Rattle.ilk_certificate.specs.Certificate.{certified_queries}
-use Rattle.ilk_cert_audit.specs.Grammar.{CertificateLines, IfElse, QueriesLinesAndEnd, StepLines, LinesAfterHeader}
+use Rattle.ilk_cert_audit.specs.Grammar.{CertificateLines, IfElse, QueriesLinesAndEnd, RefutationLinesAndRest, LinesAfterHeader}
 
 take-none : (m : ℕ) → take m (let xs : List Bytes = [] in xs) ≡ []
 take-none zero = refl
@@ -16,17 +16,17 @@ take-none (suc m) = refl
 
 cut-steps : (may : Bool) (n : ℕ) (clauses : List (List Literal)) (After Cut : List Bytes → Type 0) →
     ((lines : List Bytes) (m : ℕ) → After lines → Cut (take m lines)) → (lines : List Bytes) (m : ℕ) →
-    StepLines may n clauses After lines → StepLines true n clauses Cut (take m lines)
+    RefutationLinesAndRest may n clauses After lines → RefutationLinesAndRest true n clauses Cut (take m lines)
 cut-steps may n clauses After Cut cut [] zero h = refl
 cut-steps may n clauses After Cut cut [] (suc m) h = refl
 cut-steps may n clauses After Cut cut (line ∷ lines) zero h = refl
 cut-steps may n clauses After Cut cut (line ∷ lines) (suc m) h = (h.0, h.1, h.2, by_end (is_empty_clause h.0.clause) (cut-steps may n (clauses ++ h.0.clause ∷ []) After Cut cut lines m) h.3)
   where
     by_end : (b : Bool) →
-        (StepLines may n (clauses ++ h.0.clause ∷ []) After lines →
-        StepLines true n (clauses ++ h.0.clause ∷ []) Cut (take m lines)) →
-        IfElse b (After lines) (StepLines may n (clauses ++ h.0.clause ∷ []) After lines) →
-        IfElse b (Cut (take m lines)) (StepLines true n (clauses ++ h.0.clause ∷ []) Cut (take m lines))
+        (RefutationLinesAndRest may n (clauses ++ h.0.clause ∷ []) After lines →
+        RefutationLinesAndRest true n (clauses ++ h.0.clause ∷ []) Cut (take m lines)) →
+        IfElse b (After lines) (RefutationLinesAndRest may n (clauses ++ h.0.clause ∷ []) After lines) →
+        IfElse b (Cut (take m lines)) (RefutationLinesAndRest true n (clauses ++ h.0.clause ∷ []) Cut (take m lines))
     by_end true more after = cut lines m after
     by_end false more after = more after
 

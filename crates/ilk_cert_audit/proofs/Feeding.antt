@@ -6,7 +6,7 @@ use Rattle.ilk_ir.specs.System.{PlainSystem}
 use Rattle.ilk_lines.specs.Lines.{unterminated_tail, Bytes, lines_of}
 use Rattle.ilk_lines.specs.Written.{LacksByte}
 use Rattle.ilk_unroll.specs.Goal.{PlainGoal}
-use Rattle.ilk_cert_audit.specs.Fed.{HasTakenLines, HasTakenLinesAndRest, IsUnfinishedLineBuffer, StageOrRefusalAfterLines, Keeps}
+use Rattle.ilk_cert_audit.specs.Fed.{HasTakenLines, HasTakenLinesAndRest, IsUnfinishedLineBuffer, IsStageOrRefusalAfter, Keeps}
 use Rattle.ilk_cert_audit.specs.FirstBad.{BeginsCertificate, IsFirstBadOfLines}
 use Rattle.ilk_cert_audit.specs.Stages.{IsNextStage, is_bad_line_prefix, is_refused}
 use Rattle.ilk_cert_audit.specs.declared.lines.LineAudit.{LineAudit}
@@ -151,7 +151,7 @@ refused-fed s g audit unfinished bytes rest refused fed =
       kept = keeps-any audit.stage unfinished (bytes ++ rest) refused;
     }
   where
-    by_stage : (stage : Stage) → is_refused stage ≡ true → StageOrRefusalAfterLines s g stage (lines_of bytes) audit.line → StageOrRefusalAfterLines s g stage (lines_of (bytes ++ rest)) audit.line
+    by_stage : (stage : Stage) → is_refused stage ≡ true → IsStageOrRefusalAfter s g stage (lines_of bytes) audit.line → IsStageOrRefusalAfter s g stage (lines_of (bytes ++ rest)) audit.line
     by_stage Head h r = absurd (cc)
     by_stage Told h r = absurd (cc)
     by_stage (Between k next) h r = absurd (cc)

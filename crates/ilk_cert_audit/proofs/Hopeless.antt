@@ -10,7 +10,7 @@ use Rattle.std.proofs.lemmas.Slice.Eq.{bytes_eq-Decides}
 use Rattle.std.proofs.Math.Seq.{take-append_seam}
 use Rattle.ilk_ir.specs.System.{PlainSystem}
 use Rattle.ilk_lines.specs.Lines.{Bytes}
-use Rattle.ilk_lines.specs.Written.{line_of}
+use Rattle.ilk_lines.specs.Written.{join_words_with_spaces}
 use Rattle.ilk_log.specs.declared.step.Step.{Step}
 use Rattle.ilk_log.specs.StepText.{lit_word, step_text}
 use Rattle.std.specs.Prelude.{map}
@@ -19,7 +19,7 @@ use Rattle.ilk_unroll.specs.declared.queries.Wanted.{Wanted}
 use Rattle.ilk_unroll.specs.declared.queries.Wanted.TheVariants.{Hazard, Breach, Step as StepOf}
 use Rattle.ilk_certificate.specs.CertificateText.{query_header_line}
 use Rattle.ilk_cert_audit.specs.Grammar.{safe_line}
-use Rattle.ilk_cert_audit.specs.Stages.{IsNextStage, begins_no_step, is_bad_line_prefix, is_valid_k, is_valid_stage, query_fits_k}
+use Rattle.ilk_cert_audit.specs.Stages.{IsNextStage, begins_no_step, is_bad_line_prefix, is_valid_k, is_valid_stage, is_valid_query_within_k}
 use Rattle.ilk_cert_audit.specs.declared.stage.Stage.{Stage}
 use Rattle.ilk_cert_audit.specs.declared.stage.Stage.TheVariants.{Head, Told, Between, Within, Ended, Refused}
 
@@ -39,9 +39,9 @@ query-short (Hazard n) valid = let small : n ≤ 16 = grind (arith, nat_tests) i
 query-short (Breach n) valid = let small : n ≤ 16 = grind (arith, nat_tests) in omega (arith, two-digits n small)
 query-short (StepOf n) valid = let small : n ≤ 16 = grind (arith, nat_tests) in omega (arith, two-digits n small)
 
-step-begins : (front more : List Bytes) → (rest : Bytes) × (line_of (codes "step" ∷ (front ++ (codes "0" ∷ more))) ≡ codes "step " ++ rest)
-step-begins [] more = (line_of (codes "0" ∷ more), refl)
-step-begins (word ∷ front) more = (line_of (word ∷ (front ++ (codes "0" ∷ more))), refl)
+step-begins : (front more : List Bytes) → (rest : Bytes) × (join_words_with_spaces (codes "step" ∷ (front ++ (codes "0" ∷ more))) ≡ codes "step " ++ rest)
+step-begins [] more = (join_words_with_spaces (codes "0" ∷ more), refl)
+step-begins (word ∷ front) more = (join_words_with_spaces (word ∷ (front ++ (codes "0" ∷ more))), refl)
 
 no-step : (begun rest : Bytes) (s : Step) → begins_no_step begun ≡ true → begun ++ rest ≡ step_text s → ⊥
 no-step begun rest s h same =
@@ -58,7 +58,7 @@ hopeless-bad s g Head begun rest staged h may k lines f = too-long begun rest (c
 hopeless-bad s g Told begun rest staged h may k lines f = too-long begun rest (safe_line k) h f.0 (safe-short k f.2)
 hopeless-bad s g (Between m None) begun rest staged h may k lines f = too-long begun rest (codes "end") h f.1.0 (omega arith)
 hopeless-bad s g (Between m (Some q)) begun rest staged h may k lines f =
-    let asked = and_parts (is_valid_k m) (query_fits_k m q) staged in
+    let asked = and_parts (is_valid_k m) (is_valid_query_within_k m q) staged in
     let valid = and_parts (nat_le (step_count q) m) (step_count_is_allowed q) asked.1 in
     too-long begun rest (query_header_line q) h f.1.0 (query-short q valid.1)
 hopeless-bad s g (Within m q auditor) begun rest staged h may k lines f = no-step begun rest f.1.0 h f.1.1

@@ -6,7 +6,7 @@ use Rattle.std.proofs.lemmas.Bool.{eqb-true, or_from}
 use Rattle.std.proofs.lemmas.List.{append-nil, drop_more, take-append-drop}
 use Rattle.std.proofs.lemmas.List.Elements.{All-nil, All-cons, All-append}
 use Rattle.std.proofs.lemmas.List.Quantifiers.{position-Some}
-use Rattle.ilk_lines.specs.Lines.{unterminated_tail, Bytes, last_part, lines_of, parts_at, parts_but_last}
+use Rattle.ilk_lines.specs.Lines.{unterminated_tail, Bytes, last_part_or_empty, lines_of, parts_at, parts_but_last}
 use Rattle.ilk_lines.specs.Written.{has_byte, LacksByte, text_of}
 use Rattle.ilk_lines.proofs.Cuts.{parts-none, parts-some, parts_follow}
 use Rattle.ilk_lines.proofs.Lacking.{lacks_append}
@@ -29,7 +29,7 @@ but-last-lack c [] all = All-nil (LacksByte c)
 but-last-lack c (part ∷ []) all = All-nil (LacksByte c)
 but-last-lack c (part ∷ (next ∷ more)) all = All-cons (LacksByte c) part (parts_but_last (next ∷ more)) (all zero part (omega arith)) (but-last-lack c (next ∷ more) (λ k d within. all (suc k) d (omega arith)))
 
-last-lacks : (c : ℕ) (parts : List Bytes) → All (LacksByte c) parts → LacksByte c (last_part parts)
+last-lacks : (c : ℕ) (parts : List Bytes) → All (LacksByte c) parts → LacksByte c (last_part_or_empty parts)
 last-lacks c [] all = refl
 last-lacks c (part ∷ []) all = all zero part (omega arith)
 last-lacks c (part ∷ (next ∷ more)) all = last-lacks c (next ∷ more) (λ k d within. all (suc k) d (omega arith))

@@ -7,7 +7,7 @@ use Rattle.std.proofs.lemmas.Bool.Decides.{nat_tests}
 use Rattle.std.proofs.lemmas.List.Elements.{All-nil, All-cons, All-append}
 use Rattle.ilk_cnf.specs.Literal.{Literal}
 use Rattle.ilk_lines.specs.Lines.{Bytes}
-use Rattle.ilk_lines.specs.Written.{has_byte, LacksByte, line_of, join_word_and_rest}
+use Rattle.ilk_lines.specs.Written.{has_byte, LacksByte, join_words_with_spaces, join_word_and_rest}
 use Rattle.ilk_lines.proofs.Lacking.{lacks_spaced}
 use Rattle.ilk_log.specs.declared.step.Step.{Step as LogStep}
 use Rattle.ilk_log.specs.StepText.{lit_word, step_text, step_words}
@@ -36,10 +36,10 @@ pub decimal-plain : (n : ℕ) → LacksByte 10 (decimal n)
 unfolding digits
 decimal-plain n = digits-plain 64 n [] refl
 
-line-plain : (words : List Bytes) → All (LacksByte 10) words → LacksByte 10 (line_of words)
+line-plain : (words : List Bytes) → All (LacksByte 10) words → LacksByte 10 (join_words_with_spaces words)
 line-plain [] h = refl
 line-plain (word ∷ []) h = h zero word (omega arith)
-line-plain (word ∷ (next ∷ more)) h = lacks_spaced word (line_of (next ∷ more)) (h zero word (omega arith)) (line-plain (next ∷ more) (λ k d within. h (suc k) d (omega arith)))
+line-plain (word ∷ (next ∷ more)) h = lacks_spaced word (join_words_with_spaces (next ∷ more)) (h zero word (omega arith)) (line-plain (next ∷ more) (λ k d within. h (suc k) d (omega arith)))
 
 pub step-plain : (s : LogStep) → LacksByte 10 (step_text s)
 step-plain s = line-plain (step_words s)

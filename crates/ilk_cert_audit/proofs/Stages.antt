@@ -16,9 +16,9 @@ use Rattle.ilk_unroll.specs.declared.queries.Wanted.{Wanted}
 use Rattle.ilk_unroll.specs.declared.queries.Wanted.TheVariants as wanted
 use Rattle.ilk_unroll.specs.Goal.{PlainGoal}
 use Rattle.ilk_audit.specs.Audited.{AuditState}
-use Rattle.ilk_certificate.specs.Certificate.{hazard_and_breach_queries, certified_queries}
-use Rattle.ilk_cert_audit.specs.Grammar.{IfElse, QueriesLinesAndEnd, safe_line, StepLines, LinesAfterHeader}
-use Rattle.ilk_cert_audit.specs.Stages.{IsStepLineOfKind, is_valid_k, IsNextStage, certified_queries_after, certified_queries_from_next}
+use Rattle.ilk_certificate.specs.Certificate.{hazard_and_breach_query_pair, certified_queries}
+use Rattle.ilk_cert_audit.specs.Grammar.{IfElse, QueriesLinesAndEnd, safe_line, RefutationLinesAndRest, LinesAfterHeader}
+use Rattle.ilk_cert_audit.specs.Stages.{IsOutcomeOfStepLine, is_valid_k, IsNextStage, certified_queries_after_query, certified_queries_from_next}
 use Rattle.ilk_cert_audit.specs.declared.next.Line.TheVariants.{Bad, Closes, Follows}
 use Rattle.ilk_cert_audit.specs.declared.stage.Stage.TheVariants.{Told, Between, Within, Ended}
 
@@ -34,8 +34,8 @@ pub certified-first : (k : ℕ) → certified_queries k ≡ certified_queries_fr
 certified-first k =
     let more : range_with_len 0 (k + 1) ≡ 0 ∷ range_with_len 1 k = ap (range_with_len 0) (add-one k) in
     let rest : k - 0 ≡ k = omega arith in
-    ap (λ (ns : List ℕ). flat_map hazard_and_breach_queries ns ++ wanted.Step k ∷ []) more
-    ∙ ap (λ n. wanted.Hazard 0 ∷ (wanted.Breach 0 ∷ (flat_map hazard_and_breach_queries (range_with_len 1 n) ++ wanted.Step k ∷ []))) (sym rest)
+    ap (λ (ns : List ℕ). flat_map hazard_and_breach_query_pair ns ++ wanted.Step k ∷ []) more
+    ∙ ap (λ n. wanted.Hazard 0 ∷ (wanted.Breach 0 ∷ (flat_map hazard_and_breach_query_pair (range_with_len 1 n) ++ wanted.Step k ∷ []))) (sym rest)
 
 pub next-told : (s : PlainSystem) (g : PlainGoal) (line : Bytes) (m : ℕ) → line ≡ safe_line m → is_valid_k m ≡ true → IsNextStage s g Told line (Some (Between m (Some (wanted.Hazard 0))))
 next-told s g line m e num may k lines =
@@ -51,17 +51,17 @@ next-told s g line m e num may k lines =
 pub next-end : (s : PlainSystem) (g : PlainGoal) (m : ℕ) (line : Bytes) → line ≡ codes "end" → IsNextStage s g (Between m None) line (Some (Ended m))
 next-end s g m line e may k lines = ((λ h. (h.0, h.1.1)), (λ h. (h.0, (e, h.1))))
 
-pub bad-step : (s : PlainSystem) (g : PlainGoal) (m : ℕ) (q : Wanted) (a new : AuditState) (line : Bytes) → IsStepLineOfKind line a new Bad → IsNextStage s g (Within m q a) line None
+pub bad-step : (s : PlainSystem) (g : PlainGoal) (m : ℕ) (q : Wanted) (a new : AuditState) (line : Bytes) → IsOutcomeOfStepLine line a new Bad → IsNextStage s g (Within m q a) line None
 bad-step s g m q a new line bad may k lines h = bad h.1.0 h.1.1 h.1.2
 
-pub next-good : (s : PlainSystem) (g : PlainGoal) (m : ℕ) (q : Wanted) (a new : AuditState) (line : Bytes) → IsStepLineOfKind line a new Follows → IsNextStage s g (Within m q a) line (Some (Within m q new))
+pub next-good : (s : PlainSystem) (g : PlainGoal) (m : ℕ) (q : Wanted) (a new : AuditState) (line : Bytes) → IsOutcomeOfStepLine line a new Follows → IsNextStage s g (Within m q a) line (Some (Within m q new))
 next-good s g m q a new line taken may k lines =
     let f = taken.0 in
     let t = f.step in
-    let After : List Bytes → Type 0 = QueriesLinesAndEnd may s g (certified_queries_after m q) in
-    let Rest : LogStep → Type 0 = λ u. IfElse (is_empty_clause u.clause) (After lines) (StepLines may a.vars (a.clauses ++ u.clause ∷ []) After lines) in
-    let B : Bool → Type 0 = λ b. IfElse b (After lines) (StepLines may a.vars (a.clauses ++ t.clause ∷ []) After lines) in
-    let A : AuditState → Type 0 = λ x. StepLines may x.vars x.clauses After lines in (
+    let After : List Bytes → Type 0 = QueriesLinesAndEnd may s g (certified_queries_after_query m q) in
+    let Rest : LogStep → Type 0 = λ u. IfElse (is_empty_clause u.clause) (After lines) (RefutationLinesAndRest may a.vars (a.clauses ++ u.clause ∷ []) After lines) in
+    let B : Bool → Type 0 = λ b. IfElse b (After lines) (RefutationLinesAndRest may a.vars (a.clauses ++ t.clause ∷ []) After lines) in
+    let A : AuditState → Type 0 = λ x. RefutationLinesAndRest may x.vars x.clauses After lines in (
       λ h. (let same = f.only h.1.0 h.1.1 h.1.2 in (h.0, subst A (sym f.after) (subst B taken.1 (subst Rest (sym same) h.1.3)))),
       λ h. (h.0, (t, f.own, f.derived, subst B (sym taken.1) (subst A f.after h.1))),
     )
@@ -69,20 +69,20 @@ next-good s g m q a new line taken may k lines =
 pub next-closed :
     (s : PlainSystem) (g : PlainGoal) (m : ℕ) (q : Wanted) (next : Option Wanted) (a new : AuditState)
     (line : Bytes) →
-    IsStepLineOfKind line a new Closes → certified_queries_from_next m next ≡ certified_queries_after m q →
+    IsOutcomeOfStepLine line a new Closes → certified_queries_from_next m next ≡ certified_queries_after_query m q →
     IsNextStage s g (Within m q a) line (Some (Between m next))
 next-closed s g m q next a new line taken left may k lines =
     let f = taken.0 in
     let t = f.step in
-    let After : List Bytes → Type 0 = QueriesLinesAndEnd may s g (certified_queries_after m q) in
-    let Rest : LogStep → Type 0 = λ u. IfElse (is_empty_clause u.clause) (After lines) (StepLines may a.vars (a.clauses ++ u.clause ∷ []) After lines) in
-    let B : Bool → Type 0 = λ b. IfElse b (After lines) (StepLines may a.vars (a.clauses ++ t.clause ∷ []) After lines) in
+    let After : List Bytes → Type 0 = QueriesLinesAndEnd may s g (certified_queries_after_query m q) in
+    let Rest : LogStep → Type 0 = λ u. IfElse (is_empty_clause u.clause) (After lines) (RefutationLinesAndRest may a.vars (a.clauses ++ u.clause ∷ []) After lines) in
+    let B : Bool → Type 0 = λ b. IfElse b (After lines) (RefutationLinesAndRest may a.vars (a.clauses ++ t.clause ∷ []) After lines) in
     let Q : List Wanted → Type 0 = λ qs. QueriesLinesAndEnd may s g qs lines in (
       λ h. (let same = f.only h.1.0 h.1.1 h.1.2 in (h.0, subst Q (sym left) (subst B taken.1 (subst Rest (sym same) h.1.3)))),
       λ h. (h.0, (t, f.own, f.derived, subst B (sym taken.1) (subst Q left h.1))),
     )
 
-pub after-breach : (k n : ℕ) → n < k → certified_queries_from_next k (Some (wanted.Hazard (n + 1))) ≡ certified_queries_after k (wanted.Breach n)
+pub after-breach : (k n : ℕ) → n < k → certified_queries_from_next k (Some (wanted.Hazard (n + 1))) ≡ certified_queries_after_query k (wanted.Breach n)
 after-breach k n lt =
     let one : k - n ≡ suc (k - (n + 1)) = omega (arith, lt) in
-    ap (λ i. flat_map hazard_and_breach_queries (range_with_len (n + 1) i) ++ wanted.Step k ∷ []) (sym one)
+    ap (λ i. flat_map hazard_and_breach_query_pair (range_with_len (n + 1) i) ++ wanted.Step k ∷ []) (sym one)

@@ -6,9 +6,9 @@ use Rattle.ilk_base.specs.Option.{then_some}
 use Rattle.ilk_lines.specs.Lines.{Bytes}
 use Rattle.ilk_log.specs.declared.step.Step.{Step}
 use Rattle.ilk_log.specs.StepText.{has_writable_numbers, step_text}
-use Rattle.ilk_cert_audit.specs.Stages.{IsLineOfSingleStep}
+use Rattle.ilk_cert_audit.specs.Stages.{IsOnlyStepOfLine}
 
-pub read-is : (b : Bool) (t : Step) (line : Bytes) → b ≡ true → ((s : Step) → (then_some b t ≡ Some s) ↔ ((line ≡ step_text s) × (has_writable_numbers s ≡ true))) → IsLineOfSingleStep line t
+pub read-is : (b : Bool) (t : Step) (line : Bytes) → b ≡ true → ((s : Step) → (then_some b t ≡ Some s) ↔ ((line ≡ step_text s) × (has_writable_numbers s ≡ true))) → IsOnlyStepOfLine line t
 read-is true t line e h = record { own = ((h t).0 refl).0; only = λ u own numbers. same_Some t u ((h u).1 (own, numbers)) }
 read-is false t line e h = absurd (cc)
 

@@ -15,10 +15,10 @@ use Rattle.ilk_log.specs.StepText.{step_text}
 use Rattle.ilk_unroll.specs.declared.queries.Wanted.{Wanted}
 use Rattle.ilk_unroll.specs.Goal.{PlainGoal}
 use Rattle.ilk_unroll.specs.Query.{query_formula}
-use Rattle.ilk_certificate.specs.Certificate.{certified_queries, IsCertificateText, IsRefuted}
+use Rattle.ilk_certificate.specs.Certificate.{certified_queries, IsValidCertificate, IsRefuted}
 use Rattle.ilk_certificate.specs.CertificateText.{query_and_log_lines, certificate_lines, query_header_line}
 use Rattle.ilk_certificate.specs.declared.asked.Asked.{Asked}
-use Rattle.ilk_cert_audit.specs.Grammar.{CertificateLines, IfElse, QueriesLinesAndEnd, safe_line, StepLines}
+use Rattle.ilk_cert_audit.specs.Grammar.{CertificateLines, IfElse, QueriesLinesAndEnd, safe_line, RefutationLinesAndRest}
 use Rattle.ilk_cert_audit.proofs.Plain.{certificate-plain}
 
 abbrev pub refuted_by : PlainSystem → PlainGoal → Asked → Type 0
@@ -32,16 +32,16 @@ steps-lines :
     (n : ℕ) (clauses : List (List Literal)) (After : List Bytes → Type 0) (log : List LogStep)
     (rest : List Bytes) →
     each_derived n clauses log ≡ true → only_last_clause_is_empty log ≡ true → After rest →
-    StepLines false n clauses After (map step_text log ++ rest)
+    RefutationLinesAndRest false n clauses After (map step_text log ++ rest)
 steps-lines n clauses After [] rest d e after = absurd (cc)
 steps-lines n clauses After (s ∷ []) rest d e after =
-    let P : Bool → Type 0 = λ b. IfElse b (After rest) (StepLines false n (clauses ++ s.clause ∷ []) After rest) in
+    let P : Bool → Type 0 = λ b. IfElse b (After rest) (RefutationLinesAndRest false n (clauses ++ s.clause ∷ []) After rest) in
     (s, refl, (and_parts (is_derived n clauses s) true d).0, subst P (sym e) after)
 steps-lines n clauses After (s ∷ (t ∷ log)) rest d e after =
     let p = and_parts (is_derived n clauses s) (each_derived n (clauses ++ s.clause ∷ []) (t ∷ log)) d in
     let q = and_parts (not (is_empty_clause s.clause)) (only_last_clause_is_empty (t ∷ log)) e in
     let more = steps-lines n (clauses ++ s.clause ∷ []) After (t ∷ log) rest p.1 q.1 after in
-    let P : Bool → Type 0 = λ b. IfElse b (After (map step_text (t ∷ log) ++ rest)) (StepLines false n (clauses ++ s.clause ∷ []) After (map step_text (t ∷ log) ++ rest)) in
+    let P : Bool → Type 0 = λ b. IfElse b (After (map step_text (t ∷ log) ++ rest)) (RefutationLinesAndRest false n (clauses ++ s.clause ∷ []) After (map step_text (t ∷ log) ++ rest)) in
     (s, refl, p.0, subst P (sym (not-true (is_empty_clause s.clause) q.0)) more)
 
 record Refuting (n : ℕ) (clauses : List (List Literal)) (After : List Bytes → Type 0) (lines : List Bytes) : Type 0 where
@@ -52,13 +52,13 @@ record Refuting (n : ℕ) (clauses : List (List Literal)) (After : List Bytes �
   same : lines ≡ map step_text log ++ rest
   after : After rest
 
-steps-back : (n : ℕ) (clauses : List (List Literal)) (After : List Bytes → Type 0) (lines : List Bytes) → StepLines false n clauses After lines → Refuting n clauses After lines
+steps-back : (n : ℕ) (clauses : List (List Literal)) (After : List Bytes → Type 0) (lines : List Bytes) → RefutationLinesAndRest false n clauses After lines → Refuting n clauses After lines
 steps-back n clauses After [] h = absurd (cc)
 steps-back n clauses After (line ∷ lines) h = by_end (is_empty_clause h.0.clause) refl h.3 (λ more. steps-back n (clauses ++ h.0.clause ∷ []) After lines more)
   where
     by_end : (b : Bool) → is_empty_clause h.0.clause ≡ b →
-        IfElse b (After lines) (StepLines false n (clauses ++ h.0.clause ∷ []) After lines) →
-        (StepLines false n (clauses ++ h.0.clause ∷ []) After lines →
+        IfElse b (After lines) (RefutationLinesAndRest false n (clauses ++ h.0.clause ∷ []) After lines) →
+        (RefutationLinesAndRest false n (clauses ++ h.0.clause ∷ []) After lines →
         Refuting n (clauses ++ h.0.clause ∷ []) After lines) →
         Refuting n clauses After (line ∷ lines)
     by_end true e after back = record {
@@ -87,7 +87,7 @@ queries-lines s g (a ∷ asked) refuted =
     let After : List Bytes → Type 0 = QueriesLinesAndEnd false s g (map (λ (b : Asked). b.query) asked) in
     let p = and_parts (each_derived f.vars f.clauses a.log) (only_last_clause_is_empty a.log) (refuted zero a (omega arith)) in
     let more = queries-lines s g asked (λ k d within. refuted (suc k) d (omega arith)) in
-    let P : List Bytes → Type 0 = λ xs. StepLines false f.vars f.clauses After xs in
+    let P : List Bytes → Type 0 = λ xs. RefutationLinesAndRest false f.vars f.clauses After xs in
     (refl, subst P (sym (append_assoc (map step_text a.log) (flat_map query_and_log_lines asked) (codes "end" ∷ []))) (steps-lines f.vars f.clauses After a.log rest p.0 p.1 more))
 
 record Asking (s : PlainSystem) (g : PlainGoal) (qs : List Wanted) (lines : List Bytes) : Type 0 where
@@ -118,7 +118,7 @@ queries-back s g (q ∷ qs) (line ∷ lines) h =
           ∙ ap (λ (xs : List Bytes). query_header_line q ∷ xs) (r.same ∙ ap (λ (xs : List Bytes). map step_text r.log ++ xs) m.same ∙ sym (append_assoc (map step_text r.log) (flat_map query_and_log_lines m.asked) (codes "end" ∷ [])));
     }
 
-pub certificate_lines-whole : (s : PlainSystem) (g : PlainGoal) (k : ℕ) (bytes : Bytes) → IsCertificateText s g k bytes → CertificateLines false s g k (lines_of bytes) × (unterminated_tail bytes ≡ [])
+pub certificate_lines-whole : (s : PlainSystem) (g : PlainGoal) (k : ℕ) (bytes : Bytes) → IsValidCertificate s g k bytes → CertificateLines false s g k (lines_of bytes) × (unterminated_tail bytes ≡ [])
 certificate_lines-whole s g k bytes c =
     let back = lines_back (certificate_lines (safe_line k) c.asked) (certificate-plain k c.asked) in
     let lines = ap lines_of c.text ∙ back.0 in
@@ -126,10 +126,10 @@ certificate_lines-whole s g k bytes c =
     let Q : List Wanted → Type 0 = λ qs. QueriesLinesAndEnd false s g qs (flat_map query_and_log_lines c.asked ++ codes "end" ∷ []) in
     (subst P (sym lines) (refl, (refl, c.some, c.most, subst Q c.queries (queries-lines s g c.asked c.refuted))), ap unterminated_tail c.text ∙ back.1)
 
-pub whole-certificate : (s : PlainSystem) (g : PlainGoal) (k : ℕ) (bytes : Bytes) → CertificateLines false s g k (lines_of bytes) → unterminated_tail bytes ≡ [] → IsCertificateText s g k bytes
+pub whole-certificate : (s : PlainSystem) (g : PlainGoal) (k : ℕ) (bytes : Bytes) → CertificateLines false s g k (lines_of bytes) → unterminated_tail bytes ≡ [] → IsValidCertificate s g k bytes
 whole-certificate s g k bytes h ends = go (lines_of bytes) refl h
   where
-    go : (lines : List Bytes) → lines_of bytes ≡ lines → CertificateLines false s g k lines → IsCertificateText s g k bytes
+    go : (lines : List Bytes) → lines_of bytes ≡ lines → CertificateLines false s g k lines → IsValidCertificate s g k bytes
     go [] e h = absurd (cc)
     go (head ∷ []) e h = absurd (let z = h.1 in cc)
     go (head ∷ (told ∷ lines)) e h =

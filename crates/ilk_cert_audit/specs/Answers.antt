@@ -3,7 +3,7 @@ use Rattle.std.specs.Prelude.{ℕ, ◌≡◌, ◌^◌, ◌-◌, List, min}
 use Rattle.ilk_ir.specs.System.{PlainSystem}
 use Rattle.ilk_lines.specs.Lines.{Bytes, lines_of}
 use Rattle.ilk_unroll.specs.Goal.{PlainGoal}
-use Rattle.ilk_certificate.specs.Certificate.{IsCertificateText}
+use Rattle.ilk_certificate.specs.Certificate.{IsValidCertificate}
 use Rattle.ilk_cert_audit.specs.FirstBad.{BeginsCertificate, IsFirstBadOfLines, FirstBadOrMissingLine}
 use Rattle.ilk_cert_audit.specs.declared.answers.Fed.{Fed}
 use Rattle.ilk_cert_audit.specs.declared.answers.Fed.TheVariants.{More, Bad}
@@ -27,5 +27,5 @@ IsAnswerAfterBytes s g bytes fed = ReportsFirstBad s g (lines_of bytes) fed
 -- Holds if the answer at the end of a text is the number that it is a certificate for, or its first
 -- bad line.
 abbrev pub IsFinalAnswer : PlainSystem → PlainGoal → Bytes → Ended → Type 0
-IsFinalAnswer s g bytes (Accepted k) = IsCertificateText s g k bytes
+IsFinalAnswer s g bytes (Accepted k) = IsValidCertificate s g k bytes
 IsFinalAnswer s g bytes (Rejected n) = (m : ℕ) × FirstBadOrMissingLine s g bytes m × (n ≡ saturated_to_64_bits m)

@@ -15,16 +15,16 @@ use Rattle.ilk_cert_audit.specs.declared.stage.Stage.TheVariants.{Refused}
 
 -- Holds if the lines begin a certificate, the stage tells exactly which lines may follow, and
 -- `number` is that of the next line.
-pub record StageAndNumberAfterLines (s : PlainSystem) (g : PlainGoal) (stage : Stage) (lines : List Bytes) (number : ℕ) : Type 0 where
+pub record IsStageAndNumberAfter (s : PlainSystem) (g : PlainGoal) (stage : Stage) (lines : List Bytes) (number : ℕ) : Type 0 where
   pub begins : BeginsCertificate s g lines
   pub follows : (may_stop : Bool) (k : ℕ) (more : List Bytes) → CertificateLines may_stop s g k (lines ++ more) ↔ FollowingLines may_stop s g k stage more
   pub number_is : number ≡ saturated_to_64_bits (length lines + 1)
 
 -- Holds if the stage is right after these lines, and `number` is that of the next line. A `Refused`
 -- stage has to name the first bad line.
-abbrev pub StageOrRefusalAfterLines : PlainSystem → PlainGoal → Stage → List Bytes → ℕ → Type 0
-StageOrRefusalAfterLines s g (Refused n) lines number = (m : ℕ) × IsFirstBadOfLines s g lines m × (n ≡ saturated_to_64_bits m)
-StageOrRefusalAfterLines s g stage lines number = StageAndNumberAfterLines s g stage lines number
+abbrev pub IsStageOrRefusalAfter : PlainSystem → PlainGoal → Stage → List Bytes → ℕ → Type 0
+IsStageOrRefusalAfter s g (Refused n) lines number = (m : ℕ) × IsFirstBadOfLines s g lines m × (n ≡ saturated_to_64_bits m)
+IsStageOrRefusalAfter s g stage lines number = IsStageAndNumberAfter s g stage lines number
 
 -- Holds if `kept` is the unfinished line, or its first bytes if they show that it is bad.
 pub record IsUnfinishedLineBuffer (stage : Stage) (kept line : Bytes) : Type 0 where
@@ -42,7 +42,7 @@ Keeps stage unfinished bytes = IsUnfinishedLineBuffer stage unfinished (untermin
 pub record HasTakenLines (s : PlainSystem) (g : PlainGoal) (audit : LineAudit) (lines : List Bytes) : Type 0 where
   pub system : plain_system audit.system ≡ s
   pub goal : plain_goal audit.goal ≡ g
-  pub reached : StageOrRefusalAfterLines s g audit.stage lines audit.line
+  pub reached : IsStageOrRefusalAfter s g audit.stage lines audit.line
 
 -- Holds if the check has taken the lines of these bytes, and keeps what follows the last line feed.
 pub record HasTakenLinesAndRest (s : PlainSystem) (g : PlainGoal) (audit : LineAudit) (unfinished bytes : Bytes) : Type 0 where

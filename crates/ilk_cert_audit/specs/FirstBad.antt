@@ -2,7 +2,7 @@ use Rattle.std.specs.Prelude.{ℕ, true, ◌≤◌, ◌+◌, ◌-◌, List, leng
 use Rattle.ilk_ir.specs.System.{PlainSystem}
 use Rattle.ilk_lines.specs.Lines.{Bytes, lines_of}
 use Rattle.ilk_unroll.specs.Goal.{PlainGoal}
-use Rattle.ilk_certificate.specs.Certificate.{IsCertificateText}
+use Rattle.ilk_certificate.specs.Certificate.{IsValidCertificate}
 use Rattle.ilk_cert_audit.specs.Grammar.{CertificateLines}
 
 -- Holds if the lines are the first lines, or all, of some text that the grammar of certificates
@@ -21,7 +21,7 @@ pub record IsFirstBadOfLines (s : PlainSystem) (g : PlainGoal) (lines : List Byt
 -- line: some certificate begins with the lines before line `n`, but none begins with the lines up
 -- to line `n`. A last line without line feed counts as missing.
 pub record FirstBadOrMissingLine (s : PlainSystem) (g : PlainGoal) (text : Bytes) (n : ℕ) : Type 0 where
-  pub none : (k : ℕ) → ¬ (IsCertificateText s g k text)
+  pub none : (k : ℕ) → ¬ (IsValidCertificate s g k text)
   pub from_one : 1 ≤ n
   pub within : n ≤ length (lines_of text) + 1
   pub before : BeginsCertificate s g (take (n - 1) (lines_of text))

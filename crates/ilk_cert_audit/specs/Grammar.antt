@@ -5,7 +5,7 @@ use Rattle.std.specs.Fmt.{decimal}
 use Rattle.ilk_cnf.specs.Literal.{Literal}
 use Rattle.ilk_ir.specs.System.{PlainSystem}
 use Rattle.ilk_lines.specs.Lines.{Bytes}
-use Rattle.ilk_lines.specs.Written.{line_of}
+use Rattle.ilk_lines.specs.Written.{join_words_with_spaces}
 use Rattle.ilk_log.specs.declared.step.Step.{Step as LogStep}
 use Rattle.ilk_log.specs.Derived.{is_derived, is_empty_clause}
 use Rattle.ilk_log.specs.StepText.{step_text}
@@ -23,10 +23,10 @@ IfElse false A B = B
 -- Holds if the lines are those of derivable steps over the clauses, up to the first step with the
 -- empty clause, and `After` holds for the rest. A step may use the clauses, over the variables 1 to
 -- `n`, and the steps before it.
-abbrev pub StepLines : Bool → ℕ → List (List Literal) → (List Bytes → Type 0) → List Bytes → Type 0
-StepLines may_stop n clauses After [] = IsTrue may_stop
-StepLines may_stop n clauses After (line ∷ lines) =
-    (s : LogStep) × (line ≡ step_text s) × IsTrue (is_derived n clauses s) × IfElse (is_empty_clause s.clause) (After lines) (StepLines may_stop n (clauses ++ s.clause ∷ []) After lines)
+abbrev pub RefutationLinesAndRest : Bool → ℕ → List (List Literal) → (List Bytes → Type 0) → List Bytes → Type 0
+RefutationLinesAndRest may_stop n clauses After [] = IsTrue may_stop
+RefutationLinesAndRest may_stop n clauses After (line ∷ lines) =
+    (s : LogStep) × (line ≡ step_text s) × IsTrue (is_derived n clauses s) × IfElse (is_empty_clause s.clause) (After lines) (RefutationLinesAndRest may_stop n (clauses ++ s.clause ∷ []) After lines)
 
 -- Holds if the lines are those of these queries, each with the steps that refute its formula, and
 -- then the line `end`.
@@ -35,11 +35,11 @@ QueriesLinesAndEnd may_stop s g [] [] = IsTrue may_stop
 QueriesLinesAndEnd may_stop s g [] (line ∷ lines) = (line ≡ codes "end") × (lines ≡ [])
 QueriesLinesAndEnd may_stop s g (q ∷ qs) [] = IsTrue may_stop
 QueriesLinesAndEnd may_stop s g (q ∷ qs) (line ∷ lines) =
-    (line ≡ query_header_line q) × StepLines may_stop (query_formula s g q).vars (query_formula s g q).clauses (QueriesLinesAndEnd may_stop s g qs) lines
+    (line ≡ query_header_line q) × RefutationLinesAndRest may_stop (query_formula s g q).vars (query_formula s g q).clauses (QueriesLinesAndEnd may_stop s g qs) lines
 
 -- The line that states that a system is safe at `k`.
 abbrev pub safe_line : ℕ → Bytes
-safe_line k = line_of (codes "safe" ∷ decimal k ∷ [])
+safe_line k = join_words_with_spaces (codes "safe" ∷ decimal k ∷ [])
 
 -- Holds if the lines are those of a certificate for `k` after its header: `safe k`, `k` from 1 to
 -- 16, and its queries.

@@ -10,8 +10,8 @@ use Rattle.ilk_audit.specs.Audited.{AuditState, with_step}
 use Rattle.ilk_log.specs.declared.step.Step.{Step as LogStep}
 use Rattle.ilk_log.specs.Derived.{is_derived, is_empty_clause}
 use Rattle.ilk_log.specs.StepText.{has_writable_numbers, step_text}
-use Rattle.ilk_certificate.specs.Certificate.{hazard_and_breach_queries}
-use Rattle.ilk_cert_audit.specs.Grammar.{CertificateLines, QueriesLinesAndEnd, StepLines, LinesAfterHeader}
+use Rattle.ilk_certificate.specs.Certificate.{hazard_and_breach_query_pair}
+use Rattle.ilk_cert_audit.specs.Grammar.{CertificateLines, QueriesLinesAndEnd, RefutationLinesAndRest, LinesAfterHeader}
 use Rattle.ilk_cert_audit.specs.declared.next.Line.{Line}
 use Rattle.ilk_cert_audit.specs.declared.next.Line.TheVariants.{Follows, Closes, Bad}
 use Rattle.ilk_cert_audit.specs.declared.stage.Stage.{Stage}
@@ -19,19 +19,19 @@ use Rattle.ilk_cert_audit.specs.declared.stage.TheConstants.{MAX_NON_STEP_LINE}
 use Rattle.ilk_cert_audit.specs.declared.stage.Stage.TheVariants.{Head, Told, Between, Within, Ended, Refused}
 
 -- The queries that come after this one in a certificate for `k`.
-abbrev pub certified_queries_after : ℕ → Wanted → List Wanted
-certified_queries_after k (wanted.Hazard n) = wanted.Breach n ∷ (flat_map hazard_and_breach_queries (range_with_len (n + 1) (k - n)) ++ wanted.Step k ∷ [])
-certified_queries_after k (wanted.Breach n) = flat_map hazard_and_breach_queries (range_with_len (n + 1) (k - n)) ++ wanted.Step k ∷ []
-certified_queries_after k (wanted.Step n) = []
+abbrev pub certified_queries_after_query : ℕ → Wanted → List Wanted
+certified_queries_after_query k (wanted.Hazard n) = wanted.Breach n ∷ (flat_map hazard_and_breach_query_pair (range_with_len (n + 1) (k - n)) ++ wanted.Step k ∷ [])
+certified_queries_after_query k (wanted.Breach n) = flat_map hazard_and_breach_query_pair (range_with_len (n + 1) (k - n)) ++ wanted.Step k ∷ []
+certified_queries_after_query k (wanted.Step n) = []
 
 -- This query and those that come after it in a certificate for `k`; no query for `None`.
 abbrev pub certified_queries_from_next : ℕ → Option Wanted → List Wanted
 certified_queries_from_next k None = []
-certified_queries_from_next k (Some q) = q ∷ certified_queries_after k q
+certified_queries_from_next k (Some q) = q ∷ certified_queries_after_query k q
 
 -- Returns whether the query is valid and has at most `k` steps.
-abbrev pub query_fits_k : ℕ → Wanted → Bool
-query_fits_k k q = nat_le (step_count q) k && step_count_is_allowed q
+abbrev pub is_valid_query_within_k : ℕ → Wanted → Bool
+is_valid_query_within_k k q = nat_le (step_count q) k && step_count_is_allowed q
 
 -- Holds if the lines may follow at a stage of a certificate for `k`, up to its last line. If
 -- `may_stop` is true, they may stop earlier.
@@ -40,7 +40,7 @@ FollowingLines may_stop s g k Head lines = CertificateLines may_stop s g k lines
 FollowingLines may_stop s g k Told lines = LinesAfterHeader may_stop s g k lines
 FollowingLines may_stop s g k (Between m next) lines = (k ≡ m) × QueriesLinesAndEnd may_stop s g (certified_queries_from_next m next) lines
 FollowingLines may_stop s g k (Within m q auditor) lines =
-    (k ≡ m) × StepLines may_stop auditor.vars auditor.clauses (QueriesLinesAndEnd may_stop s g (certified_queries_after m q)) lines
+    (k ≡ m) × RefutationLinesAndRest may_stop auditor.vars auditor.clauses (QueriesLinesAndEnd may_stop s g (certified_queries_after_query m q)) lines
 FollowingLines may_stop s g k (Ended m) lines = (k ≡ m) × (lines ≡ [])
 FollowingLines may_stop s g k (Refused n) lines = ⊥
 
@@ -54,8 +54,8 @@ abbrev pub is_valid_stage : Stage → Bool
 is_valid_stage Head = true
 is_valid_stage Told = true
 is_valid_stage (Between k None) = is_valid_k k
-is_valid_stage (Between k (Some q)) = is_valid_k k && query_fits_k k q
-is_valid_stage (Within k q auditor) = is_valid_k k && query_fits_k k q && not auditor.closed
+is_valid_stage (Between k (Some q)) = is_valid_k k && is_valid_query_within_k k q
+is_valid_stage (Within k q auditor) = is_valid_k k && is_valid_query_within_k k q && not auditor.closed
 is_valid_stage (Ended k) = is_valid_k k
 is_valid_stage (Refused n) = false
 
@@ -89,7 +89,7 @@ IsNextStage s g stage line (Some next) =
     (may_stop : Bool) (k : ℕ) (lines : List Bytes) → FollowingLines may_stop s g k stage (line ∷ lines) ↔ FollowingLines may_stop s g k next lines
 
 -- Holds if the line is that of step `t`, and of no other step whose numbers may be in a line.
-pub record IsLineOfSingleStep (line : Bytes) (t : LogStep) : Type 0 where
+pub record IsOnlyStepOfLine (line : Bytes) (t : LogStep) : Type 0 where
   pub own : line ≡ step_text t
   pub only : (u : LogStep) → line ≡ step_text u → IsTrue (has_writable_numbers u) → t ≡ u
 
@@ -104,7 +104,7 @@ pub record IsDerivedStepLine (line : Bytes) (old new : AuditState) : Type 0 wher
 
 -- Holds if a line among a query's steps is of this kind: a derivable step with a literal, a
 -- derivable empty step, or a bad line.
-abbrev pub IsStepLineOfKind : Bytes → AuditState → AuditState → Line → Type 0
-IsStepLineOfKind line old new Follows = (f : IsDerivedStepLine line old new) × (is_empty_clause f.step.clause ≡ false)
-IsStepLineOfKind line old new Closes = (f : IsDerivedStepLine line old new) × (is_empty_clause f.step.clause ≡ true)
-IsStepLineOfKind line old new Bad = (u : LogStep) → line ≡ step_text u → ¬ (IsTrue (is_derived old.vars old.clauses u))
+abbrev pub IsOutcomeOfStepLine : Bytes → AuditState → AuditState → Line → Type 0
+IsOutcomeOfStepLine line old new Follows = (f : IsDerivedStepLine line old new) × (is_empty_clause f.step.clause ≡ false)
+IsOutcomeOfStepLine line old new Closes = (f : IsDerivedStepLine line old new) × (is_empty_clause f.step.clause ≡ true)
+IsOutcomeOfStepLine line old new Bad = (u : LogStep) → line ≡ step_text u → ¬ (IsTrue (is_derived old.vars old.clauses u))

@@ -21,4 +21,4 @@ mod stage;
 
 pub use answers::{Ended, Fed};
 pub use audit::SystemCertAudit;
-pub use laws::{certificate_is_for_one_k, line_numbers_fit_in_u64};
+pub use laws::{certificate_is_for_one_k, rejected_line_is_first_bad};

@@ -7,7 +7,7 @@ use crate::answers::{Ended, Fed};
 use crate::next::next_stage;
 use crate::stage::{MAX_NON_STEP_LINE, Stage};
 use ilk_ir::System;
-use ilk_log::StepLine;
+use ilk_log::StepBuffer;
 use ilk_unroll::Goal;
 use std::alloc::{AllocError, Global};
 use std::mem;
@@ -28,7 +28,7 @@ pub(crate) struct LineAudit {
     goal: Goal,
     stage: Stage,
     line: u64,
-    step: StepLine,
+    step: StepBuffer,
     ghost system_valid: { IsTrue (system_valid (plain_system system)) },
     ghost goal_valid: { IsTrue (goal_valid system.ranges (plain_goal goal)) },
     ghost staged: { IsTrue (is_refused stage || is_valid_stage stage) },
@@ -55,7 +55,7 @@ impl LineAudit {
             goal,
             stage: Stage::Head,
             line: 1,
-            step: StepLine::empty(alloc),
+            step: StepBuffer::empty(alloc),
         }
     }
 

@@ -2,14 +2,14 @@ ghost use Rattle.std.specs.Prelude.{◌≡◌, false, Some, IfOk, IfSome, IsTrue
 ghost use Rattle.ilk_certificate.specs.CertificateText.{query_header_line};
 ghost use Rattle.ilk_ir.specs.System.{PlainSystem, plain_system, system_valid};
 ghost use Rattle.ilk_unroll.specs.Goal.{PlainGoal, plain_goal, goal_valid};
-ghost use Rattle.ilk_cert_audit.specs.Stages.{IsStepLineOfKind, IsNextStage, is_valid_k, is_valid_stage, query_fits_k};
+ghost use Rattle.ilk_cert_audit.specs.Stages.{IsOutcomeOfStepLine, IsNextStage, is_valid_k, is_valid_stage, is_valid_query_within_k};
 ghost use Rattle.ilk_cert_audit.specs.declared.stage.Stage.TheVariants.{Between, Told, Within};
 
 use crate::queries::{is_query_line, query_after, read_safe_line};
 use crate::stage::Stage;
 use ilk_audit::{Auditor, Taken};
 use ilk_ir::System;
-use ilk_log::{StepLine, read_step_into};
+use ilk_log::{StepBuffer, read_step_into};
 use ilk_unroll::{Goal, Wanted, query};
 use std::alloc::{AllocError, Global};
 
@@ -23,7 +23,7 @@ fn after_query(
     requires system { IsTrue (system_valid (plain_system system.now)) }
     requires goal { IsTrue (goal_valid system.now.ranges (plain_goal goal.now)) }
     requires number { IsTrue (is_valid_k k) }
-    requires asked { IsTrue (query_fits_k k wanted) }
+    requires asked { IsTrue (is_valid_query_within_k k wanted) }
     ensures stage { IfOk result (λ stage. IsTrue (is_valid_stage stage)) }
     ensures next { IfOk result
         (λ stage. IsNextStage (plain_system system.now) (plain_goal goal.now)
@@ -48,9 +48,9 @@ enum Line {
     Bad,
 }
 
-fn take_step(step: &mut StepLine, auditor: &mut Auditor, line: &[u8]) -> Result<Line, AllocError>
+fn take_step(step: &mut StepBuffer, auditor: &mut Auditor, line: &[u8]) -> Result<Line, AllocError>
     requires unfinished { auditor.old.closed ≡ false }
-    ensures { IfOk result (IsStepLineOfKind line.now auditor.old auditor.new) }
+    ensures { IfOk result (IsOutcomeOfStepLine line.now auditor.old auditor.new) }
 {
     let _ = auditor.closed();
     if !read_step_into(step, line)? {
@@ -64,14 +64,14 @@ fn take_step(step: &mut StepLine, auditor: &mut Auditor, line: &[u8]) -> Result<
 }
 
 fn after_step(
-    step: &mut StepLine,
+    step: &mut StepBuffer,
     k: u32,
     query: Wanted,
     mut auditor: Auditor,
     line: &[u8],
 ) -> Result<Option<Stage>, AllocError>
     requires number { IsTrue (is_valid_k k) }
-    requires asked { IsTrue (query_fits_k k query) }
+    requires asked { IsTrue (is_valid_query_within_k k query) }
     requires unfinished { auditor.closed ≡ false }
     ensures stage { IfOk result (λ next. IfSome next (λ stage. IsTrue (is_valid_stage stage))) }
     ensures next { IfOk result
@@ -105,7 +105,7 @@ pub(crate) fn next_stage(
     alloc: Global,
     system: &System,
     goal: &Goal,
-    step: &mut StepLine,
+    step: &mut StepBuffer,
     stage: Stage,
     line: &[u8],
 ) -> Result<Option<Stage>, AllocError>

@@ -3,17 +3,17 @@ ghost use Rattle.std.specs.Fmt.{decimal};
 ghost use Rattle.ilk_certificate.specs.CertificateText.{query_header_line};
 ghost use Rattle.ilk_lines.specs.Written.{join_word_and_rest};
 ghost use Rattle.ilk_cert_audit.specs.Grammar.{safe_line};
-ghost use Rattle.ilk_cert_audit.specs.Stages.{is_valid_k, query_fits_k, certified_queries_after, certified_queries_from_next};
+ghost use Rattle.ilk_cert_audit.specs.Stages.{is_valid_k, is_valid_query_within_k, certified_queries_after_query, certified_queries_from_next};
 
-use ilk_lines::{decimal_up_to, strip_first_word};
+use ilk_lines::{decimal_up_to, strip_word_and_space};
 use ilk_unroll::Wanted;
 
 /// Returns the query that comes after `query` in a certificate for `k`, or `None` after the last.
 pub(crate) fn query_after(k: u32, query: Wanted) -> Option<Wanted>
     requires number { IsTrue (is_valid_k k) }
-    requires asked { IsTrue (query_fits_k k query) }
-    ensures next { certified_queries_from_next k result ≡ certified_queries_after k query }
-    ensures asked { IfSome result (λ next. IsTrue (query_fits_k k next)) }
+    requires asked { IsTrue (is_valid_query_within_k k query) }
+    ensures next { certified_queries_from_next k result ≡ certified_queries_after_query k query }
+    ensures asked { IfSome result (λ next. IsTrue (is_valid_query_within_k k next)) }
 {
     match query {
         Wanted::Hazard(n) => Some(Wanted::Breach(n)),
@@ -29,7 +29,7 @@ fn number_after(line: &[u8], word: &[u8], limit: u64) -> Option<u64>
     ensures none { IfNone result
         ((n : ℕ) → n ≤ limit → ¬ (line.now ≡ join_word_and_rest word.now (decimal n))) }
 {
-    let Some(rest) = strip_first_word(line, word) else {
+    let Some(rest) = strip_word_and_space(line, word) else {
         return None;
     };
     decimal_up_to(rest, limit)
@@ -48,7 +48,7 @@ fn is_numbered(line: &[u8], word: &[u8], number: u32) -> bool
 pub(crate) fn is_query_line(line: &[u8], query: Wanted) -> bool
     ensures { IsTrue result ↔ (line.now ≡ query_header_line query) }
 {
-    let Some(rest) = strip_first_word(line, b"query") else {
+    let Some(rest) = strip_word_and_space(line, b"query") else {
         return false;
     };
     match query {

@@ -16,17 +16,17 @@ abbrev pub IsRefuted : PlainSystem → PlainGoal → Wanted → List LogStep →
 IsRefuted s g q log = IsTrue (is_refutation (query_formula s g q) log)
 
 -- The hazard query and the breach query for runs of `n` steps.
-abbrev pub hazard_and_breach_queries : ℕ → List Wanted
-hazard_and_breach_queries n = Hazard n ∷ Breach n ∷ []
+abbrev pub hazard_and_breach_query_pair : ℕ → List Wanted
+hazard_and_breach_query_pair n = Hazard n ∷ Breach n ∷ []
 
 -- The queries of a certificate for `k`: the hazard and the breach query for each number of steps up
 -- to `k`, and the step query for `k`.
 abbrev pub certified_queries : ℕ → List Wanted
-certified_queries k = flat_map hazard_and_breach_queries (range_with_len 0 (k + 1)) ++ Step k ∷ []
+certified_queries k = flat_map hazard_and_breach_query_pair (range_with_len 0 (k + 1)) ++ Step k ∷ []
 
 -- Holds if the bytes are a certificate for `k`, from 1 to 16: the text that states `safe k`, with
 -- its queries, each followed by a log that refutes it.
-pub record IsCertificateText (s : PlainSystem) (g : PlainGoal) (k : ℕ) (bytes : Bytes) : Type 0 where
+pub record IsValidCertificate (s : PlainSystem) (g : PlainGoal) (k : ℕ) (bytes : Bytes) : Type 0 where
   pub asked : List Asked
   pub some : 0 < k
   pub most : k ≤ 16

@@ -2,7 +2,7 @@ use Rattle.std.specs.Prelude.{ℕ, Bool, List, [], ◌∷◌, ◌++◌, codes, m
 use Rattle.std.specs.Fmt.{decimal}
 use Rattle.std.specs.List.{flat_map, list_all, sum_by}
 use Rattle.ilk_lines.specs.Lines.{Bytes}
-use Rattle.ilk_lines.specs.Written.{line_of, text_of}
+use Rattle.ilk_lines.specs.Written.{join_words_with_spaces, text_of}
 use Rattle.ilk_log.specs.declared.step.Step.{Step as LogStep}
 use Rattle.ilk_log.specs.Conflicts.{count_learned_clauses}
 use Rattle.ilk_log.specs.StepText.{step_text}
@@ -12,9 +12,9 @@ use Rattle.ilk_certificate.specs.declared.asked.Asked.{Asked}
 
 -- The line that begins a query: its kind and its number of steps.
 abbrev pub query_header_line : Wanted → Bytes
-query_header_line (Hazard n) = line_of (codes "query" ∷ codes "hazard" ∷ decimal n ∷ [])
-query_header_line (Breach n) = line_of (codes "query" ∷ codes "breach" ∷ decimal n ∷ [])
-query_header_line (Step n) = line_of (codes "query" ∷ codes "step" ∷ decimal n ∷ [])
+query_header_line (Hazard n) = join_words_with_spaces (codes "query" ∷ codes "hazard" ∷ decimal n ∷ [])
+query_header_line (Breach n) = join_words_with_spaces (codes "query" ∷ codes "breach" ∷ decimal n ∷ [])
+query_header_line (Step n) = join_words_with_spaces (codes "query" ∷ codes "step" ∷ decimal n ∷ [])
 
 -- The lines of an asked query: its own, and one for each step of its log.
 abbrev pub query_and_log_lines : Asked → List Bytes
@@ -27,11 +27,11 @@ certificate_lines told asked = codes "irv certificate 3" ∷ told ∷ (flat_map 
 
 -- The text that states that a system is safe at `k`, with these queries and their logs.
 abbrev pub safe_text : ℕ → List Asked → Bytes
-safe_text k asked = text_of (certificate_lines (line_of (codes "safe" ∷ decimal k ∷ [])) asked)
+safe_text k asked = text_of (certificate_lines (join_words_with_spaces (codes "safe" ∷ decimal k ∷ [])) asked)
 
 -- The text that states that `n` conflicts are spent, with these queries and their logs.
 abbrev pub spent_text : ℕ → List Asked → Bytes
-spent_text n asked = text_of (certificate_lines (line_of (codes "spent" ∷ decimal n ∷ [])) asked)
+spent_text n asked = text_of (certificate_lines (join_words_with_spaces (codes "spent" ∷ decimal n ∷ [])) asked)
 
 -- The number of conflicts of all logs together: their steps with a literal.
 abbrev pub total_conflicts : List Asked → ℕ

@@ -6,7 +6,7 @@ use Rattle.std.proofs.lemmas.List.{append-nil}
 use Rattle.std.proofs.lemmas.List.Folds.{list_all-append}
 use Rattle.std.proofs.lemmas.Bool.{and_parts, and_from, or_cases, eqb-true, le-leb, lt-ltb, false≢true, or_right}
 use Rattle.ilk_cnf.specs.Literal.{Literal, negated_lit, positive_lit, negative_lit, has_lit, same_lit}
-use Rattle.ilk_cnf.specs.Formula.{Formula, with_vars_and_clauses, is_lit_over, is_clause_over, are_clauses_over, deduped_lits, is_tautology, clause_unless_tautology}
+use Rattle.ilk_cnf.specs.Formula.{Formula, with_var_count_and_clauses, is_lit_over, is_clause_over, are_clauses_over, deduped_lits, is_tautology, clause_unless_tautology}
 use Rattle.ilk_cnf.specs.Truth.{value, is_true, is_clause_true, satisfies}
 use Rattle.ilk_cnf.specs.Part.{FormulaPart, clauses_from_lists, with_part, and_then, and_gate_clauses, and_gate_part, or_gate_part}
 use Rattle.ilk_cnf.proofs.Literals.{is_clause_over-more}
@@ -99,17 +99,17 @@ with_part-and_then f p q =
     rw (joined, append_assoc) refl
 
 -- The same for lists of literals that add no variable.
-pub grown_more : (f g h : Formula) (lss mss : List (List Literal)) → g ≡ with_vars_and_clauses f f.vars (clauses_from_lists lss) → h ≡ with_vars_and_clauses g g.vars (clauses_from_lists mss) → h ≡ with_vars_and_clauses f f.vars
+pub grown_more : (f g h : Formula) (lss mss : List (List Literal)) → g ≡ with_var_count_and_clauses f f.vars (clauses_from_lists lss) → h ≡ with_var_count_and_clauses g g.vars (clauses_from_lists mss) → h ≡ with_var_count_and_clauses f f.vars
     (clauses_from_lists (lss ++ mss))
 grown_more f g h lss mss first next =
     let joined = clauses_from_lists-append lss mss in
     next ∙ rw (first, joined, append_assoc) refl
 
-pub grown_one : (f g h : Formula) (lss : List (List Literal)) (ls : List Literal) → g ≡ with_vars_and_clauses f f.vars (clauses_from_lists lss) → h ≡ with_vars_and_clauses g g.vars (clause_unless_tautology ls) →
-    h ≡ with_vars_and_clauses f f.vars (clauses_from_lists (lss ++ ls ∷ []))
+pub grown_one : (f g h : Formula) (lss : List (List Literal)) (ls : List Literal) → g ≡ with_var_count_and_clauses f f.vars (clauses_from_lists lss) → h ≡ with_var_count_and_clauses g g.vars (clause_unless_tautology ls) →
+    h ≡ with_var_count_and_clauses f f.vars (clauses_from_lists (lss ++ ls ∷ []))
 grown_one f g h lss ls first next =
     let whole : clause_unless_tautology ls ≡ clause_unless_tautology ls ++ [] = sym (append-nil (clause_unless_tautology ls)) in
-    grown_more f g h lss (ls ∷ []) first (next ∙ ap (λ (cs : List (List Literal)). with_vars_and_clauses g g.vars cs) whole)
+    grown_more f g h lss (ls ∷ []) first (next ∙ ap (λ (cs : List (List Literal)). with_var_count_and_clauses g g.vars cs) whole)
 
 -- Gates
 

@@ -27,8 +27,8 @@ pub record IsFormula (f : Formula) : Type 0 where
   pub differ : IsTrue (list_all has_distinct_vars f.clauses)
 
 -- Returns the formula `f` with `n` variables, and with the clauses `cs` added at the end.
-abbrev pub with_vars_and_clauses : Formula → ℕ → List (List Literal) → Formula
-with_vars_and_clauses f n cs = record { vars = n; clauses = f.clauses ++ cs }
+abbrev pub with_var_count_and_clauses : Formula → ℕ → List (List Literal) → Formula
+with_var_count_and_clauses f n cs = record { vars = n; clauses = f.clauses ++ cs }
 
 -- Returns the clauses of `f` as a formula with `n` variables.
 abbrev pub with_var_count : Formula → ℕ → Formula

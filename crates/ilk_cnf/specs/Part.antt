@@ -1,7 +1,7 @@
 -- The variables and clauses that one call adds to a formula.
 use Rattle.std.specs.Prelude.{ℕ, ◌+◌, List, [], ◌∷◌, ◌++◌, map}
 use Rattle.ilk_cnf.specs.Literal.{Literal, positive_lit, negative_lit, negated_lit}
-use Rattle.ilk_cnf.specs.Formula.{Formula, with_vars_and_clauses, clause_unless_tautology}
+use Rattle.ilk_cnf.specs.Formula.{Formula, with_var_count_and_clauses, clause_unless_tautology}
 
 -- Variables and clauses that are added to a formula: the number of variables afterwards, and the
 -- literals of each clause, perhaps with duplicates.
@@ -17,7 +17,7 @@ clauses_from_lists (ls ∷ lss) = clause_unless_tautology ls ++ clauses_from_lis
 
 -- Returns formula `f` with the variables and clauses of part `p` added.
 abbrev pub with_part : Formula → FormulaPart → Formula
-with_part f p = with_vars_and_clauses f p.vars (clauses_from_lists p.clauses)
+with_part f p = with_var_count_and_clauses f p.vars (clauses_from_lists p.clauses)
 
 -- Returns the part that adds nothing to `n` variables.
 abbrev pub empty_part : ℕ → FormulaPart

@@ -39,7 +39,10 @@ impl Clause {
 
     /// Creates the clause that has each of `lits` once. Returns `None` if some variable has both
     /// its literals in the list, so that it is always true.
-    pub fn from_lits(alloc: Global, lits: &[Lit]) -> Result<Option<Clause>, AllocError>
+    pub fn from_lits_unless_tautology(
+        alloc: Global,
+        lits: &[Lit],
+    ) -> Result<Option<Clause>, AllocError>
         ensures { IfOk result (λ clause. option_to_list clause ≡ clause_unless_tautology lits.now) }
     {
         let mut clause = Clause::new(alloc);

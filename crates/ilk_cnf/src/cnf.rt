@@ -1,5 +1,5 @@
 ghost use Rattle.std.specs.Prelude.{◌≡◌, ◌<◌, ◌≤◌, ◌+◌, ◌-◌, ◌^◌, ◌∷◌, [], length, slice_get, Some, OnOk, OnErr, IfOk, IsTrue};
-ghost use Rattle.ilk_cnf.specs.Formula.{with_vars_and_clauses, clause_unless_tautology, is_clause_over, IsFormula};
+ghost use Rattle.ilk_cnf.specs.Formula.{with_var_count_and_clauses, clause_unless_tautology, is_clause_over, IsFormula};
 ghost use Rattle.ilk_cnf.specs.Literal.{has_distinct_vars};
 ghost use Rattle.ilk_cnf.specs.Truth.{satisfies};
 
@@ -53,7 +53,7 @@ impl Cnf {
         ensures ok { IfOk result (λ v. v ≡ self.old.vars + 1) }
         ensures numbered { IfOk result (λ v. v ≤ 2 ^ 62) }
         ensures grown { OnOk result (self.new ≡
-            with_vars_and_clauses self.old (self.old.vars + 1) []) }
+            with_var_count_and_clauses self.old (self.old.vars + 1) []) }
         ensures err { OnErr result (self.new ≡ self.old) }
     {
         self.marks.push(0)?;
@@ -63,7 +63,7 @@ impl Cnf {
     /// Adds a clause at the end. If memory runs out, the formula is unchanged.
     pub fn add(&mut self, clause: Clause) -> Result<(), AllocError>
         requires { IsTrue (is_clause_over self.old.vars clause) }
-        ensures ok { OnOk result (self.new ≡ with_vars_and_clauses self.old self.old.vars
+        ensures ok { OnOk result (self.new ≡ with_var_count_and_clauses self.old self.old.vars
             (clause ∷ [])) }
         ensures err { OnErr result (self.new ≡ self.old) }
     {
@@ -73,7 +73,7 @@ impl Cnf {
     fn push(&mut self, lits: &[Lit]) -> Result<(), AllocError>
         requires within { IsTrue (is_clause_over self.old.vars lits.now) }
         requires differ { IsTrue (has_distinct_vars lits.now) }
-        ensures ok { OnOk result (self.new ≡ with_vars_and_clauses self.old self.old.vars
+        ensures ok { OnOk result (self.new ≡ with_var_count_and_clauses self.old self.old.vars
             (lits.now ∷ [])) }
         ensures err { OnErr result (self.new ≡ self.old) }
     {
@@ -90,16 +90,17 @@ impl Cnf {
 
     /// Adds the clause that has each of `lits` once, or nothing if some variable has both its
     /// literals in the list. If memory runs out, the formula is unchanged.
-    pub fn add_clause_from_lits(&mut self, lits: &[Lit]) -> Result<(), AllocError>
+    pub fn add_clause_unless_tautology(&mut self, lits: &[Lit]) -> Result<(), AllocError>
         requires { IsTrue (is_clause_over self.old.vars lits.now) }
         ensures ok { OnOk result (self.new
-            ≡ with_vars_and_clauses self.old self.old.vars (clause_unless_tautology lits.now)) }
+            ≡ with_var_count_and_clauses self.old self.old.vars
+            (clause_unless_tautology lits.now)) }
         ensures err { OnErr result (self.new ≡ self.old) }
     {
         if lits.len() > FEW && self.has_distinct_vars(lits) {
             return self.push(lits);
         }
-        match Clause::from_lits(*self.marks.allocator(), lits)? {
+        match Clause::from_lits_unless_tautology(*self.marks.allocator(), lits)? {
             Some(clause) => self.add(clause),
             None => Ok(()),
         }

@@ -1,7 +1,7 @@
 ghost use Rattle.std.specs.Prelude.{◌≡◌, ◌+◌, ◌∷◌, [], List, Bool, map, length, OnOk, IfOk, IsTrue};
 ghost use Rattle.std.specs.List.{list_all};
 ghost use Rattle.ilk_cnf.specs.Extends.{PartExtensionsAreExactly, EqualsGivenValues};
-ghost use Rattle.ilk_cnf.specs.Formula.{is_clause_over, with_vars_and_clauses};
+ghost use Rattle.ilk_cnf.specs.Formula.{is_clause_over, with_var_count_and_clauses};
 ghost use Rattle.ilk_cnf.specs.Literal.{negated_lit, positive_lit};
 ghost use Rattle.ilk_cnf.specs.Part.{with_part, clauses_from_lists, and_gate_clauses, and_gate_part, or_gate_part};
 ghost use Rattle.ilk_cnf.specs.Truth.{is_true, is_clause_true};
@@ -39,11 +39,11 @@ fn imply_each(cnf: &mut Cnf, gate: Lit, lits: &[Lit]) -> Result<(), AllocError>
     requires lits { IsTrue (is_clause_over cnf.old.vars lits.now) }
     ensures { OnOk result
         (cnf.new
-        ≡ with_vars_and_clauses cnf.old cnf.old.vars
+        ≡ with_var_count_and_clauses cnf.old cnf.old.vars
         (clauses_from_lists (map (λ l. negated_lit gate ∷ l ∷ []) lits.now))) }
 {
     for lit in lits {
-        cnf.add_clause_from_lits(&[gate.negated(), *lit])?;
+        cnf.add_clause_unless_tautology(&[gate.negated(), *lit])?;
     }
     Ok(())
 }
@@ -59,12 +59,12 @@ pub fn define_and_gate(
     requires gate { IsTrue (is_clause_over cnf.old.vars (gate ∷ [])) }
     requires lits { IsTrue (is_clause_over cnf.old.vars lits.now) }
     ensures { OnOk result
-        (cnf.new ≡ with_vars_and_clauses cnf.old cnf.old.vars
+        (cnf.new ≡ with_var_count_and_clauses cnf.old cnf.old.vars
         (clauses_from_lists (and_gate_clauses gate lits.now))) }
 {
     imply_each(cnf, gate, lits)?;
     let wide = gate_and_opposites(alloc, gate, lits)?;
-    cnf.add_clause_from_lits(wide.as_slice())?;
+    cnf.add_clause_unless_tautology(wide.as_slice())?;
     Ok(())
 }
 

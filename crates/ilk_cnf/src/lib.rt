@@ -6,12 +6,12 @@
 //! them. Contracts see them as the records and lists of `specs/Literal` and `specs/Formula`;
 //! `specs/Truth` defines satisfaction.
 //!
-//! `Cnf::new` creates a formula; `fresh` and `add` extend it. `add_clause_from_lits` accepts any
-//! literals of the formula, also with duplicates. It adds the clause without duplicates, or nothing
-//! if the list is a tautology. `add_and_gate` and `add_or_gate` add a variable that stands for
-//! several literals; `define_and_gate` adds the clauses for an existing variable. `vars`, `clauses`
-//! and `clause` read a formula. If memory runs out, methods of `Cnf` leave it unchanged; functions
-//! that borrow a formula may leave it grown.
+//! `Cnf::new` creates a formula; `fresh` and `add` extend it. `add_clause_unless_tautology` accepts
+//! any literals of the formula, also with duplicates. It adds the clause without duplicates, or
+//! nothing if the list is a tautology. `add_and_gate` and `add_or_gate` add a variable that stands
+//! for several literals; `define_and_gate` adds the clauses for an existing variable. `vars`,
+//! `clauses` and `clause` read a formula. If memory runs out, methods of `Cnf` leave it unchanged;
+//! functions that borrow a formula may leave it grown.
 //!
 //! One call adds one part (`specs/Part`). `specs/Extends` defines how a part extends the
 //! assignments of the earlier variables. Consecutive parts compose (`proofs/Parts`), so the theorem

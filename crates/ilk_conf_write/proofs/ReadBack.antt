@@ -11,7 +11,7 @@ use Rattle.serde_json.specs.Events.{items_len}
 use Rattle.serde_json.specs.Find.{as_str}
 use Rattle.serde_json.specs.View.{items_of}
 use Rattle.ilk_base.specs.Result.{try_map_numbered}
-use Rattle.ilk_plant.specs.Limits.{WithinLimits, section_and_route_counts_allowed, route_within_limits, route_names_valid, section_names_valid}
+use Rattle.ilk_plant.specs.Limits.{WithinLimits, section_and_route_counts_allowed, route_within_limits, are_names_in_route_valid, are_names_in_section_valid}
 use Rattle.ilk_plant.specs.Name.{Name}
 use Rattle.ilk_plant.specs.declared.draft.KindDraft.{KindDraft}
 use Rattle.ilk_plant.specs.declared.draft.KindDraft.TheVariants.{Linear, Point}
@@ -22,14 +22,14 @@ use Rattle.ilk_plant.specs.declared.draft.SectionDraft.{SectionDraft}
 use Rattle.ilk_plant.specs.declared.draft.TableDraft.{TableDraft}
 use Rattle.ilk_plant.specs.declared.limits.TheConstants.{MAX_ROUTES, MAX_SECTIONS}
 use Rattle.ilk_plant.proofs.WordsBack.{direction_back, position_back}
-use Rattle.ilk_net_read.specs.Document.{VersionedDocument, has_allowed_counts}
-use Rattle.ilk_net_read.specs.Member.{as_optional_text, all_entries_as, array_entries}
-use Rattle.ilk_net_read.specs.Network.{document_from_value, network_from_value, section_from_value}
+use Rattle.ilk_net_read.specs.Document.{VersionedDocument, has_allowed_section_route_counts}
+use Rattle.ilk_net_read.specs.Member.{as_optional_text, all_entries_as, items_as_list}
+use Rattle.ilk_net_read.specs.Network.{document_from_value, network_from_conf_value, section_from_value}
 use Rattle.ilk_net_read.specs.Section.{as_section}
 use Rattle.ilk_net_read.specs.declared.version.Version.{Version}
 use Rattle.ilk_net_read.specs.declared.version.Version.TheVariants.{First, Second}
 use Rattle.ilk_table_read.specs.Route.{as_listed_point, as_route}
-use Rattle.ilk_table_read.specs.Table.{net_and_table_drafts, route_draft_from_value, table_draft_from_value}
+use Rattle.ilk_table_read.specs.Table.{net_and_table_drafts, route_draft_from_value, table_draft_from_conf_value}
 use Rattle.ilk_net_read.proofs.Values.{value_of-read}
 use Rattle.ilk_conf_write.specs.ConfigurationText.{configuration_text, configuration_value, table_fits_version, route_has_no_protection, listed_point_value, text_or_null_value, route_value, section_value}
 
@@ -86,7 +86,7 @@ points-read : (points : List ListedDraft) → all_entries_as as_listed_point (it
 points-read [] = refl
 points-read (point ∷ points) = rw (listed-read point, points-read points) refl
 
-entries : (ds : List Data) → array_entries (items_of ds) ≡ ds
+entries : (ds : List Data) → items_as_list (items_of ds) ≡ ds
 entries [] = refl
 entries (d ∷ ds) = ap (λ rest. d ∷ rest) (entries ds)
 
@@ -103,28 +103,28 @@ route-read First r none =
 route-read Second r none =
     rw (optional-read r.destination, texts-read r.path, texts-read r.overlap, points-read r.points, texts-read r.conflicts, points-read r.protecting_points, texts-read r.protecting_boards) refl
 
-section-of-read : (i : ℕ) (s : SectionDraft) → section_names_valid s ≡ true → section_from_value i (section_value s) ≡ Ok s
+section-of-read : (i : ℕ) (s : SectionDraft) → are_names_in_section_valid s ≡ true → section_from_value i (section_value s) ≡ Ok s
 section-of-read i s named = rw (section-read s, named) refl
 
-sections-read : (i : ℕ) (ss : List SectionDraft) → list_all section_names_valid ss ≡ true → try_map_numbered section_from_value i (map section_value ss) ≡ Ok ss
+sections-read : (i : ℕ) (ss : List SectionDraft) → list_all are_names_in_section_valid ss ≡ true → try_map_numbered section_from_value i (map section_value ss) ≡ Ok ss
 sections-read i [] named = refl
 sections-read i (s ∷ ss) named =
-    rw (section-of-read i s (and-first (section_names_valid s) (list_all section_names_valid ss) named), sections-read (i + 1) ss (and-second (section_names_valid s) (list_all section_names_valid ss) named)) refl
+    rw (section-of-read i s (and-first (are_names_in_section_valid s) (list_all are_names_in_section_valid ss) named), sections-read (i + 1) ss (and-second (are_names_in_section_valid s) (list_all are_names_in_section_valid ss) named)) refl
 
-route-of-read : (version : Version) (i : ℕ) (r : RouteDraft) → IsRouteIn version r → route_names_valid r ≡ true → route_within_limits r ≡ true → route_draft_from_value version i (route_value version r) ≡ Ok r
+route-of-read : (version : Version) (i : ℕ) (r : RouteDraft) → IsRouteIn version r → are_names_in_route_valid r ≡ true → route_within_limits r ≡ true → route_draft_from_value version i (route_value version r) ≡ Ok r
 route-of-read version i r in_version named limited = rw (route-read version r in_version, named, limited) refl
 
-routes-read : (version : Version) (i : ℕ) (rs : List RouteDraft) → All (IsRouteIn version) rs → list_all route_names_valid rs ≡ true → list_all route_within_limits rs ≡ true →
+routes-read : (version : Version) (i : ℕ) (rs : List RouteDraft) → All (IsRouteIn version) rs → list_all are_names_in_route_valid rs ≡ true → list_all route_within_limits rs ≡ true →
     try_map_numbered (route_draft_from_value version) i (map (route_value version) rs) ≡ Ok rs
 routes-read version i [] in_version named limited = refl
 routes-read version i (r ∷ rs) in_version named limited =
     let first : route_draft_from_value version i (route_value version r) ≡ Ok r = route-of-read version i r
     (All-head (IsRouteIn version) r rs in_version)
-    (and-first (route_names_valid r) (list_all route_names_valid rs) named)
+    (and-first (are_names_in_route_valid r) (list_all are_names_in_route_valid rs) named)
     (and-first (route_within_limits r) (list_all route_within_limits rs) limited) in
     let rest : try_map_numbered (route_draft_from_value version) (i + 1) (map (route_value version) rs) ≡ Ok rs = routes-read
     version (i + 1) rs (All-tail (IsRouteIn version) r rs in_version)
-    (and-second (route_names_valid r) (list_all route_names_valid rs) named)
+    (and-second (are_names_in_route_valid r) (list_all are_names_in_route_valid rs) named)
     (and-second (route_within_limits r) (list_all route_within_limits rs) limited) in
     rw (first, rest) refl
 
@@ -135,7 +135,7 @@ parts_of version net table = record {
   routes = items_of (map (route_value version) table.routes);
 }
 
-counts-read : (version : Version) (net : NetDraft) (table : TableDraft) → WithinLimits net table → has_allowed_counts (parts_of version net table) ≡ true
+counts-read : (version : Version) (net : NetDraft) (table : TableDraft) → WithinLimits net table → has_allowed_section_route_counts (parts_of version net table) ≡ true
 counts-read version net table limits =
     ap₂ section_and_route_counts_allowed (count section_value net.sections) (count (route_value version) table.routes)
     ∙ rw (le-leb 1 (length net.sections) limits.of_network.some, le-leb (length net.sections) MAX_SECTIONS limits.of_network.few, le-leb (length table.routes) MAX_ROUTES limits.of_table.few) refl
@@ -144,11 +144,11 @@ document-read : (version : Version) (net : NetDraft) (table : TableDraft) → Wi
 document-read First net table limits = rw (counts-read First net table limits) refl
 document-read Second net table limits = rw (counts-read Second net table limits) refl
 
-network-read : (version : Version) (net : NetDraft) (table : TableDraft) → WithinLimits net table → network_from_value (configuration_value version net table) ≡ Ok net
+network-read : (version : Version) (net : NetDraft) (table : TableDraft) → WithinLimits net table → network_from_conf_value (configuration_value version net table) ≡ Ok net
 network-read version net table limits =
     rw (document-read version net table limits, entries (map section_value net.sections), sections-read 0 net.sections limits.of_network.named) refl
 
-table-read : (version : Version) (net : NetDraft) (table : TableDraft) → WithinLimits net table → table_fits_version version table ≡ true → table_draft_from_value (configuration_value version net table) ≡ Ok table
+table-read : (version : Version) (net : NetDraft) (table : TableDraft) → WithinLimits net table → table_fits_version version table ≡ true → table_draft_from_conf_value (configuration_value version net table) ≡ Ok table
 table-read version net table limits in_version =
     rw (document-read version net table limits, entries (map (route_value version) table.routes), routes-read version 0 table.routes (each-in version table in_version) limits.of_table.named limits.of_table.each) refl
 

@@ -3,13 +3,13 @@ use Rattle.std.proofs.Common.{◌≡◌, ℕ, suc, ◌+◌, ◌-◌, ◌<◌, fi
 use Rattle.std.specs.List.{range_with_len}
 use Rattle.std.proofs.lemmas.List.Elements.{filter_map-append}
 use Rattle.ilk_base.proofs.Ranges.{range-more}
-use Rattle.ilk_layout.specs.Decoded.{follow_steps, optional_first_then_followers}
+use Rattle.ilk_layout.specs.Decoded.{iterates_until_none, optional_first_then_followers}
 
-pub one-more : (step : ℕ → Option ℕ) (n k x next : ℕ) (body new whole : List ℕ) → k < n → step x ≡ Some next → new ≡ body ++ next ∷ [] → body ++ follow_steps (n - k) step x ≡ whole → new ++ follow_steps (n - (k + 1)) step next ≡ whole
+pub one-more : (step : ℕ → Option ℕ) (n k x next : ℕ) (body new whole : List ℕ) → k < n → step x ≡ Some next → new ≡ body ++ next ∷ [] → body ++ iterates_until_none (n - k) step x ≡ whole → new ++ iterates_until_none (n - (k + 1)) step next ≡ whole
 one-more step n k x next body new whole less led more sofar =
     let left : n - k ≡ suc (n - (k + 1)) = omega arith in
-    let chased : follow_steps (n - k) step x ≡ next ∷ follow_steps (n - (k + 1)) step next = ap (λ m. follow_steps m step x) left ∙ ap (optional_first_then_followers (follow_steps (n - (k + 1)) step)) led in
-    ap (λ xs. xs ++ follow_steps (n - (k + 1)) step next) more ∙ append_assoc body (next ∷ []) (follow_steps (n - (k + 1)) step next) ∙ ap (λ xs. body ++ xs) (sym chased) ∙ sofar
+    let chased : iterates_until_none (n - k) step x ≡ next ∷ iterates_until_none (n - (k + 1)) step next = ap (λ m. iterates_until_none m step x) left ∙ ap (optional_first_then_followers (iterates_until_none (n - (k + 1)) step)) led in
+    ap (λ xs. xs ++ iterates_until_none (n - (k + 1)) step next) more ∙ append_assoc body (next ∷ []) (iterates_until_none (n - (k + 1)) step next) ∙ ap (λ xs. body ++ xs) (sym chased) ∙ sofar
 
 pub given-more : {X : Type 0} (f : ℕ → Option X) (n : ℕ) (now next : List X) → next ≡ now ++ option_to_list (f n) → now ≡ filter_map f (range_with_len 0 n) → next ≡ filter_map f (range_with_len 0 (n + 1))
 given-more {X} f n now next grown sofar =

@@ -10,7 +10,7 @@ use Rattle.ilk_plant.specs.declared.state.RouteState.{RouteState}
 use Rattle.ilk_plant.specs.declared.state.State.{State}
 use Rattle.ilk_plant.specs.declared.state.Train.{Train}
 use Rattle.ilk_motion.specs.Ahead.{ahead}
-use Rattle.ilk_layout.specs.Decoded.{follow_steps}
+use Rattle.ilk_layout.specs.Decoded.{iterates_until_none}
 use Rattle.ilk_layout.specs.Variables.{boards_begin, locks_begin, mode_var, occupancies_begin, points_begin, released_count_var, seen_count_var}
 use Rattle.ilk_layout.specs.declared.values.Occupancy.{Occupancy}
 use Rattle.ilk_layout.specs.declared.values.Occupancy.TheVariants.{Vacant, Taken, Crash}
@@ -63,8 +63,8 @@ next_in_body p s occupancies x = by_occupancy (slice_get occupancies x)
     by_occupancy (Some (Taken d tail false)) = ahead p s x d
 
 -- Returns the direction of the train with its tail at `x`. Returns `None` if no tail is there.
-abbrev pub tail_direction : List Occupancy → ℕ → Option Dir
-tail_direction occupancies x = by_occupancy (slice_get occupancies x)
+abbrev pub direction_of_train_with_tail : List Occupancy → ℕ → Option Dir
+direction_of_train_with_tail occupancies x = by_occupancy (slice_get occupancies x)
   where
     by_occupancy : Option Occupancy → Option Dir
     by_occupancy None = None
@@ -76,7 +76,7 @@ tail_direction occupancies x = by_occupancy (slice_get occupancies x)
 -- Returns the train with its tail at `x`. Returns `None` if no tail is there.
 abbrev pub train_with_tail : PlantLists → State → List Occupancy → ℕ → Option Train
 train_with_tail p s occupancies x =
-    option_map (λ d. record { dir = d; body = x ∷ follow_steps (length p.sections) (next_in_body p s occupancies) x }) (tail_direction occupancies x)
+    option_map (λ d. record { dir = d; body = x ∷ iterates_until_none (length p.sections) (next_in_body p s occupancies) x }) (direction_of_train_with_tail occupancies x)
 
 -- Returns the trains, in ascending order of the sections of their tails.
 abbrev pub trains_by_tails : PlantLists → State → List Occupancy → List Train

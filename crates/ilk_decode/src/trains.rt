@@ -1,6 +1,6 @@
 ghost use Rattle.std.specs.Prelude.{◌≡◌, ◌∷◌, ◌++◌, IfOk, OnOk, length, option_to_list};
-ghost use Rattle.ilk_layout.specs.Decoded.{follow_steps};
-ghost use Rattle.ilk_decode.specs.Read.{next_in_body, tail_direction, train_with_tail, trains_by_tails};
+ghost use Rattle.ilk_layout.specs.Decoded.{iterates_until_none};
+ghost use Rattle.ilk_decode.specs.Read.{next_in_body, direction_of_train_with_tail, train_with_tail, trains_by_tails};
 
 use ilk_base::Row;
 use ilk_layout::Occupancy;
@@ -36,7 +36,7 @@ fn body_from(
     ensures { IfOk result
         (λ body. body
         ≡ tail
-        ∷ follow_steps (length plant.now.sections)
+        ∷ iterates_until_none (length plant.now.sections)
         (next_in_body plant.now s.now occupancies.now) tail) }
 {
     let mut body = Row::new(alloc);
@@ -54,8 +54,8 @@ fn body_from(
     Ok(body)
 }
 
-fn tail_direction(occupancies: &[Occupancy], x: u32) -> Option<Dir>
-    ensures { result ≡ tail_direction occupancies.now x }
+fn direction_of_train_with_tail(occupancies: &[Occupancy], x: u32) -> Option<Dir>
+    ensures { result ≡ direction_of_train_with_tail occupancies.now x }
 {
     match occupancies.get(x as usize) {
         Some(
@@ -82,7 +82,7 @@ fn push_train(
         (trains.new
         ≡ trains.old ++ option_to_list (train_with_tail plant.now s.now occupancies.now x)) }
 {
-    match tail_direction(occupancies, x) {
+    match direction_of_train_with_tail(occupancies, x) {
         None => Ok(()),
         Some(dir) => {
             let body = body_from(alloc, plant, s, occupancies, x)?;

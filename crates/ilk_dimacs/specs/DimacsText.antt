@@ -4,7 +4,7 @@ use Rattle.std.specs.Fmt.{decimal}
 use Rattle.ilk_cnf.specs.Literal.{Literal}
 use Rattle.ilk_cnf.specs.Formula.{Formula}
 use Rattle.ilk_lines.specs.Lines.{Bytes}
-use Rattle.ilk_lines.specs.Written.{line_of, text_of}
+use Rattle.ilk_lines.specs.Written.{join_words_with_spaces, text_of}
 use Rattle.ilk_log.specs.StepText.{lit_word}
 
 -- Returns the words of the first line: `p`, `cnf`, the number of variables and the number of
@@ -19,7 +19,7 @@ clause_words c = map lit_word c ++ codes "0" ∷ []
 -- Returns the lines of a formula: the first, then one for each clause, with one space between each
 -- two words.
 abbrev pub dimacs_lines : Formula → List Bytes
-dimacs_lines f = map line_of (header_words f ∷ map clause_words f.clauses)
+dimacs_lines f = map join_words_with_spaces (header_words f ∷ map clause_words f.clauses)
 
 -- Returns the text of a formula: its lines, each ended by one line feed.
 abbrev pub dimacs_text : Formula → Bytes

@@ -3,14 +3,14 @@ use Rattle.std.specs.Prelude.{ℕ, List, [], ◌∷◌, ◌++◌, codes, drop, f
 use Rattle.ilk_cnf.specs.Formula.{Formula}
 use Rattle.ilk_cnf.specs.Literal.{Literal}
 use Rattle.ilk_lines.specs.Lines.{Bytes}
-use Rattle.ilk_lines.specs.Written.{line_of}
+use Rattle.ilk_lines.specs.Written.{join_words_with_spaces}
 use Rattle.ilk_log.specs.StepText.{lit_word}
 use Rattle.ilk_dimacs.specs.DimacsText.{clause_words}
 use Rattle.ilk_dimacs.specs.declared.clauses_text.Position.{Position}
 
 -- Returns the line of these words, with its line feed.
 abbrev pub line_with_feed : List Bytes → Bytes
-line_with_feed words = line_of words ++ 10 ∷ []
+line_with_feed words = join_words_with_spaces words ++ 10 ∷ []
 
 -- Returns the text of literals, with a space after each.
 abbrev pub lits_with_space_after_each : List Literal → Bytes

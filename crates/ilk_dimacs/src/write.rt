@@ -1,5 +1,5 @@
 ghost use Rattle.std.specs.Prelude.{◌≡◌, ◌++◌, ◌∷◌, [], IfOk, OnOk, string_bytes};
-ghost use Rattle.ilk_lines.specs.Written.{line_of};
+ghost use Rattle.ilk_lines.specs.Written.{join_words_with_spaces};
 ghost use Rattle.ilk_dimacs.specs.DimacsText.{dimacs_text, header_words};
 ghost use Rattle.ilk_dimacs.specs.Left.{clauses_text_from_position};
 
@@ -13,7 +13,7 @@ const PIECE: usize = 64;
 pub(crate) fn push_header(text: &mut String, cnf: &Cnf) -> Result<(), AllocError>
     ensures { OnOk result
         (string_bytes text.new
-        ≡ string_bytes text.old ++ (line_of (header_words cnf.now) ++ 10 ∷ [])) }
+        ≡ string_bytes text.old ++ (join_words_with_spaces (header_words cnf.now) ++ 10 ∷ [])) }
 {
     write!(text, "p cnf {} {}\n", cnf.vars(), cnf.clauses())
 }

@@ -28,7 +28,7 @@ use Rattle.ilk_motion.specs.Body.{has_head_at, has_movable_tail_at, occupies_onl
 use Rattle.ilk_motion.specs.Trains.{after_head, after_leave, after_tail, has_neighbour, may_pass_board}
 use Rattle.ilk_routes.specs.Boards.{has_aspect, is_protecting_locked_route}
 use Rattle.ilk_routes.specs.Claims.{required_points}
-use Rattle.ilk_routes.specs.Lies.{is_detected_moving, is_detected_as_listed}
+use Rattle.ilk_routes.specs.Lies.{is_lie_moving, is_point_detected_as_listed}
 use Rattle.ilk_routes.specs.Modes.{is_allocating_or_locked, same_mode}
 use Rattle.ilk_routes.specs.Points.{after_settle, after_throw}
 use Rattle.ilk_routes.specs.Routes.{after_allocate, after_finish, after_lock, after_release, after_sense, can_allocate_if_marked, can_lock_if_allocating}
@@ -67,7 +67,7 @@ module _ (p : PlantLists) (s t : State) (q : ℕ) where
       rw (known, state now at asked.0, asked.0, unclaimed, vacant) refl))
 
   pub lock-back : StateBack s t q allocating
-      → ((route : Route) → slice_get p.routes q ≡ Some route → (k : ℕ) (listed : Listed) → slice_get (required_points route) k ≡ Some listed → is_detected_as_listed p t listed ≡ true → is_detected_as_listed p s listed ≡ true)
+      → ((route : Route) → slice_get p.routes q ≡ Some route → (k : ℕ) (listed : Listed) → slice_get (required_points route) k ≡ Some listed → is_point_detected_as_listed p t listed ≡ true → is_point_detected_as_listed p s listed ≡ true)
       → ((route : Route) → slice_get p.routes q ≡ Some route → (k m : ℕ) → slice_get route.protecting_boards k ≡ Some m → has_aspect t m Closed ≡ true → has_aspect s m Closed ≡ true)
       → ((route : Route) → slice_get p.routes q ≡ Some route → is_protecting_locked_route p t route.source ≡ false → is_protecting_locked_route p s route.source ≡ false)
       → is_some (after_lock p t q) ≡ true → is_some (after_lock p s q) ≡ true
@@ -77,12 +77,12 @@ module _ (p : PlantLists) (s t : State) (q : ℕ) where
       option_and_then_some _ (slice_get t.routes q) made.0 e1 (λ now at e2.
       let done = cond_some _ _ made.0 e2 in
       let asked = and_parts (same_mode now.mode Allocating) (can_lock_if_allocating p t route) done.0 in
-      let lie = list_all (is_detected_as_listed p t) (required_points route) in
+      let lie = list_all (is_point_detected_as_listed p t) (required_points route) in
       let close = list_all (λ m. has_aspect t m Closed) route.protecting_boards in
       let parts = and_parts (lie && close) (not (is_protecting_locked_route p t route.source)) asked.1 in
       let both = and_parts lie close parts.0 in
-      let lain : list_all (is_detected_as_listed p s) (required_points route) ≡ true =
-      all-pass (is_detected_as_listed p s) (required_points route) (λ k listed there. lies route known k listed there (list_all-slice_get (is_detected_as_listed p t) (required_points route) k listed both.0 there)) in
+      let lain : list_all (is_point_detected_as_listed p s) (required_points route) ≡ true =
+      all-pass (is_point_detected_as_listed p s) (required_points route) (λ k listed there. lies route known k listed there (list_all-slice_get (is_point_detected_as_listed p t) (required_points route) k listed both.0 there)) in
       let shut : list_all (λ m. has_aspect s m Closed) route.protecting_boards ≡ true =
       all-pass (λ m. has_aspect s m Closed) route.protecting_boards (λ k m there. closed route known k m there (list_all-slice_get (λ m. has_aspect t m Closed) route.protecting_boards k m both.1 there)) in
       let free : is_protecting_locked_route p s route.source ≡ false = unprotecting route known (fails (is_protecting_locked_route p t route.source) parts.1) in
@@ -137,8 +137,8 @@ module _ (p : PlantLists) (s t : State) (x : ℕ) where
 
   pub settle-back :
       ((n : ℕ) (point : PointState) → point_number p x ≡ Some n → slice_get t.points n ≡ Some point →
-      is_detected_moving point.at ≡ true →
-      (was : PointState) × (slice_get s.points n ≡ Some was) × (is_detected_moving was.at ≡ true)) →
+      is_lie_moving point.at ≡ true →
+      (was : PointState) × (slice_get s.points n ≡ Some was) × (is_lie_moving was.at ≡ true)) →
       is_some (after_settle p t x) ≡ true → is_some (after_settle p s x) ≡ true
   settle-back same h =
       let made = some-is (after_settle p t x) h in

@@ -14,7 +14,7 @@ use Rattle.ilk_model.specs.declared.event.Event.{Event}
 use Rattle.ilk_drive.specs.Awakening.{may_enable_automatic}
 use Rattle.ilk_drive.specs.Commands.{is_command}
 use Rattle.ilk_drive.specs.Drive.{automatic_events, first_automatic}
-use Rattle.ilk_drive.specs.Places.{ContainsAutomaticIndicesEnabledBy, ContainsEnabledAutomaticIndices, ContainsEnabledAutomaticIndicesExcept, IsLowerBoundOf, HasIndicesEnabledByEach}
+use Rattle.ilk_drive.specs.Places.{ContainsIndicesEventMayEnable, ContainsEnabledAutomaticIndices, ContainsEnabledAutomaticIndicesExcept, IsLowerBoundOf, HasIndicesEachMayEnable}
 use Rattle.ilk_drive.proofs.Awakes.{awakes}
 use Rattle.ilk_drive.proofs.Changes.{true-false}
 use Rattle.ilk_drive.proofs.Found.{NoneBefore, first-none, left-alone}
@@ -24,7 +24,7 @@ pub covers-on : (p : PlantLists) → IsPlant p → (s t : State) → HasShape p 
     next p s event ≡ Some t → (held : ℕ → Bool) →
     ((j : ℕ) (other : Event) → slice_get (automatic_events p) j ≡ Some other →
     is_some (next p s other) ≡ true → held j ≡ true) →
-    (woken new : List ℕ) → ContainsAutomaticIndicesEnabledBy p event woken → ((j : ℕ) → held j ≡ true → has_number j new ≡ true) →
+    (woken new : List ℕ) → ContainsIndicesEventMayEnable p event woken → ((j : ℕ) → held j ≡ true → has_number j new ≡ true) →
     ((j : ℕ) → has_number j woken ≡ true → has_number j new ≡ true) → ContainsEnabledAutomaticIndices p t new
 covers-on p plant s t shape event e held covers woken new wakes keeps adds j other at enabled = elim (cases_Bool (may_enable_automatic p event other)) [
   | inl may ↦ adds j (wakes j other at may)
@@ -51,13 +51,13 @@ none-covered p s places covers none = first-none p s (λ j event at. false_from_
 pub wakes-more :
     (p : PlantLists) (events : List Event) (woken new : List (List ℕ)) (i : ℕ) (event : Event)
     (places : List ℕ) →
-    length woken ≡ i → slice_get events i ≡ Some event → ContainsAutomaticIndicesEnabledBy p event places →
-    new ≡ woken ++ places ∷ [] → HasIndicesEnabledByEach p events woken → HasIndicesEnabledByEach p events new
+    length woken ≡ i → slice_get events i ≡ Some event → ContainsIndicesEventMayEnable p event places →
+    new ≡ woken ++ places ∷ [] → HasIndicesEachMayEnable p events woken → HasIndicesEachMayEnable p events new
 wakes-more p events woken new i event places long here wakes grown before k other listed at listed_at = elim (slice_get-push_cases woken places listed k (ap (λ (l : List (List ℕ)). slice_get l k) (sym grown) ∙ listed_at)) [
   | inl old ↦ before k other listed at old
   | inr last ↦
       (let same : event ≡ other = same_Some _ _ (sym here ∙ ap (slice_get events) (sym (last.0 ∙ long)) ∙ at) in
-      subst (λ (l : List ℕ). ContainsAutomaticIndicesEnabledBy p other l) last.1 (subst (λ (e : Event). ContainsAutomaticIndicesEnabledBy p e places) same wakes))
+      subst (λ (l : List ℕ). ContainsIndicesEventMayEnable p other l) last.1 (subst (λ (e : Event). ContainsIndicesEventMayEnable p e places) same wakes))
 ]
 
 pub done-is : (o : Option State) (s new : State) → is_some o ≡ true → new ≡ unwrap_or o s → o ≡ Some new

@@ -12,7 +12,7 @@ use Rattle.ilk_plant.specs.declared.state.Mode.TheVariants.{Free, Marked, Alloca
 use Rattle.ilk_plant.specs.declared.state.PointState.{PointState}
 use Rattle.ilk_plant.specs.declared.state.RouteState.{RouteState}
 use Rattle.ilk_plant.specs.declared.state.State.{State}
-use Rattle.ilk_motion.proofs.Shape.{ahead-next_to, section_inward_if_border-known}
+use Rattle.ilk_motion.proofs.Shape.{ahead-next_to, inward_direction_if_border-known}
 use Rattle.ilk_motion.specs.Body.{new_train_on, with_new_head, without_tail}
 use Rattle.ilk_motion.specs.Trains.{after_enter, after_head, after_leave, after_tail}
 use Rattle.ilk_routes.specs.Claims.{required_points}
@@ -166,7 +166,7 @@ module _ (p : PlantLists) (plant : IsPlant p) (never : IsAcyclic p) (s t : State
   raises-enter : (x : ℕ) → after_enter p s x ≡ Some t → left p t + 1 ≤ left p s + 512
   raises-enter x e =
       let f = enter-frame p s t x e in
-      let known : x < length p.sections = section_inward_if_border-known p x f.inward f.borders in
+      let known : x < length p.sections = inward_direction_if_border-known p x f.inward f.borders in
       let few = far-few p never f.inward x known in
       let sections : length p.sections ≤ 256 = plant.few_sections in
       let sum = trains_left-push p s.trains (new_train_on x f.inward) in

@@ -9,7 +9,7 @@ use Rattle.ilk_base.proofs.Tested.{list_any-at, list_any-none}
 use Rattle.ilk_plant.specs.Network.{contains_section}
 use Rattle.ilk_plant.specs.Plant.{IsPlant, PlantLists, board_of, point_number}
 use Rattle.ilk_plant.specs.Shape.{HasShape}
-use Rattle.ilk_plant.specs.State.{detected_position}
+use Rattle.ilk_plant.specs.State.{detected_position_in_state}
 use Rattle.ilk_plant.specs.TableRules.{sections_locked_for}
 use Rattle.ilk_plant.specs.declared.network.Position.{Position}
 use Rattle.ilk_plant.specs.declared.network.Position.TheVariants.{Plus, Minus}
@@ -22,7 +22,7 @@ use Rattle.ilk_plant.specs.declared.state.State.{State}
 use Rattle.ilk_plant.specs.declared.table.Listed.{Listed}
 use Rattle.ilk_motion.proofs.Shape.{ahead-next_to}
 use Rattle.ilk_routes.specs.Claims.{required_points}
-use Rattle.ilk_routes.specs.Lies.{lie_from_position, is_detected_as_listed, is_lie_at_position}
+use Rattle.ilk_routes.specs.Lies.{lie_from_position, is_point_detected_as_listed, is_lie_at_position}
 use Rattle.ilk_model.proofs.PointFrames.{IsSettled, IsThrown}
 use Rattle.ilk_model.proofs.TrainFrames.{IsEntered, IsHeaded, IsLeft, IsTailed}
 use Rattle.ilk_model.specs.Event.{next}
@@ -32,7 +32,7 @@ use Rattle.ilk_plant.proofs.PointNumbers.{number-once}
 use Rattle.ilk_plant.proofs.InLists.{section-from}
 use Rattle.ilk_strict.proofs.Points.{lie-other, lies-new}
 use Rattle.ilk_strict.proofs.Table.{path-locked_for}
-use Rattle.ilk_drive.specs.Awakening.{neighbours_of, route_has_element_by_number, is_board_on_section}
+use Rattle.ilk_drive.specs.Awakening.{neighbours_of, numbered_route_has_element_on, is_board_on_section}
 use Rattle.ilk_drive.proofs.Back.{allocate-back, allocating, finish-back, head-back, in_occupation, leave-back, lock-back, marked, release-back, sense-back, settle-back, tail-back, throw-back}
 use Rattle.ilk_drive.proofs.Changes.{apart, clear-back, neither, states-stay, true-false}
 use Rattle.ilk_drive.proofs.TrainChanges.{enter-alone, enter-heads, enter-leaves, enter-tails, enter-was, head-alone, head-heads, head-leaves, head-tails, head-was, leave-alone, leave-heads, leave-leaves, leave-tails, leave-was, next-neighbours_of, tail-alone, tail-heads, tail-leaves, tail-tails, tail-was}
@@ -43,10 +43,10 @@ point-other : (p : PlantLists) (s t : State) (x n : ℕ) (new : PointState) → 
 point-other p s t x n new number same y out m that =
     ap (λ (l : List PointState). slice_get l m) same ∙ slice_get-set_other s.points n m new (λ e. apart y x out (number-once p y x n (that ∙ ap Some (sym e)) number))
 
-thrown-lies : (p : PlantLists) (s t : State) (x : ℕ) → (it : IsThrown p s t x) → (listed : Listed) → is_detected_as_listed p t listed ≡ true → is_detected_as_listed p s listed ≡ true
+thrown-lies : (p : PlantLists) (s t : State) (x : ℕ) → (it : IsThrown p s t x) → (listed : Listed) → is_point_detected_as_listed p t listed ≡ true → is_point_detected_as_listed p s listed ≡ true
 thrown-lies p s t x it listed h = elim (cases_eq listed.point x) [
   | inl here ↦
-      (let moves : detected_position p t listed.point ≡ Some Moving = ap (detected_position p t) here ∙ lies-new p s t x it.n it.point (record it.point { at = Moving }) it.number it.state it.points in
+      (let moves : detected_position_in_state p t listed.point ≡ Some Moving = ap (detected_position_in_state p t) here ∙ lies-new p s t x it.n it.point (record it.point { at = Moving }) it.number it.state it.points in
       let bad : is_lie_at_position Moving listed.at ≡ true = sym (ap (λ (o : Option Lie). is_some_and o (λ lie. is_lie_at_position lie listed.at)) moves) ∙ h in
       no-move listed.at bad)
   | inr other ↦ lies-back p s t listed (lie-other p s t x it.n it.point (record it.point { at = Moving }) it.number it.state it.points listed.point other) h
@@ -149,10 +149,10 @@ enter-keeps p plant s t shape x it (Cancel q) own out h = cc
 pub headed-neighbours_of : (p : PlantLists) (s t : State) (x : ℕ) → (it : IsHeaded p s t x) → contains_section it.y (neighbours_of p x) ≡ true
 headed-neighbours_of p s t x it = next-neighbours_of p x it.y it.train.dir (ahead-next_to p s x it.y it.train.dir it.leads)
 
-headed-unasked : (p : PlantLists) (s t : State) (x q : ℕ) → (it : IsHeaded p s t x) → list_any (λ y. route_has_element_by_number p y q) (neighbours_of p x) ≡ false → route_has_element_by_number p it.y q ≡ false
+headed-unasked : (p : PlantLists) (s t : State) (x q : ℕ) → (it : IsHeaded p s t x) → list_any (λ y. numbered_route_has_element_on p y q) (neighbours_of p x) ≡ false → numbered_route_has_element_on p it.y q ≡ false
 headed-unasked p s t x q it out =
     let found = list_any-at (λ y. y == it.y) (neighbours_of p x) (headed-neighbours_of p s t x it) in
-    ap (λ (y : ℕ). route_has_element_by_number p y q) (sym (eqb-true found.1 it.y found.3)) ∙ list_any-none (λ y. route_has_element_by_number p y q) (neighbours_of p x) found.0 found.1 out found.2
+    ap (λ (y : ℕ). numbered_route_has_element_on p y q) (sym (eqb-true found.1 it.y found.3)) ∙ list_any-none (λ y. numbered_route_has_element_on p y q) (neighbours_of p x) found.0 found.1 out found.2
 
 headed-board : (p : PlantLists) → IsPlant p → (s t : State) (x : ℕ) → (it : IsHeaded p s t x) → (m : ℕ) → is_board_on_section p x m ≡ false → slice_get t.boards m ≡ slice_get s.boards m
 headed-board p plant s t x it m off =

@@ -13,7 +13,7 @@ use Rattle.ilk_plant.specs.declared.state.State.{State}
 use Rattle.ilk_plant.specs.declared.state.Train.{Train}
 use Rattle.ilk_plant.specs.declared.table.Route.{Route}
 use Rattle.ilk_routes.specs.Claims.{required_points}
-use Rattle.ilk_routes.specs.Lies.{is_detected_moving, is_lie_at_position}
+use Rattle.ilk_routes.specs.Lies.{is_lie_moving, is_lie_at_position}
 use Rattle.ilk_drive.proofs.Walks.{far}
 
 -- The path sections that a route has yet to sense and to release.
@@ -39,7 +39,7 @@ routes_left (route ∷ routes) (now ∷ states) = route_left route now + routes_
 
 -- A moving point settles; one that isn't in its commanded position is thrown first.
 abbrev pub point_left : PointState → ℕ
-point_left point = if is_detected_moving point.at then 1 else if is_lie_at_position point.at point.to then 0 else 2
+point_left point = if is_lie_moving point.at then 1 else if is_lie_at_position point.at point.to then 0 else 2
 
 abbrev pub points_left : List PointState → ℕ
 points_left [] = 0

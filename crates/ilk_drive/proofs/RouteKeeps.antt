@@ -26,7 +26,7 @@ use Rattle.ilk_plant.specs.declared.table.Listed.{Listed}
 use Rattle.ilk_plant.specs.declared.table.Route.{Route}
 use Rattle.ilk_routes.specs.Boards.{is_protecting_locked_route, is_protecting_board}
 use Rattle.ilk_routes.specs.Claims.{required_points}
-use Rattle.ilk_routes.specs.Lies.{is_detected_moving, listed_position, is_entry_for_point, with_commands}
+use Rattle.ilk_routes.specs.Lies.{is_lie_moving, listed_position, is_entry_for_point, with_commands}
 use Rattle.ilk_routes.specs.Modes.{same_mode}
 use Rattle.ilk_model.proofs.RouteFrames.{ChangesRoute, IsAllocated, IsLocked, IsMarked, IsSensed}
 use Rattle.ilk_model.specs.Event.{next}
@@ -108,11 +108,11 @@ allocated-throw p s t r x it out n number =
     points-after p s t (required_points it.route) it.points n ∙ point-uncommanded (slice_get s.points n) (listed_position p n (required_points it.route)) (listed-none p x n number (required_points it.route) (sym same ∙ out))
 
 allocated-settle : (p : PlantLists) (s t : State) (r : ℕ) → (it : IsAllocated p s t r) →
-    (n : ℕ) (point : PointState) → slice_get t.points n ≡ Some point → is_detected_moving point.at ≡ true →
-    (was : PointState) × (slice_get s.points n ≡ Some was) × (is_detected_moving was.at ≡ true)
+    (n : ℕ) (point : PointState) → slice_get t.points n ≡ Some point → is_lie_moving point.at ≡ true →
+    (was : PointState) × (slice_get s.points n ≡ Some was) × (is_lie_moving was.at ≡ true)
 allocated-settle p s t r it n point at moves =
     let found = mapped-Some (λ (one : PointState). record one { to = unwrap_or (listed_position p n (required_points it.route)) one.to }) (slice_get s.points n) point (sym (points-after p s t (required_points it.route) it.points n) ∙ at) in
-    (found.0, found.1, ap (λ (one : PointState). is_detected_moving one.at) found.2 ∙ moves)
+    (found.0, found.1, ap (λ (one : PointState). is_lie_moving one.at) found.2 ∙ moves)
 
 pub allocate-keeps : (p : PlantLists) → IsPlant p → (s t : State) → HasShape p s → (r : ℕ) → IsAllocated p s t r → Keeps p s t (Allocate r)
 allocate-keeps p plant s t shape r it (Mark q) own out h = cc

@@ -10,7 +10,7 @@ use Rattle.ilk_plant.specs.Plant.{PlantLists}
 use Rattle.ilk_model.specs.declared.event.Event.{Event}
 use Rattle.ilk_replay.specs.EventLine.{event_from_line}
 use Rattle.ilk_drive.specs.CommandLine.{command_from_line}
-use Rattle.ilk_drive.specs.Commands.{AreCommands, is_command}
+use Rattle.ilk_drive.specs.Commands.{EachEventIsCommand, is_command}
 use Rattle.ilk_drive.specs.Scene.{commands_from_lines}
 
 command-is : (p : PlantLists) (line : Bytes) (event : Event) → command_from_line p line ≡ Some event → IsTrue (is_command event)
@@ -19,18 +19,18 @@ command-is p line event e =
     let passed = cond_some (is_command found) found event kept in
     subst (λ (x : Event). is_command x ≡ true) passed.1 passed.0)
 
-leading_values-commands : (p : PlantLists) (lines : List Bytes) → AreCommands (leading_values (command_from_line p) lines)
+leading_values-commands : (p : PlantLists) (lines : List Bytes) → EachEventIsCommand (leading_values (command_from_line p) lines)
 leading_values-commands p [] = All-nil (λ event. IsTrue (is_command event))
 leading_values-commands p (line ∷ more) = by_line (command_from_line p line) refl (leading_values-commands p more)
   where
-    by_line : (o : Option Event) → command_from_line p line ≡ o → AreCommands (leading_values (command_from_line p) more) → AreCommands (prepend_or_empty o (leading_values (command_from_line p) more))
+    by_line : (o : Option Event) → command_from_line p line ≡ o → EachEventIsCommand (leading_values (command_from_line p) more) → EachEventIsCommand (prepend_or_empty o (leading_values (command_from_line p) more))
     by_line None e rest = All-nil (λ event. IsTrue (is_command event))
     by_line (Some event) e rest = All-cons (λ event. IsTrue (is_command event)) event (leading_values (command_from_line p) more) (command-is p line event e) rest
 
-pub told-commands : (p : PlantLists) (lines : List Bytes) (bytes : Bytes) (commands : List Event) → commands_from_lines p lines bytes ≡ Ok commands → AreCommands commands
+pub told-commands : (p : PlantLists) (lines : List Bytes) (bytes : Bytes) (commands : List Event) → commands_from_lines p lines bytes ≡ Ok commands → EachEventIsCommand commands
 told-commands p lines bytes commands e =
     let second = bind_ok (expect_first_line (codes "drive 1") 1 lines) _ commands e in
     let part = parsed_prefix (command_from_line p) 2 second.0 in
     let more = bind_ok (expect_first_line (codes "end") part.number part.lines) _ commands second.2 in
     let end = bind_ok (expect_end_of_text (part.number + 1) more.0 bytes) _ commands more.2 in
-    subst AreCommands (ok_is end.2) (leading_values-commands p second.0)
+    subst EachEventIsCommand (ok_is end.2) (leading_values-commands p second.0)

@@ -10,7 +10,7 @@ use Rattle.ilk_base.proofs.Options.{some-and}
 use Rattle.ilk_base.proofs.Tested.{list_any-none, none-pass}
 use Rattle.ilk_plant.specs.Network.{contains_section}
 use Rattle.ilk_plant.specs.Plant.{IsPlant, PlantLists, board_of, point_number}
-use Rattle.ilk_plant.specs.State.{has_lock_state, is_occupied, detected_position}
+use Rattle.ilk_plant.specs.State.{has_lock_state, is_occupied, detected_position_in_state}
 use Rattle.ilk_plant.specs.TableRules.{protecting_points_of, sections_locked_for, path_and_overlap_of}
 use Rattle.ilk_plant.specs.declared.network.Board.{Board}
 use Rattle.ilk_plant.specs.declared.network.Dir.{Dir}
@@ -31,14 +31,14 @@ use Rattle.ilk_motion.specs.Ahead.{ahead, section_led_to}
 use Rattle.ilk_motion.specs.Trains.{is_open, may_pass_board, with_board_closed}
 use Rattle.ilk_routes.specs.Boards.{has_aspect, is_protecting_locked_route, is_protecting_board, same_aspect}
 use Rattle.ilk_routes.specs.Claims.{sections_outside_path, required_points}
-use Rattle.ilk_routes.specs.Lies.{is_detected_as_listed, is_lie_at_position}
+use Rattle.ilk_routes.specs.Lies.{is_point_detected_as_listed, is_lie_at_position}
 use Rattle.ilk_routes.specs.Modes.{has_mode, is_allocating_or_locked, same_mode}
 use Rattle.ilk_model.proofs.RouteFrames.{ChangesRoute}
 use Rattle.ilk_model.specs.Event.{next}
 use Rattle.ilk_model.specs.declared.event.Event.TheVariants.{Throw, Settle, Head, Tail, Leave}
 use Rattle.ilk_plant.proofs.InLists.{section-at}
 use Rattle.ilk_strict.proofs.After.{same-occupied}
-use Rattle.ilk_drive.specs.Awakening.{route_has_element_on, may_affect_allocation_or_locking, route_has_element_by_number, source_protects_route, route_may_affect_by_number, routes_lock_common_section, is_board_on_section}
+use Rattle.ilk_drive.specs.Awakening.{route_has_element_on, route_affects_allocation_or_locking, numbered_route_has_element_on, source_protects_route, route_may_affect_by_number, routes_lock_common_section, is_board_on_section}
 use Rattle.ilk_drive.proofs.Back.{first_dir, head-back, leave-back, settle-back, tail-back, throw-back}
 use Rattle.ilk_drive.proofs.Changes.{apart, claimed-alike, lock-same, locks-stay, neither, state-new, true-false}
 
@@ -50,7 +50,7 @@ pub record AreApart (r : ℕ) (route other : Route) : Type 0 where
 
 pub are-apart : (p : PlantLists) (r q : ℕ) (route other : Route) → slice_get p.routes r ≡ Some route → slice_get p.routes q ≡ Some other → route_may_affect_by_number p r q ≡ false → AreApart r route other
 are-apart p r q route other known that out =
-    let same : route_may_affect_by_number p r q ≡ may_affect_allocation_or_locking r route other = rw (known, that) refl in
+    let same : route_may_affect_by_number p r q ≡ route_affects_allocation_or_locking r route other = rw (known, that) refl in
     let one = neither (list_any (λ c. c == r) other.conflicts) (routes_lock_common_section route other || (source_protects_route route other || source_protects_route other route)) (sym same ∙ out) in
     let two = neither (routes_lock_common_section route other) (source_protects_route route other || source_protects_route other route) one.1 in
     let three = neither (source_protects_route route other) (source_protects_route other route) two.1 in
@@ -66,9 +66,9 @@ pub record AsksNot (p : PlantLists) (x : ℕ) (route : Route) : Type 0 where
   pub point : list_any (λ listed. listed.point == x) (required_points route) ≡ false
   pub board : list_any (is_board_on_section p x) route.protecting_boards ≡ false
 
-pub asks-not : (p : PlantLists) (x q : ℕ) (route : Route) → slice_get p.routes q ≡ Some route → route_has_element_by_number p x q ≡ false → AsksNot p x route
+pub asks-not : (p : PlantLists) (x q : ℕ) (route : Route) → slice_get p.routes q ≡ Some route → numbered_route_has_element_on p x q ≡ false → AsksNot p x route
 asks-not p x q route known out =
-    let same : route_has_element_by_number p x q ≡ route_has_element_on p x route = rw known refl in
+    let same : numbered_route_has_element_on p x q ≡ route_has_element_on p x route = rw known refl in
     let one = neither (contains_section x (sections_locked_for route)) (list_any (λ listed. listed.point == x) (required_points route) || list_any (is_board_on_section p x) route.protecting_boards) (sym same ∙ out) in
     let two = neither (list_any (λ listed. listed.point == x) (required_points route)) (list_any (is_board_on_section p x) route.protecting_boards) one.1 in
     record { section = one.0; point = two.0; board = two.1 }
@@ -76,15 +76,16 @@ asks-not p x q route known out =
 pub not-that : (xs : List ℕ) (x y : ℕ) → contains_section x xs ≡ true → contains_section y xs ≡ false → (x == y) ≡ false
 not-that xs x y in_ out = false_from_ne_true (x == y) (λ e. true-false (contains_section y xs) (ap (λ (z : ℕ). contains_section z xs) (sym (eqb-true x y e)) ∙ in_) out)
 
-pub lie-stays : (p : PlantLists) (s t : State) → t.points ≡ s.points → (x : ℕ) → detected_position p t x ≡ detected_position p s x
+pub lie-stays : (p : PlantLists) (s t : State) → t.points ≡ s.points → (x : ℕ) → detected_position_in_state p t x ≡ detected_position_in_state p s x
 lie-stays p s t same x = ap (λ (points : List PointState). point_number p x >>= (λ n. slice_get points n >>= (λ point. Some point.at))) same
 
-pub leads-back : (p : PlantLists) (s t : State) (x : ℕ) → detected_position p t x ≡ detected_position p s x → (d : Dir) (y : ℕ) → ahead p t x d ≡ Some y → is_some (ahead p s x d) ≡ true
+pub leads-back : (p : PlantLists) (s t : State) (x : ℕ) → detected_position_in_state p t x ≡ detected_position_in_state p s x → (d : Dir) (y : ℕ) → ahead p t x d ≡ Some y → is_some (ahead p s x d) ≡ true
 leads-back p s t x same d y h =
     let alike : ahead p t x d ≡ ahead p s x d = ap (λ (lie : Option Lie). slice_get p.sections x >>= (λ section. section_led_to section d lie)) same in
     ap is_some (sym alike ∙ h)
 
-pub lies-back : (p : PlantLists) (s t : State) (listed : Listed) → detected_position p t listed.point ≡ detected_position p s listed.point → is_detected_as_listed p t listed ≡ true → is_detected_as_listed p s listed ≡ true
+pub lies-back : (p : PlantLists) (s t : State) (listed : Listed) → detected_position_in_state p t listed.point ≡ detected_position_in_state p s listed.point → is_point_detected_as_listed p t listed ≡ true → is_point_detected_as_listed p s listed
+    ≡ true
 lies-back p s t listed same h = ap (λ (o : Option Lie). is_some_and o (λ lie. is_lie_at_position lie listed.at)) (sym same) ∙ h
 
 pub passes-same : (s t : State) → t.boards ≡ s.boards → (board : Option ℕ) → may_pass_board t board ≡ true → may_pass_board s board ≡ true
@@ -150,7 +151,7 @@ throw-stays p s t x same = throw-back p s t x (λ n number. ap (λ (l : List Poi
 pub settle-stays : (p : PlantLists) (s t : State) (x : ℕ) → t.points ≡ s.points → is_some (next p t (Settle x)) ≡ true → is_some (next p s (Settle x)) ≡ true
 settle-stays p s t x same = settle-back p s t x (λ n point number at moves. (point, sym (ap (λ (l : List PointState). slice_get l n) same) ∙ at, moves))
 
-pub head-stays : (p : PlantLists) (s t : State) (x : ℕ) → t.trains ≡ s.trains → detected_position p t x ≡ detected_position p s x →
+pub head-stays : (p : PlantLists) (s t : State) (x : ℕ) → t.trains ≡ s.trains → detected_position_in_state p t x ≡ detected_position_in_state p s x →
     ((d : Dir) → may_pass_board t (board_of p x d) ≡ true → may_pass_board s (board_of p x d) ≡ true) →
     is_some (next p t (Head x)) ≡ true → is_some (next p s (Head x)) ≡ true
 head-stays p s t x same lies passes = head-back p s t x (ap (first_dir (has_head_at x)) same) (leads-back p s t x lies) passes

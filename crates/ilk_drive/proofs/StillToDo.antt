@@ -19,13 +19,13 @@ use Rattle.ilk_plant.specs.declared.table.Route.{Route}
 use Rattle.ilk_motion.specs.Body.{is_first_of_several, is_last_section, is_only_section}
 use Rattle.ilk_routes.proofs.Commands.{length-with_commands, with_commands-after, with_commands-first, with_commands-no_point, with_commands-none}
 use Rattle.ilk_routes.specs.Claims.{required_points}
-use Rattle.ilk_routes.specs.Lies.{is_detected_moving, lie_from_position, is_lie_at_position, with_commands}
+use Rattle.ilk_routes.specs.Lies.{is_lie_moving, lie_from_position, is_lie_at_position, with_commands}
 use Rattle.ilk_routes.specs.Modes.{same_mode}
 use Rattle.ilk_drive.proofs.Potential.{body_left, path_left, point_left, points_left, points_left-set, route_left_in}
 use Rattle.ilk_drive.proofs.Walks.{far, far-falls, is_step}
 
 point_left-most : (point : PointState) → point_left point ≤ 2
-point_left-most point = by_moving (is_detected_moving point.at) (is_lie_at_position point.at point.to)
+point_left-most point = by_moving (is_lie_moving point.at) (is_lie_at_position point.at point.to)
   where
     by_moving : (moves lies : Bool) → (if moves then 1 else if lies then 0 else 2) ≤ 2
     by_moving true lies = omega arith

@@ -7,7 +7,7 @@ use Rattle.std.proofs.lemmas.Option.{cond_some, option_and_then_some, same_Some}
 use Rattle.ilk_base.specs.Option.{◌>>=◌, then_some}
 use Rattle.ilk_base.proofs.Options.{none-of, or_cases, some-is}
 use Rattle.ilk_base.proofs.Tested.{find-at, list_any-none}
-use Rattle.ilk_lines.specs.Reading.{indices_of_items}
+use Rattle.ilk_lines.specs.Reading.{indices_of_list}
 use Rattle.ilk_plant.specs.Plant.{IsPlant, PlantLists}
 use Rattle.ilk_plant.specs.Shape.{HasShape}
 use Rattle.ilk_plant.specs.Sound.{IsAcyclic}
@@ -41,8 +41,8 @@ own-more front event xs own rest = none-joined is_command front (map event xs) r
 
 pub automatic-own : (p : PlantLists) → list_any is_command (automatic_events p) ≡ false
 automatic-own p =
-    let rs = indices_of_items p.routes in
-    let xs = indices_of_items p.sections in
+    let rs = indices_of_list p.routes in
+    let xs = indices_of_list p.sections in
     let e1 = none-mapped is_command Allocate (λ x. refl) rs in
     let f1 : List Event = map Allocate rs in
     let f2 : List Event = f1 ++ map Lock rs in

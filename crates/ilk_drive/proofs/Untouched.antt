@@ -7,9 +7,9 @@ use Rattle.ilk_base.proofs.Truth.{either}
 use Rattle.ilk_base.proofs.Options.{mapped-None}
 use Rattle.ilk_base.proofs.Tested.{find-none-at, find-none-from}
 use Rattle.ilk_plant.specs.Network.{contains_section}
-use Rattle.ilk_plant.specs.Plant.{PlantLists, section_inward_if_border, point_number}
+use Rattle.ilk_plant.specs.Plant.{PlantLists, inward_direction_if_border, point_number}
 use Rattle.ilk_plant.specs.Start.{start}
-use Rattle.ilk_plant.specs.State.{is_occupied, detected_position}
+use Rattle.ilk_plant.specs.State.{is_occupied, detected_position_in_state}
 use Rattle.ilk_plant.specs.declared.network.Dir.{Dir}
 use Rattle.ilk_plant.specs.declared.network.Section.TheVariants.{Point}
 use Rattle.ilk_plant.specs.declared.state.Lie.{Lie}
@@ -94,23 +94,23 @@ module _ (p : PlantLists) (s t : State) (z : ℕ) (two : has_two_trains s z ≡ 
   same-there : t.points ≡ s.points → t.trains ≡ s.trains → is_section_hazardous p t z ≡ false
   same-there points trains = no-hazard p t z (two-reads p s t z trains two) (wrong-reads p s t z points trains wrong)
 
-  lies-there : detected_position p t z ≡ detected_position p s z → t.trains ≡ s.trains → is_section_hazardous p t z ≡ false
+  lies-there : detected_position_in_state p t z ≡ detected_position_in_state p s z → t.trains ≡ s.trains → is_section_hazardous p t z ≡ false
   lies-there lies trains = no-hazard p t z (two-reads p s t z trains two) (wrong-from p t z (λ stem plus minus faces section i train at.
       rw lies (wrong-at p s z wrong stem plus minus faces section i train (sym (ap (λ (l : List Train). slice_get l i) trains) ∙ at))))
 
-  points-lie : t.points ≡ s.points → detected_position p t z ≡ detected_position p s z
+  points-lie : t.points ≡ s.points → detected_position_in_state p t z ≡ detected_position_in_state p s z
   points-lie points = lie-alike p s t z (λ m number. ap (λ (l : List PointState). slice_get l m) points)
 
   trains-there : t.points ≡ s.points → has_two_trains t z ≡ false
       →
       ((i : ℕ) (train : Train) → slice_get t.trains i ≡ Some train → (plus minus : ℕ) →
       (k : ℕ) × (old : Train) × (slice_get s.trains k ≡ Some old) ×
-      (is_wrong_under_body z plus minus (detected_position p s z) train.body ≡ true →
-      is_wrong_under_body z plus minus (detected_position p s z) old.body ≡ true))
+      (is_wrong_under_body z plus minus (detected_position_in_state p s z) train.body ≡ true →
+      is_wrong_under_body z plus minus (detected_position_in_state p s z) old.body ≡ true))
       → is_section_hazardous p t z ≡ false
   trains-there points apart_ was = no-hazard p t z apart_ (wrong-from p t z (λ stem plus minus faces section i train at.
       let old = was i train at plus minus in
-      rw (points-lie points) (vacant-by (is_wrong_under_body z plus minus (detected_position p s z) train.body) (is_wrong_under_body z plus minus (detected_position p s z) old.1.body) old.3
+      rw (points-lie points) (vacant-by (is_wrong_under_body z plus minus (detected_position_in_state p s z) train.body) (is_wrong_under_body z plus minus (detected_position_in_state p s z) old.1.body) old.3
       (wrong-at p s z wrong stem plus minus faces section old.0 old.1 old.2))))
 
   point-there : (x m : ℕ) (point new : PointState) → point_number p x ≡ Some m → slice_get s.points m ≡ Some point → t.points ≡ set s.points m new → t.trains ≡ s.trains → (z ≡ x → ⊥) → is_section_hazardous p t z ≡ false
@@ -130,10 +130,16 @@ module _ (p : PlantLists) (s t : State) (z : ℕ) (two : has_two_trains s z ≡ 
 
       stray : (i : ℕ) (train : Train) → slice_get t.trains i ≡ Some train → (plus minus : ℕ) →
           (k : ℕ) × (old : Train) × (slice_get s.trains k ≡ Some old) ×
-          (is_wrong_under_body z plus minus (detected_position p s z) train.body ≡ true →
-          is_wrong_under_body z plus minus (detected_position p s z) old.body ≡ true)
+          (is_wrong_under_body z plus minus (detected_position_in_state p s z) train.body ≡ true →
+          is_wrong_under_body z plus minus (detected_position_in_state p s z) old.body ≡ true)
       stray i train at plus minus = elim (tail-trains p s t x it i train at) [
-        | inl moved ↦ (it.i, it.train, it.at, λ h. rest-is_wrong_under_body z plus minus (detected_position p s z) it.train.body (subst (λ (one : Train). is_wrong_under_body z plus minus (detected_position p s z) one.body ≡ true) moved.1 h))
+        | inl moved ↦ (
+          it.i,
+          it.train,
+          it.at,
+          λ h. rest-is_wrong_under_body z plus minus (detected_position_in_state p s z) it.train.body
+              (subst (λ (one : Train). is_wrong_under_body z plus minus (detected_position_in_state p s z) one.body ≡ true) moved.1 h),
+        )
         | inr other ↦ (i, train, other.1, λ h. h)
       ]
 
@@ -161,15 +167,15 @@ module _ (p : PlantLists) (s t : State) (z : ℕ) (two : has_two_trains s z ≡ 
 
       stray : (i : ℕ) (train : Train) → slice_get t.trains i ≡ Some train → (plus minus : ℕ) →
           (k : ℕ) × (old : Train) × (slice_get s.trains k ≡ Some old) ×
-          (is_wrong_under_body z plus minus (detected_position p s z) train.body ≡ true →
-          is_wrong_under_body z plus minus (detected_position p s z) old.body ≡ true)
+          (is_wrong_under_body z plus minus (detected_position_in_state p s z) train.body ≡ true →
+          is_wrong_under_body z plus minus (detected_position_in_state p s z) old.body ≡ true)
       stray i train at plus minus = elim (head-trains p s t x it i train at) [
         | inl moved ↦ (
           it.i,
           it.train,
           it.at,
-          λ h. is_wrong_under_body-longer z x it.y plus minus (detected_position p s z) it.train.body it.heads behind ahead_
-              (subst (λ (one : Train). is_wrong_under_body z plus minus (detected_position p s z) one.body ≡ true) moved.1 h),
+          λ h. is_wrong_under_body-longer z x it.y plus minus (detected_position_in_state p s z) it.train.body it.heads behind ahead_
+              (subst (λ (one : Train). is_wrong_under_body z plus minus (detected_position_in_state p s z) one.body ≡ true) moved.1 h),
         )
         | inr other ↦ (i, train, other.1, λ h. h)
       ]
@@ -195,15 +201,15 @@ module _ (p : PlantLists) (s t : State) (z : ℕ) (two : has_two_trains s z ≡ 
         ]
       ])
 
-      no-section_inward_if_border : (stem plus minus : ℕ) (faces d : Dir) → slice_get p.sections z ≡ Some (Point stem plus minus faces) → section_inward_if_border p z ≡ Some d → ⊥
-      no-section_inward_if_border stem plus minus faces d section at = let bad : None ≡ Some d = rw section at at in cc
+      no-inward_direction_if_border : (stem plus minus : ℕ) (faces d : Dir) → slice_get p.sections z ≡ Some (Point stem plus minus faces) → inward_direction_if_border p z ≡ Some d → ⊥
+      no-inward_direction_if_border stem plus minus faces d section at = let bad : None ≡ Some d = rw section at at in cc
 
       right : is_wrong_under_train p t z ≡ false
       right = wrong-from p t z (λ stem plus minus faces section i train at. elim (enter-trains p s t x it i train at) [
         | inl old ↦ rw (points-lie it.points) (wrong-at p s z wrong stem plus minus faces section i train old)
-        | inr new ↦ false_from_ne_true (is_wrong_under_body z plus minus (detected_position p t z) train.body) (λ h.
-            let same : x ≡ z = is_wrong_under_body-one z x plus minus (detected_position p t z) (subst (λ (one : Train). is_wrong_under_body z plus minus (detected_position p t z) one.body ≡ true) new.1 h) in
-            no-section_inward_if_border stem plus minus faces it.inward section (ap (section_inward_if_border p) (sym same) ∙ it.borders))
+        | inr new ↦ false_from_ne_true (is_wrong_under_body z plus minus (detected_position_in_state p t z) train.body) (λ h.
+            let same : x ≡ z = is_wrong_under_body-one z x plus minus (detected_position_in_state p t z) (subst (λ (one : Train). is_wrong_under_body z plus minus (detected_position_in_state p t z) one.body ≡ true) new.1 h) in
+            no-inward_direction_if_border stem plus minus faces it.inward section (ap (inward_direction_if_border p) (sym same) ∙ it.borders))
       ])
 
 module _ (p : PlantLists) (s t : State) (z : ℕ) (two : has_two_trains s z ≡ false) (wrong : is_wrong_under_train p s z ≡ false) where

@@ -24,14 +24,14 @@ source_protects_route a b = has_number a.source b.protecting_boards
 -- Returns whether the state of `route`, which has number `r`, may affect the allocation or locking
 -- of `other`. This needs `other` to list `r` as a conflict, a section locked for both, or a source
 -- of one that is a protecting board of the other.
-abbrev pub may_affect_allocation_or_locking : ℕ → Route → Route → Bool
-may_affect_allocation_or_locking r route other =
+abbrev pub route_affects_allocation_or_locking : ℕ → Route → Route → Bool
+route_affects_allocation_or_locking r route other =
     has_number r other.conflicts || (routes_lock_common_section route other || (source_protects_route route other || source_protects_route other route))
 
 -- Returns whether the state of route number `r` may affect the allocation or locking of route
 -- number `q`.
 abbrev pub route_may_affect_by_number : PlantLists → ℕ → ℕ → Bool
-route_may_affect_by_number p r q = is_some_and (slice_get p.routes r) (λ route. is_some_and (slice_get p.routes q) (λ other. may_affect_allocation_or_locking r route other))
+route_may_affect_by_number p r q = is_some_and (slice_get p.routes r) (λ route. is_some_and (slice_get p.routes q) (λ other. route_affects_allocation_or_locking r route other))
 
 -- Returns whether board `m` is on section `x`.
 abbrev pub is_board_on_section : PlantLists → ℕ → ℕ → Bool
@@ -44,8 +44,8 @@ route_has_element_on p x route =
     contains_section x (sections_locked_for route) || (list_any (λ listed. listed.point == x) (required_points route) || list_any (is_board_on_section p x) route.protecting_boards)
 
 -- Returns whether section `x` has an element of route number `q`.
-abbrev pub route_has_element_by_number : PlantLists → ℕ → ℕ → Bool
-route_has_element_by_number p x q = is_some_and (slice_get p.routes q) (route_has_element_on p x)
+abbrev pub numbered_route_has_element_on : PlantLists → ℕ → ℕ → Bool
+numbered_route_has_element_on p x q = is_some_and (slice_get p.routes q) (route_has_element_on p x)
 
 -- Returns whether route `r` requires a position of the point on section `x`.
 abbrev pub requires_point : PlantLists → ℕ → ℕ → Bool
@@ -80,24 +80,24 @@ may_enable_automatic p (Cancel r) (Allocate q) = route_may_affect_by_number p r 
 may_enable_automatic p (Throw x) (Throw y) = y == x
 may_enable_automatic p (Throw x) (Settle y) = y == x
 may_enable_automatic p (Throw x) (Head y) = y == x
-may_enable_automatic p (Settle x) (Lock q) = route_has_element_by_number p x q
+may_enable_automatic p (Settle x) (Lock q) = numbered_route_has_element_on p x q
 may_enable_automatic p (Settle x) (Throw y) = y == x
 may_enable_automatic p (Settle x) (Settle y) = y == x
 may_enable_automatic p (Settle x) (Head y) = y == x
-may_enable_automatic p (Enter x) (Sense q) = route_has_element_by_number p x q
+may_enable_automatic p (Enter x) (Sense q) = numbered_route_has_element_on p x q
 may_enable_automatic p (Enter x) (Head y) = y == x
 may_enable_automatic p (Enter x) (Leave y) = y == x
-may_enable_automatic p (Head x) (Lock q) = route_has_element_by_number p x q
-may_enable_automatic p (Head x) (Sense q) = list_any (λ y. route_has_element_by_number p y q) (neighbours_of p x)
+may_enable_automatic p (Head x) (Lock q) = numbered_route_has_element_on p x q
+may_enable_automatic p (Head x) (Sense q) = list_any (λ y. numbered_route_has_element_on p y q) (neighbours_of p x)
 may_enable_automatic p (Head x) (Head y) = y == x || contains_section y (neighbours_of p x)
 may_enable_automatic p (Head x) (Tail y) = y == x
 may_enable_automatic p (Head x) (Leave y) = y == x
-may_enable_automatic p (Tail x) (Allocate q) = route_has_element_by_number p x q
-may_enable_automatic p (Tail x) (Release q) = route_has_element_by_number p x q
+may_enable_automatic p (Tail x) (Allocate q) = numbered_route_has_element_on p x q
+may_enable_automatic p (Tail x) (Release q) = numbered_route_has_element_on p x q
 may_enable_automatic p (Tail x) (Tail y) = y == x || contains_section y (neighbours_of p x)
 may_enable_automatic p (Tail x) (Leave y) = contains_section y (neighbours_of p x)
-may_enable_automatic p (Leave x) (Allocate q) = route_has_element_by_number p x q
-may_enable_automatic p (Leave x) (Release q) = route_has_element_by_number p x q
+may_enable_automatic p (Leave x) (Allocate q) = numbered_route_has_element_on p x q
+may_enable_automatic p (Leave x) (Release q) = numbered_route_has_element_on p x q
 may_enable_automatic p (Leave x) (Head y) = y == x
 may_enable_automatic p (Leave x) (Leave y) = y == x
 may_enable_automatic p event other = false

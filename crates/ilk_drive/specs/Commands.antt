@@ -12,5 +12,5 @@ is_command (Cancel r) = true
 is_command event = false
 
 -- Holds if each of these events is a command.
-abbrev pub AreCommands : List Event → Type 0
-AreCommands events = All (λ event. IsTrue (is_command event)) events
+abbrev pub EachEventIsCommand : List Event → Type 0
+EachEventIsCommand events = All (λ event. IsTrue (is_command event)) events

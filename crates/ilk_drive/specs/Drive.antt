@@ -4,7 +4,7 @@ use Rattle.std.specs.Prelude.{ℕ, ◌+◌, ◌≡◌, Bool, ◌&&◌, ◌==◌,
 use Rattle.std.specs.List.{list_all}
 use Rattle.std.specs.Option.{option_or}
 use Rattle.ilk_base.specs.Option.{◌>>=◌, then_some}
-use Rattle.ilk_lines.specs.Reading.{indices_of_items}
+use Rattle.ilk_lines.specs.Reading.{indices_of_list}
 use Rattle.ilk_plant.specs.Plant.{PlantLists}
 use Rattle.ilk_plant.specs.Start.{start}
 use Rattle.ilk_plant.specs.declared.state.Mode.TheVariants.{Free}
@@ -23,16 +23,16 @@ use Rattle.ilk_drive.specs.declared.outcome.Rest.TheVariants.{Driven as IsDriven
 -- settle, head, tail, leave, each by ascending number.
 abbrev pub automatic_events : PlantLists → List Event
 automatic_events p =
-    map Allocate (indices_of_items p.routes)
-    ++ map Lock (indices_of_items p.routes)
-    ++ map Sense (indices_of_items p.routes)
-    ++ map Release (indices_of_items p.routes)
-    ++ map Finish (indices_of_items p.routes)
-    ++ map Throw (indices_of_items p.sections)
-    ++ map Settle (indices_of_items p.sections)
-    ++ map Head (indices_of_items p.sections)
-    ++ map Tail (indices_of_items p.sections)
-    ++ map Leave (indices_of_items p.sections)
+    map Allocate (indices_of_list p.routes)
+    ++ map Lock (indices_of_list p.routes)
+    ++ map Sense (indices_of_list p.routes)
+    ++ map Release (indices_of_list p.routes)
+    ++ map Finish (indices_of_list p.routes)
+    ++ map Throw (indices_of_list p.sections)
+    ++ map Settle (indices_of_list p.sections)
+    ++ map Head (indices_of_list p.sections)
+    ++ map Tail (indices_of_list p.sections)
+    ++ map Leave (indices_of_list p.sections)
 
 -- Returns the first automatic event that is enabled in a state. Returns `None` if none is.
 abbrev pub first_automatic : PlantLists → State → Option Event

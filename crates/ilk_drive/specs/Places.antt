@@ -19,20 +19,20 @@ abbrev pub ContainsEnabledAutomaticIndices : PlantLists → State → List ℕ �
 ContainsEnabledAutomaticIndices p s places = (j : ℕ) (event : Event) → slice_get (automatic_events p) j ≡ Some event → is_some (next p s event) ≡ true → has_number j places ≡ true
 
 -- Holds if the list contains the index of each automatic event that `event` may enable.
-abbrev pub ContainsAutomaticIndicesEnabledBy : PlantLists → Event → List ℕ → Type 0
-ContainsAutomaticIndicesEnabledBy p event places = (j : ℕ) (other : Event) → slice_get (automatic_events p) j ≡ Some other → may_enable_automatic p event other ≡ true → has_number j places ≡ true
+abbrev pub ContainsIndicesEventMayEnable : PlantLists → Event → List ℕ → Type 0
+ContainsIndicesEventMayEnable p event places = (j : ℕ) (other : Event) → slice_get (automatic_events p) j ≡ Some other → may_enable_automatic p event other ≡ true → has_number j places ≡ true
 
 -- Holds if each of these events has, in `woken`, the indices of the automatic events that it may
 -- enable.
-abbrev pub HasIndicesEnabledByEach : PlantLists → List Event → List (List ℕ) → Type 0
-HasIndicesEnabledByEach p events woken = (i : ℕ) (event : Event) (places : List ℕ) → slice_get events i ≡ Some event → slice_get woken i ≡ Some places → ContainsAutomaticIndicesEnabledBy p event places
+abbrev pub HasIndicesEachMayEnable : PlantLists → List Event → List (List ℕ) → Type 0
+HasIndicesEachMayEnable p events woken = (i : ℕ) (event : Event) (places : List ℕ) → slice_get events i ≡ Some event → slice_get woken i ≡ Some places → ContainsIndicesEventMayEnable p event places
 
 -- Holds if `automatic` has the automatic events of the plant and, for each, the indices of those
 -- that it may enable.
 pub record IsAutomaticEnablingGraphOf (p : PlantLists) (automatic : Automatic) : Type 0 where
   pub events : automatic.events ≡ automatic_events p
   pub long : length automatic.woken ≡ length automatic.events
-  pub woken : HasIndicesEnabledByEach p automatic.events automatic.woken
+  pub woken : HasIndicesEachMayEnable p automatic.events automatic.woken
 
 -- Holds if each automatic event that is enabled in state `s` has index `place`, or its index is in
 -- the list.

@@ -7,7 +7,7 @@ use Rattle.ilk_lines.specs.Reading.{expect_first_line, expect_end_of_text, parse
 use Rattle.ilk_plant.specs.Plant.{PlantLists}
 use Rattle.ilk_model.specs.declared.event.Event.{Event}
 use Rattle.ilk_drive.specs.CommandLine.{command_from_line}
-use Rattle.ilk_drive.specs.Commands.{AreCommands}
+use Rattle.ilk_drive.specs.Commands.{EachEventIsCommand}
 use Rattle.ilk_drive.specs.declared.scene.Scene.{Scene}
 use Rattle.ilk_drive.specs.declared.scene.Scene.TheVariants.{Scene as IsScene, Bad}
 
@@ -31,5 +31,5 @@ scene_from_text p text = answer (commands_from_lines p (lines_of text) (untermin
 
 -- Holds if a scenario that was read contains only commands. It also holds if none was read.
 abbrev pub HasOnlyCommands : Scene → Type 0
-HasOnlyCommands (IsScene commands) = AreCommands commands
+HasOnlyCommands (IsScene commands) = EachEventIsCommand commands
 HasOnlyCommands (Bad n) = Unit {0}

@@ -7,7 +7,7 @@ use Rattle.ilk_plant.specs.Plant.{PlantLists}
 use Rattle.ilk_model.specs.declared.event.Event.{Event}
 use Rattle.ilk_replay.specs.RunText.{event_line}
 use Rattle.ilk_replay.specs.Writable.{IsEventSubjectOfPlant}
-use Rattle.ilk_drive.specs.Commands.{AreCommands}
+use Rattle.ilk_drive.specs.Commands.{EachEventIsCommand}
 use Rattle.ilk_drive.specs.Scene.{scene_from_text}
 use Rattle.ilk_drive.specs.declared.scene.Scene.TheVariants.{Bad}
 
@@ -22,7 +22,7 @@ scene_text p commands = text_of (scene_lines p commands)
 
 -- Holds if each of these events is a command, and its route or section is one of the plant.
 pub record AreCommandsOfPlant (p : PlantLists) (commands : List Event) : Type 0 where
-  pub commanded : AreCommands commands
+  pub commanded : EachEventIsCommand commands
   pub about : All (IsEventSubjectOfPlant p) commands
 
 -- Holds if these are commands of the plant, and the text is the one written for them.

@@ -22,19 +22,19 @@ sections_at_risk p event = []
 
 -- Holds if the result is the least of these sections that has a hazard. If the result is `None`,
 -- holds if none has.
-abbrev pub IsLeastHazardousSection : PlantLists → State → List ℕ → Option ℕ → Type 0
-IsLeastHazardousSection p s sections None =
+abbrev pub IsLeastHazardousAmong : PlantLists → State → List ℕ → Option ℕ → Type 0
+IsLeastHazardousAmong p s sections None =
     (x : ℕ) → contains_section x sections ≡ true → x < length p.sections → is_section_hazardous p s x ≡ false
-IsLeastHazardousSection p s sections (Some x) =
+IsLeastHazardousAmong p s sections (Some x) =
     (x < length p.sections)
     × (is_section_hazardous p s x ≡ true)
     × ((y : ℕ) → contains_section y sections ≡ true → y < length p.sections → is_section_hazardous p s y ≡ true → x ≤ y)
 
 -- Holds if `result` is the least hazardous section of `these` and any list whose least hazardous
 -- section is `found`.
-abbrev pub IsLeastHazardousAfterAppending : PlantLists → State → List ℕ → Option ℕ → Option ℕ → Type 0
-IsLeastHazardousAfterAppending p s these found result =
-    (sections : List ℕ) → IsLeastHazardousSection p s sections found → IsLeastHazardousSection p s (these ++ sections) result
+abbrev pub IsCombinedLeastHazardousSection : PlantLists → State → List ℕ → Option ℕ → Option ℕ → Type 0
+IsCombinedLeastHazardousSection p s these found result =
+    (sections : List ℕ) → IsLeastHazardousAmong p s sections found → IsLeastHazardousAmong p s (these ++ sections) result
 
 -- Holds if `found` is the hazard of state `t` whenever `event` led to `t` from a state without a
 -- hazard. `found` is `None` if `t` has none.

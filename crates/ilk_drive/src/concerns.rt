@@ -5,7 +5,7 @@ ghost use Rattle.ilk_base.specs.Option.{is_some_and};
 ghost use Rattle.ilk_plant.specs.Network.{contains_section};
 ghost use Rattle.ilk_plant.specs.TableRules.{sections_locked_for, path_and_overlap_of};
 ghost use Rattle.ilk_routes.specs.Claims.{required_points};
-ghost use Rattle.ilk_drive.specs.Awakening.{neighbours_of, may_affect_allocation_or_locking, has_source_on_section, route_has_element_by_number, source_protects_route, route_may_affect_by_number, routes_lock_common_section, is_board_on_section, requires_point};
+ghost use Rattle.ilk_drive.specs.Awakening.{neighbours_of, route_affects_allocation_or_locking, has_source_on_section, numbered_route_has_element_on, source_protects_route, route_may_affect_by_number, routes_lock_common_section, is_board_on_section, requires_point};
 
 use ilk_base::has_number;
 use ilk_plant::{Dir, Listed, Plant, Route, Row, Section, contains_section};
@@ -83,7 +83,7 @@ fn is_guarded_by(a: &Route, b: &Route) -> bool
 }
 
 fn bears_on(r: u32, route: &Route, other: &Route) -> bool
-    ensures { result ≡ may_affect_allocation_or_locking r route.now other.now }
+    ensures { result ≡ route_affects_allocation_or_locking r route.now other.now }
 {
     has_number(other.conflicts.as_slice(), r)
         || (routes_lock_common_section(route, other)
@@ -119,8 +119,8 @@ fn wants(route: &Route, x: u32) -> bool
 
 // Returns whether section `x` is locked for route `q`, or has a point that it requires or one of
 // its protecting boards.
-pub(crate) fn route_has_element_by_number(plant: &Plant, x: u32, q: u32) -> bool
-    ensures { result ≡ route_has_element_by_number plant.now x q }
+pub(crate) fn numbered_route_has_element_on(plant: &Plant, x: u32, q: u32) -> bool
+    ensures { result ≡ numbered_route_has_element_on plant.now x q }
 {
     if q >= plant.routes() {
         return false;
@@ -162,16 +162,16 @@ pub(crate) fn is_neighbour(plant: &Plant, x: u32, y: u32) -> bool
 }
 
 fn is_concerned_if(plant: &Plant, x: Option<u32>, q: u32) -> bool
-    ensures { result ≡ is_some_and x (λ y. route_has_element_by_number plant.now y q) }
+    ensures { result ≡ is_some_and x (λ y. numbered_route_has_element_on plant.now y q) }
 {
     match x {
-        Some(x) => route_has_element_by_number(plant, x, q),
+        Some(x) => numbered_route_has_element_on(plant, x, q),
         None => false,
     }
 }
 
 pub(crate) fn depends_on_neighbour(plant: &Plant, x: u32, q: u32) -> bool
-    ensures { result ≡ list_any (λ y. route_has_element_by_number plant.now y q)
+    ensures { result ≡ list_any (λ y. numbered_route_has_element_on plant.now y q)
         (neighbours_of plant.now x) }
 {
     if x >= plant.sections() {
@@ -188,14 +188,14 @@ pub(crate) fn depends_on_neighbour(plant: &Plant, x: u32, q: u32) -> bool
             faces,
         } => match faces {
             Dir::Up => {
-                route_has_element_by_number(plant, stem, q)
-                    || (route_has_element_by_number(plant, plus, q)
-                        || route_has_element_by_number(plant, minus, q))
+                numbered_route_has_element_on(plant, stem, q)
+                    || (numbered_route_has_element_on(plant, plus, q)
+                        || numbered_route_has_element_on(plant, minus, q))
             }
             Dir::Down => {
-                route_has_element_by_number(plant, plus, q)
-                    || (route_has_element_by_number(plant, minus, q)
-                        || route_has_element_by_number(plant, stem, q))
+                numbered_route_has_element_on(plant, plus, q)
+                    || (numbered_route_has_element_on(plant, minus, q)
+                        || numbered_route_has_element_on(plant, stem, q))
             }
         },
     }

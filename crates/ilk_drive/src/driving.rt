@@ -9,7 +9,7 @@ ghost use Rattle.ilk_replay.specs.Writable.{IsRunOfPlant};
 ghost use Rattle.ilk_replay.specs.Told.{run_from_start};
 ghost use Rattle.ilk_strict.specs.IsStrict.{IsStrict};
 ghost use Rattle.ilk_drive.specs.Drive.{IsDriveOf, command_step, first_automatic, is_done_empty_and_free, final_state_outcome, next_step_unless_hazard};
-ghost use Rattle.ilk_drive.specs.Progress.{IsStepOrUnchanged, state_after_first_automatic, drive_state_with_commands_given};
+ghost use Rattle.ilk_drive.specs.Progress.{IsStepOrUnchanged, state_after_first_automatic, state_and_commands_left_after};
 ghost use Rattle.ilk_drive.specs.Places.{ContainsEnabledAutomaticIndices, ContainsEnabledAutomaticIndicesExcept, IsAutomaticEnablingGraphOf, IsStateAfterOptionalEvent, IsFirstAutomaticIfAny, IsLowerBoundOf};
 ghost use Rattle.ilk_drive.specs.Told.{IsRunFromStart, EndsWithoutHazard};
 ghost use Rattle.ilk_drive.specs.declared.limits.TheConstants.{MAX_EVENTS_PER_COMMAND};
@@ -121,9 +121,9 @@ fn give_command(
     ensures hazard { now.new.hazard ≡ now.old.hazard }
     ensures given { IfOk result
         (IsStepOrUnchanged (command_step plant.now
-        (drive_state_with_commands_given scene.now now.old.state now.old.given))
-        (drive_state_with_commands_given scene.now now.old.state now.old.given)
-        (drive_state_with_commands_given scene.now now.new.state now.new.given)) }
+        (state_and_commands_left_after scene.now now.old.state now.old.given))
+        (state_and_commands_left_after scene.now now.old.state now.old.given)
+        (state_and_commands_left_after scene.now now.new.state now.new.given)) }
     ensures shape { HasShape plant.now now.new.state }
     ensures within { now.old.given ≤ length scene.now → now.new.given ≤ length scene.now }
 {
@@ -158,9 +158,9 @@ fn go_on(
     ensures hazard { now.new.hazard ≡ now.old.hazard }
     ensures turn { IfOk result
         (IsStepOrUnchanged (next_step_unless_hazard plant.now
-        (drive_state_with_commands_given scene.now now.old.state now.old.given))
-        (drive_state_with_commands_given scene.now now.old.state now.old.given)
-        (drive_state_with_commands_given scene.now now.new.state now.new.given)) }
+        (state_and_commands_left_after scene.now now.old.state now.old.given))
+        (state_and_commands_left_after scene.now now.old.state now.old.given)
+        (state_and_commands_left_after scene.now now.new.state now.new.given)) }
     ensures shape { HasShape plant.now now.new.state }
     ensures within { now.old.given ≤ length scene.now → now.new.given ≤ length scene.now }
 {
@@ -192,9 +192,9 @@ fn take_turn(
     ensures hazard { OnOk result (now.new.hazard ≡ hazard plant.now now.new.state) }
     ensures turn { IfOk result
         (IsStepOrUnchanged (next_step_unless_hazard plant.now
-        (drive_state_with_commands_given scene.now now.old.state now.old.given))
-        (drive_state_with_commands_given scene.now now.old.state now.old.given)
-        (drive_state_with_commands_given scene.now now.new.state now.new.given)) }
+        (state_and_commands_left_after scene.now now.old.state now.old.given))
+        (state_and_commands_left_after scene.now now.old.state now.old.given)
+        (state_and_commands_left_after scene.now now.new.state now.new.given)) }
     ensures shape { HasShape plant.now now.new.state }
     ensures within { now.old.given ≤ length scene.now → now.new.given ≤ length scene.now }
 {
@@ -219,7 +219,7 @@ fn all_free(s: &State) -> bool
 
 fn is_done_empty_and_free(scene: &Row<Event>, now: &Standing) -> bool
     ensures { result ≡ is_done_empty_and_free
-        (drive_state_with_commands_given scene.now now.now.state now.now.given) }
+        (state_and_commands_left_after scene.now now.now.state now.now.given) }
 {
     now.given >= scene.len() && now.state.trains.len() == 0 && all_free(&now.state)
 }
@@ -228,7 +228,7 @@ fn rest_at(scene: &Row<Event>, now: &Standing) -> Rest
     requires within { now.now.given ≤ length scene.now }
     ensures { (p : PlantLists) → now.now.hazard ≡ hazard p now.now.state →
         result ≡ final_state_outcome p
-        (drive_state_with_commands_given scene.now now.now.state now.now.given) }
+        (state_and_commands_left_after scene.now now.now.state now.now.given) }
 {
     if let Some(at) = now.hazard {
         return Rest::Hazard(at);

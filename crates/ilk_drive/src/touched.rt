@@ -3,7 +3,7 @@
 ghost use Rattle.std.specs.Prelude.{◌≡◌, [], ◌∷◌, option_to_list};
 ghost use Rattle.ilk_model.specs.Hazard.{is_section_hazardous, has_two_trains};
 ghost use Rattle.ilk_drive.specs.Awakening.{neighbours_of};
-ghost use Rattle.ilk_drive.specs.Touched.{IsOptionalHazardAfterEvent, IsLeastHazardousSection, IsLeastHazardousAfterAppending, sections_at_risk};
+ghost use Rattle.ilk_drive.specs.Touched.{IsOptionalHazardAfterEvent, IsLeastHazardousAmong, IsCombinedLeastHazardousSection, sections_at_risk};
 
 use ilk_model::{Event, HazardAt, is_wrong_under_train};
 use ilk_plant::{Plant, Section, State, contains_section};
@@ -27,7 +27,7 @@ fn is_section_hazardous(plant: &Plant, s: &State, x: u32) -> bool
 
 // Returns `x` if it has a hazard and is less than `found`, and otherwise `found`.
 fn lesser(plant: &Plant, s: &State, x: u32, found: Option<u32>) -> Option<u32>
-    ensures { IsLeastHazardousAfterAppending plant.now s.now (x ∷ []) found result }
+    ensures { IsCombinedLeastHazardousSection plant.now s.now (x ∷ []) found result }
 {
     if x >= plant.sections() {
         return found;
@@ -42,7 +42,7 @@ fn lesser(plant: &Plant, s: &State, x: u32, found: Option<u32>) -> Option<u32>
 }
 
 fn lesser_if(plant: &Plant, s: &State, x: Option<u32>, found: Option<u32>) -> Option<u32>
-    ensures { IsLeastHazardousAfterAppending plant.now s.now (option_to_list x) found result }
+    ensures { IsCombinedLeastHazardousSection plant.now s.now (option_to_list x) found result }
 {
     match x {
         Some(x) => lesser(plant, s, x, found),
@@ -51,7 +51,7 @@ fn lesser_if(plant: &Plant, s: &State, x: Option<u32>, found: Option<u32>) -> Op
 }
 
 fn least_around(plant: &Plant, s: &State, x: u32) -> Option<u32>
-    ensures { IsLeastHazardousSection plant.now s.now (neighbours_of plant.now x) result }
+    ensures { IsLeastHazardousAmong plant.now s.now (neighbours_of plant.now x) result }
 {
     if x >= plant.sections() {
         return None;
@@ -75,7 +75,7 @@ fn least_around(plant: &Plant, s: &State, x: u32) -> Option<u32>
 }
 
 fn least_touched(plant: &Plant, s: &State, event: Event) -> Option<u32>
-    ensures { IsLeastHazardousSection plant.now s.now (sections_at_risk plant.now event) result }
+    ensures { IsLeastHazardousAmong plant.now s.now (sections_at_risk plant.now event) result }
 {
     match event {
         Event::Throw(x) => lesser(plant, s, x, None),

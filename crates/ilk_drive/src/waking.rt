@@ -2,12 +2,12 @@
 ghost use Rattle.std.specs.Prelude.{◌≡◌, IfOk};
 ghost use Rattle.ilk_model.specs.declared.event.Event.TheVariants.{Mark, Allocate, Lock, Sense, Release, Finish, Throw, Settle, Enter, Head, Tail, Leave, Cancel};
 ghost use Rattle.ilk_drive.specs.Drive.{automatic_events};
-ghost use Rattle.ilk_drive.specs.Places.{ContainsAutomaticIndicesEnabledBy};
-ghost use Rattle.ilk_drive.specs.Awakening.{has_source_on_section, route_has_element_by_number, route_may_affect_by_number, may_enable_automatic, requires_point};
+ghost use Rattle.ilk_drive.specs.Places.{ContainsIndicesEventMayEnable};
+ghost use Rattle.ilk_drive.specs.Awakening.{has_source_on_section, numbered_route_has_element_on, route_may_affect_by_number, may_enable_automatic, requires_point};
 
 use crate::concerns::{
-    depends_on_neighbour, has_source_on_section, is_neighbour, requires_point,
-    route_has_element_by_number, route_may_affect_by_number,
+    depends_on_neighbour, has_source_on_section, is_neighbour, numbered_route_has_element_on,
+    requires_point, route_may_affect_by_number,
 };
 use ilk_model::Event;
 use ilk_plant::{Plant, Row};
@@ -73,7 +73,7 @@ fn settle_may_enable(plant: &Plant, x: u32, other: Event) -> bool
     ensures { result ≡ may_enable_automatic plant.now (Settle x) other }
 {
     match other {
-        Event::Lock(q) => route_has_element_by_number(plant, x, q),
+        Event::Lock(q) => numbered_route_has_element_on(plant, x, q),
         Event::Throw(y) => y == x,
         Event::Settle(y) => y == x,
         Event::Head(y) => y == x,
@@ -85,7 +85,7 @@ fn enter_may_enable(plant: &Plant, x: u32, other: Event) -> bool
     ensures { result ≡ may_enable_automatic plant.now (Enter x) other }
 {
     match other {
-        Event::Sense(q) => route_has_element_by_number(plant, x, q),
+        Event::Sense(q) => numbered_route_has_element_on(plant, x, q),
         Event::Head(y) => y == x,
         Event::Leave(y) => y == x,
         _ => false,
@@ -96,7 +96,7 @@ fn head_may_enable(plant: &Plant, x: u32, other: Event) -> bool
     ensures { result ≡ may_enable_automatic plant.now (Head x) other }
 {
     match other {
-        Event::Lock(q) => route_has_element_by_number(plant, x, q),
+        Event::Lock(q) => numbered_route_has_element_on(plant, x, q),
         Event::Sense(q) => depends_on_neighbour(plant, x, q),
         Event::Head(y) => y == x || is_neighbour(plant, x, y),
         Event::Tail(y) => y == x,
@@ -109,8 +109,8 @@ fn tail_may_enable(plant: &Plant, x: u32, other: Event) -> bool
     ensures { result ≡ may_enable_automatic plant.now (Tail x) other }
 {
     match other {
-        Event::Allocate(q) => route_has_element_by_number(plant, x, q),
-        Event::Release(q) => route_has_element_by_number(plant, x, q),
+        Event::Allocate(q) => numbered_route_has_element_on(plant, x, q),
+        Event::Release(q) => numbered_route_has_element_on(plant, x, q),
         Event::Tail(y) => y == x || is_neighbour(plant, x, y),
         Event::Leave(y) => is_neighbour(plant, x, y),
         _ => false,
@@ -121,8 +121,8 @@ fn leave_may_enable(plant: &Plant, x: u32, other: Event) -> bool
     ensures { result ≡ may_enable_automatic plant.now (Leave x) other }
 {
     match other {
-        Event::Allocate(q) => route_has_element_by_number(plant, x, q),
-        Event::Release(q) => route_has_element_by_number(plant, x, q),
+        Event::Allocate(q) => numbered_route_has_element_on(plant, x, q),
+        Event::Release(q) => numbered_route_has_element_on(plant, x, q),
         Event::Head(y) => y == x,
         Event::Leave(y) => y == x,
         _ => false,
@@ -185,7 +185,7 @@ pub(crate) fn indices_enabled_by(
     event: Event,
 ) -> Result<Row<u64>, AllocError>
     requires { automatic.now ≡ automatic_events plant.now }
-    ensures { IfOk result (ContainsAutomaticIndicesEnabledBy plant.now event) }
+    ensures { IfOk result (ContainsIndicesEventMayEnable plant.now event) }
 {
     let mut places = Row::new(alloc);
     for (place, other) in automatic.as_slice().iter().enumerate() {

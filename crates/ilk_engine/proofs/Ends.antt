@@ -11,9 +11,9 @@ use Rattle.ilk_plant.specs.Plant.{PlantLists}
 use Rattle.ilk_plant.specs.Start.{start}
 use Rattle.ilk_plant.specs.declared.state.State.{State}
 use Rattle.ilk_model.specs.Event.{next}
-use Rattle.ilk_model.specs.Families.{keeps_v1_consistent_counts, keeps_v2_sections_held_once, keeps_v3_locks_match_routes, keeps_v4_allocating_paths_vacant, keeps_v5_open_needs_locked, keeps_v6_route_points_set, keeps_v7_heads_have_routes, keeps_v8_bodies_have_routes, keeps_v9_protecting_boards_closed}
+use Rattle.ilk_model.specs.Families.{meets_v1_consistent_counts, meets_v2_sections_held_once, meets_v3_locks_match_routes, meets_v4_allocating_paths_vacant, meets_v5_open_needs_locked, meets_v6_points_match_modes, meets_v7_heads_have_routes, meets_v8_bodies_have_routes, meets_v9_protecting_boards_closed}
 use Rattle.ilk_model.specs.Hazard.{hazard}
-use Rattle.ilk_model.specs.Meets.{keeps_all_families, first_broken_family}
+use Rattle.ilk_model.specs.Meets.{meets_all_families, first_broken_family}
 use Rattle.ilk_model.specs.Run.{run}
 use Rattle.ilk_model.specs.declared.event.Event.{Event}
 use Rattle.ilk_queries.specs.Asked.{ends_in_breach, ends_in_hazard}
@@ -38,7 +38,7 @@ pub hazard-run : (p : PlantLists) (s : State) (events : List Event) → ends_in_
 hazard-run p s events ends = let found = some-and (run p s events) (λ t. is_some (hazard p t)) ends in ap is_some found.1
 
 pub breach-run : (p : PlantLists) (s : State) (events : List Event) → ends_in_breach p s events ≡ true → is_some (run p s events) ≡ true
-breach-run p s events ends = let found = some-and (run p s events) (λ t. is_none (hazard p t) && not (keeps_all_families p t)) ends in ap is_some found.1
+breach-run p s events ends = let found = some-and (run p s events) (λ t. is_none (hazard p t) && not (meets_all_families p t)) ends in ap is_some found.1
 
 nine : (a b c d e f g h i : Bool) → (a && (b && (c && (d && (e && (f && (g && (h && (i && true))))))))) ≡ false
     → is_some (find (λ j. not (is_some_and (slice_get (a ∷ b ∷ c ∷ d ∷ e ∷ f ∷ g ∷ h ∷ i ∷ []) (j - 1)) (λ x. x))) (range_with_len 1 9)) ≡ true
@@ -53,9 +53,9 @@ nine true true true true true true true false i fails = refl
 nine true true true true true true true true false fails = refl
 nine true true true true true true true true true fails = absurd (false≢true (sym fails))
 
-least-some : (p : PlantLists) (t : State) → keeps_all_families p t ≡ false → is_some (first_broken_family p t) ≡ true
-least-some p t broken = nine (keeps_v1_consistent_counts p t) (keeps_v2_sections_held_once p t) (keeps_v3_locks_match_routes p t) (keeps_v4_allocating_paths_vacant p t) (keeps_v5_open_needs_locked p t) (keeps_v6_route_points_set p t)
-    (keeps_v7_heads_have_routes p t) (keeps_v8_bodies_have_routes p t) (keeps_v9_protecting_boards_closed p t) broken
+least-some : (p : PlantLists) (t : State) → meets_all_families p t ≡ false → is_some (first_broken_family p t) ≡ true
+least-some p t broken = nine (meets_v1_consistent_counts p t) (meets_v2_sections_held_once p t) (meets_v3_locks_match_routes p t) (meets_v4_allocating_paths_vacant p t) (meets_v5_open_needs_locked p t) (meets_v6_points_match_modes p t)
+    (meets_v7_heads_have_routes p t) (meets_v8_bodies_have_routes p t) (meets_v9_protecting_boards_closed p t) broken
 
 pub run-begins : (p : PlantLists) (s : State) (items events : List Event) → s ≡ start p → items ≡ events → run p s (drop 0 items) ≡ run p (start p) events
 run-begins p s items events at same = ap (λ (u : State). run p u items) at ∙ ap (run p (start p)) same

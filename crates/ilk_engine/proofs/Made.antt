@@ -8,7 +8,7 @@ use Rattle.ilk_plant.specs.declared.state.State.{State}
 use Rattle.ilk_model.specs.declared.event.Event.{Event}
 use Rattle.ilk_model.specs.declared.hazards.HazardAt.{HazardAt}
 use Rattle.ilk_layout.specs.Image.{image_of}
-use Rattle.ilk_layout.specs.Laws.{IsWellFormedAndSafe, WellformedIffImage}
+use Rattle.ilk_layout.specs.Laws.{IsWellFormedAndSafe, WellformedIffSafeStateImage}
 use Rattle.ilk_layout.specs.Variables.{ranges_of_plant}
 use Rattle.ilk_layout.specs.Wellformed.{is_wellformed}
 use Rattle.ilk_behave.specs.Behaviour.{system_of_plant}
@@ -64,7 +64,7 @@ module _ (p : PlantLists) (plant : IsPlant p) (steps : SystemMatchesEvents p) (g
   pub first-in-range : (depth : ℕ) (trace : Trace) → IsRightSystemVerdict (system_of_plant p) (goal_of_plant p) depth (system.NotInductive trace) → in_ranges trace.first (ranges_of_plant p) ≡ true
   first-in-range = on.first-in-range p (rules-step p plant steps) (goal_of_plant p) goal
 
-  pub first-wellformed : (depth : ℕ) (trace : Trace) → WellformedIffImage p → 0 < depth → IsRightSystemVerdict (system_of_plant p) (goal_of_plant p) depth (system.NotInductive trace) → is_wellformed p trace.first ≡ true
+  pub first-wellformed : (depth : ℕ) (trace : Trace) → WellformedIffSafeStateImage p → 0 < depth → IsRightSystemVerdict (system_of_plant p) (goal_of_plant p) depth (system.NotInductive trace) → is_wellformed p trace.first ≡ true
   first-wellformed = on.first-wellformed p (rules-step p plant steps) (goal_of_plant p) goal
 
   pub out-fires : (depth : ℕ) (trace : Trace) (first : State) → IsWellFormedAndSafe p first → image_of p first ≡ trace.first → IsRightSystemVerdict (system_of_plant p) (goal_of_plant p) depth (system.NotInductive trace)

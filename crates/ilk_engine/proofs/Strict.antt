@@ -11,7 +11,7 @@ use Rattle.ilk_plant.specs.Start.{start}
 use Rattle.ilk_plant.specs.declared.state.State.{State}
 use Rattle.ilk_model.specs.Event.{next}
 use Rattle.ilk_model.specs.Hazard.{hazard}
-use Rattle.ilk_model.specs.Meets.{Meets, keeps_all_families}
+use Rattle.ilk_model.specs.Meets.{Meets, meets_all_families}
 use Rattle.ilk_model.specs.Run.{run}
 use Rattle.ilk_model.specs.declared.event.Event.{Event}
 use Rattle.ilk_strict.specs.IsStrict.{IsStrict}
@@ -38,21 +38,21 @@ no-hazard p safe n has =
 no-breach : (p : PlantLists) → AlwaysKeepsInvariant p → (n : ℕ) → ¬ HasQueriedRun p (BreachQuery n)
 no-breach p safe n has =
     let Ends : State → Type 0 = λ s. ends_in_breach p s has.events ≡ true in
-    let last = some-and (run p (start p) has.events) (λ t. is_none (hazard p t) && not (keeps_all_families p t)) (subst Ends has.run.0 has.run.2) in
+    let last = some-and (run p (start p) has.events) (λ t. is_none (hazard p t) && not (meets_all_families p t)) (subst Ends has.run.0 has.run.2) in
     let meets = safe has.events last.0 last.1 in
-    let broken : not (keeps_all_families p last.0) ≡ true = (and_parts (is_none (hazard p last.0)) (not (keeps_all_families p last.0)) last.2).1 in
-    let kept : not (keeps_all_families p last.0) ≡ false = ap not meets.families_kept in
+    let broken : not (meets_all_families p last.0) ≡ true = (and_parts (is_none (hazard p last.0)) (not (meets_all_families p last.0)) last.2).1 in
+    let kept : not (meets_all_families p last.0) ≡ false = ap not meets.families_kept in
     absurd (false≢true (sym kept ∙ broken))
 
 abbrev KeepsInvariant : PlantLists → Type 0
 KeepsInvariant p = (s t : State) (event : Event) → Meets p s → next p s event ≡ Some t → Meets p t
 
 meets-true : (p : PlantLists) (s : State) → Meets p s → meets_invariant p s ≡ true
-meets-true p s m = and_from (is_none (hazard p s)) (keeps_all_families p s) (ap is_none m.no_hazard) m.families_kept
+meets-true p s m = and_from (is_none (hazard p s)) (meets_all_families p s) (ap is_none m.no_hazard) m.families_kept
 
 meets-shaped : (p : PlantLists) (s : State) → HasShape p s → meets_invariant p s ≡ true → Meets p s
 meets-shaped p s shape e =
-    let parts = and_parts (is_none (hazard p s)) (keeps_all_families p s) e in
+    let parts = and_parts (is_none (hazard p s)) (meets_all_families p s) e in
     record { shape = shape; no_hazard = none-is (hazard p s) parts.0; families_kept = parts.1 }
 
 leaves-two : (p : PlantLists) (s t : State) → first_breaks_invariant_at p 1 (s ∷ t ∷ []) ≡ true → (meets_invariant p s ≡ true) × (not (meets_invariant p t) ≡ true)

@@ -10,7 +10,7 @@ use Rattle.ilk_plant.specs.declared.state.State.{State}
 use Rattle.ilk_model.specs.declared.event.Event.{Event}
 use Rattle.ilk_model.specs.declared.hazards.HazardAt.{HazardAt}
 use Rattle.ilk_layout.specs.Image.{image_of}
-use Rattle.ilk_layout.specs.Laws.{AreImageOfSafeState, IsWellFormedAndSafe, WellformedIffImage}
+use Rattle.ilk_layout.specs.Laws.{AreImageOfSafeState, IsWellFormedAndSafe, WellformedIffSafeStateImage}
 use Rattle.ilk_layout.specs.Variables.{ranges_of_plant}
 use Rattle.ilk_layout.specs.Wellformed.{is_wellformed}
 use Rattle.ilk_behave.specs.Behaviour.{system_of_plant}
@@ -114,7 +114,7 @@ module _ (p : PlantLists) (lead : RulesStepLikeEvents p) (g : PlainGoal) (goal :
   pub first-in-range : (depth : ℕ) (trace : Trace) → IsRightSystemVerdict (system_of_plant p) g depth (system.NotInductive trace) → in_ranges trace.first (ranges_of_plant p) ≡ true
   first-in-range depth trace right = (wants (system_of_plant p) g (Step depth) trace.first trace.rules right.1).in_range
 
-  pub first-wellformed : (depth : ℕ) (trace : Trace) → WellformedIffImage p → 0 < depth → IsRightSystemVerdict (system_of_plant p) g depth (system.NotInductive trace) → is_wellformed p trace.first ≡ true
+  pub first-wellformed : (depth : ℕ) (trace : Trace) → WellformedIffSafeStateImage p → 0 < depth → IsRightSystemVerdict (system_of_plant p) g depth (system.NotInductive trace) → is_wellformed p trace.first ≡ true
   first-wellformed depth trace law some right = (law trace.first (first-in-range depth trace right)).1 (begins-at-image depth trace some right.1)
 
   record HasLedOut (depth : ℕ) (trace : Trace) (first : State) : Type 0 where

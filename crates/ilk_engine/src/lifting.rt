@@ -12,7 +12,7 @@ use crate::last::{broken_family_after, hazard_after};
 use crate::verdict::Verdict;
 use ilk_decode::state_of;
 use ilk_induct::Verdict as SystemVerdict;
-use ilk_layout::wellformed_iff_image;
+use ilk_layout::wellformed_iff_safe_state_image;
 use ilk_plant::Plant;
 use ilk_unroll::Trace;
 use std::alloc::{AllocError, Global};
@@ -74,7 +74,7 @@ fn lift_not_inductive(
         (system.NotInductive trace.now)) }
 {
     plant.prove_is_plant();
-    wellformed_iff_image(plant);
+    wellformed_iff_safe_state_image(plant);
     let first = state_of(alloc, plant, &trace.first)?;
     let events = events_of_rules(alloc, plant, &trace.rules)?;
     Ok(Verdict::NotInductive { first, events })

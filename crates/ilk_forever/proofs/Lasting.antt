@@ -10,7 +10,7 @@ use Rattle.ilk_plant.specs.Start.{start}
 use Rattle.ilk_plant.proofs.Shapes.{start-shape}
 use Rattle.ilk_plant.specs.declared.state.State.{State}
 use Rattle.ilk_model.specs.Hazard.{hazard}
-use Rattle.ilk_model.specs.Meets.{Meets, keeps_all_families}
+use Rattle.ilk_model.specs.Meets.{Meets, meets_all_families}
 use Rattle.ilk_model.specs.Run.{run}
 use Rattle.ilk_model.specs.declared.event.Event.{Event}
 use Rattle.ilk_model.specs.declared.hazards.HazardAt.{HazardAt}
@@ -36,21 +36,21 @@ to-hazard p events t ends some = record {
   run = (refl, refl, ap (λ o. is_some_and o (λ u. is_some (hazard p u))) ends ∙ some);
 }
 
-to-breach : (p : PlantLists) (events : List Event) (t : State) → run p (start p) events ≡ Some t → hazard p t ≡ None → keeps_all_families p t ≡ false → HasQueriedRun p (Breach (length events))
+to-breach : (p : PlantLists) (events : List Event) (t : State) → run p (start p) events ≡ Some t → hazard p t ≡ None → meets_all_families p t ≡ false → HasQueriedRun p (Breach (length events))
 to-breach p events t ends none broken = record {
   first = start p;
   shape = start-shape p;
   events = events;
-  run = (refl, refl, ap (λ o. is_some_and o (λ u. is_none (hazard p u) && not (keeps_all_families p u))) ends ∙ and_from _ _ (ap is_none none) (ap not broken));
+  run = (refl, refl, ap (λ o. is_some_and o (λ u. is_none (hazard p u) && not (meets_all_families p u))) ends ∙ and_from _ _ (ap is_none none) (ap not broken));
 }
 
 pub forever-safe : (p : PlantLists) (steps : RulesStepLikeEvents p) (g : PlainGoal) (goal : GoalFormsMatchPlant p g) → NoHazardOrBreachEver (HasQueriedRun p) → AlwaysKeepsInvariant p
 forever-safe p steps g goal never events t ends = by_hazard (hazard p t) refl
   where
-    by_kept : hazard p t ≡ None → (b : Bool) → keeps_all_families p t ≡ b → Meets p t
+    by_kept : hazard p t ≡ None → (b : Bool) → meets_all_families p t ≡ b → Meets p t
     by_kept none true kept = record { shape = run-shape p steps g goal (start p) t events (start-shape p) ends; no_hazard = none; families_kept = kept }
     by_kept none false broken = absurd ((never (length events)).1 (to-breach p events t ends none broken))
 
     by_hazard : (o : Option HazardAt) → hazard p t ≡ o → Meets p t
-    by_hazard None none = by_kept none (keeps_all_families p t) refl
+    by_hazard None none = by_kept none (meets_all_families p t) refl
     by_hazard (Some h) some = absurd ((never (length events)).0 (to-hazard p events t ends (ap is_some some)))

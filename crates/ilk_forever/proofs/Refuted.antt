@@ -15,13 +15,13 @@ use Rattle.ilk_unroll.specs.Satisfied.{IsSatisfiable}
 use Rattle.ilk_unroll.specs.declared.queries.Wanted.{Wanted}
 use Rattle.ilk_unroll.specs.declared.queries.Wanted.TheVariants.{Hazard, Breach, Step}
 use Rattle.ilk_certificate.specs.declared.asked.Asked.{Asked}
-use Rattle.ilk_certificate.specs.Certificate.{hazard_and_breach_queries, certified_queries, IsCertificateText, IsRefuted}
+use Rattle.ilk_certificate.specs.Certificate.{hazard_and_breach_query_pair, certified_queries, IsValidCertificate, IsRefuted}
 use Rattle.ilk_unroll.specs.Evidence.{HasRun, NoHazardOrBreachEver, HoldsForNoneUpTo, ReachesHazard, ReachesBreach}
 
-each-base : (P : Wanted → Type 0) (a m n : ℕ) (rest : List Wanted) → All P (flat_map hazard_and_breach_queries (range_with_len a m) ++ rest) → a ≤ n → n < a + m → P (Hazard n) × P (Breach n)
+each-base : (P : Wanted → Type 0) (a m n : ℕ) (rest : List Wanted) → All P (flat_map hazard_and_breach_query_pair (range_with_len a m) ++ rest) → a ≤ n → n < a + m → P (Hazard n) × P (Breach n)
 each-base P a zero n rest all from below = absurd (omega arith)
 each-base P a (suc m) n rest all from below =
-    let more = flat_map hazard_and_breach_queries (range_with_len (a + 1) m) ++ rest in
+    let more = flat_map hazard_and_breach_query_pair (range_with_len (a + 1) m) ++ rest in
     let later : All P (Breach a ∷ more) = All-tail P (Hazard a) (Breach a ∷ more) all in
     elim (below_or_past a n) [
       | inl past ↦ each-base P (a + 1) m n rest (All-tail P (Breach a) more later) (omega arith) (omega arith)
@@ -29,10 +29,10 @@ each-base P a (suc m) n rest all from below =
           subst (λ k. P (Hazard k) × P (Breach k)) same (All-head P (Hazard a) (Breach a ∷ more) all, All-head P (Breach a) more later))
     ]
 
-last-query : (P : Wanted → Type 0) (a m : ℕ) (q : Wanted) → All P (flat_map hazard_and_breach_queries (range_with_len a m) ++ q ∷ []) → P q
+last-query : (P : Wanted → Type 0) (a m : ℕ) (q : Wanted) → All P (flat_map hazard_and_breach_query_pair (range_with_len a m) ++ q ∷ []) → P q
 last-query P a zero q all = All-head P q [] all
 last-query P a (suc m) q all =
-    let more = flat_map hazard_and_breach_queries (range_with_len (a + 1) m) ++ q ∷ [] in
+    let more = flat_map hazard_and_breach_query_pair (range_with_len (a + 1) m) ++ q ∷ [] in
     last-query P (a + 1) m q (All-tail P (Breach a) more (All-tail P (Hazard a) (Breach a ∷ more) all))
 
 module _ (s : PlainSystem) (g : PlainGoal) (solves : (q : Wanted) → HasRun s g q → IsSatisfiable (query_formula s g q)) where
@@ -41,7 +41,7 @@ module _ (s : PlainSystem) (g : PlainGoal) (solves : (q : Wanted) → HasRun s g
       let is = solves q has in
       false≢true (sym (refutation_refutes is.assignment (query_formula s g q) log refuted) ∙ is.satisfied)
 
-  none-has-run : (k : ℕ) (bytes : Bytes) → IsCertificateText s g k bytes → All (λ q. ¬ HasRun s g q) (certified_queries k)
+  none-has-run : (k : ℕ) (bytes : Bytes) → IsValidCertificate s g k bytes → All (λ q. ¬ HasRun s g q) (certified_queries k)
   none-has-run k bytes c =
       let Never : Wanted → Type 0 = λ q. ¬ HasRun s g q in
       let each : All (λ (a : Asked). Never a.query) c.asked = All-weaker (λ (a : Asked). IsRefuted s g a.query a.log) (λ (a : Asked). Never a.query) (λ a refuted. no-run a.query a.log refuted) c.asked c.refuted in
@@ -49,7 +49,7 @@ module _ (s : PlainSystem) (g : PlainGoal) (solves : (q : Wanted) → HasRun s g
 
   pub certified-forever : (k : ℕ) (bytes : Bytes)
       → (HoldsForNoneUpTo k (ReachesHazard (HasRun s g)) → HoldsForNoneUpTo k (ReachesBreach (HasRun s g)) → ¬ HasRun s g (Step k) → NoHazardOrBreachEver (HasRun s g))
-      → IsCertificateText s g k bytes → NoHazardOrBreachEver (HasRun s g)
+      → IsValidCertificate s g k bytes → NoHazardOrBreachEver (HasRun s g)
   certified-forever k bytes law c =
       let Never : Wanted → Type 0 = λ q. ¬ HasRun s g q in
       let none : All Never (certified_queries k) = none-has-run k bytes c in

@@ -5,7 +5,7 @@ ghost use Rattle.ilk_lines.specs.Lines.{Bytes};
 ghost use Rattle.ilk_unroll.specs.Goal.{goal_valid, step_count_is_allowed};
 ghost use Rattle.ilk_unroll.specs.declared.queries.Wanted.{Wanted};
 ghost use Rattle.ilk_unroll.specs.declared.queries.Wanted.TheVariants.{Step};
-ghost use Rattle.ilk_certificate.specs.Certificate.{IsCertificateText};
+ghost use Rattle.ilk_certificate.specs.Certificate.{IsValidCertificate};
 ghost use Rattle.ilk_unroll.specs.Evidence.{ReachesBreach, ReachesHazard, HasRun, HoldsForNoneUpTo};
 ghost use Rattle.ilk_queries.specs.Asked.{HasQueriedRun};
 ghost use Rattle.ilk_queries.specs.Goal.{goal_of_plant};
@@ -67,7 +67,7 @@ pub fn induction_implies_safety(plant: &Plant)
 /// invariant. Proof only; no run-time effect.
 pub fn certificates_imply_safety(plant: &Plant)
     ensures { (k : ℕ) (bytes : Bytes) →
-        IsCertificateText (system_of_plant plant.now) (goal_of_plant plant.now) k bytes →
+        IsValidCertificate (system_of_plant plant.now) (goal_of_plant plant.now) k bytes →
         AlwaysKeepsInvariant plant.now }
 {
     plant.prove_is_plant();

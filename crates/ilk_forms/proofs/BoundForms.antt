@@ -10,7 +10,7 @@ use Rattle.ilk_cnf.specs.Truth.{is_true}
 use Rattle.ilk_cnf.proofs.Parts.{is_true-left}
 use Rattle.ilk_ir.specs.Tree.{Tree, yes, no, is, all_of, any_of, negation, Trees, none, more, tree_holds, some_holds, tree_valid, each_valid, value_valid}
 use Rattle.ilk_forms.specs.declared.bound.VarUpperBound.{VarUpperBound}
-use Rattle.ilk_forms.specs.Bound.{next_value_if_stated, last_consecutive_value, bound_from_or_of_values}
+use Rattle.ilk_forms.specs.Bound.{next_value_if_stated, last_if_values_consecutive, bound_from_or_of_values}
 
 abbrev pub at_most : List ℕ → ℕ → ℕ → Bool
 at_most ws v k = is_some_and (slice_get ws v) (λ w. leb w k)
@@ -43,10 +43,10 @@ after-is v c d (all_of ts) e = absurd cc
 after-is v c d (any_of ts) e = absurd cc
 after-is v c d (negation t) e = absurd cc
 
-last-low : (ts : Trees) (v c k : ℕ) → last_consecutive_value v c ts ≡ Some k → c ≤ k
+last-low : (ts : Trees) (v c k : ℕ) → last_if_values_consecutive v c ts ≡ Some k → c ≤ k
 last-low none v c k e = (let same = same_Some c k e in omega arith)
 last-low (more t ts) v c k e =
-    let next = bind_some (next_value_if_stated v c t) (λ d. last_consecutive_value v d ts) k e in
+    let next = bind_some (next_value_if_stated v c t) (λ d. last_if_values_consecutive v d ts) k e in
     let one = (after-is v c next.0 t next.1).1 in
     let rest = last-low ts v next.0 k next.2 in
     omega (arith, one, rest)
@@ -102,20 +102,20 @@ first_value (Some w) k =
           )
     ]
 
-last-holds : (ts : Trees) (ws : List ℕ) (v c k : ℕ) → last_consecutive_value v c ts ≡ Some k → some_holds ws ts ≡ is_some_and (slice_get ws v) (λ w. ltb c w && leb w k)
+last-holds : (ts : Trees) (ws : List ℕ) (v c k : ℕ) → last_if_values_consecutive v c ts ≡ Some k → some_holds ws ts ≡ is_some_and (slice_get ws v) (λ w. ltb c w && leb w k)
 last-holds none ws v c k e = subst (λ (x : ℕ). false ≡ is_some_and (slice_get ws v) (λ w. ltb c w && leb w x)) (same_Some c k e) (sym (no_value (slice_get ws v) c))
 last-holds (more t ts) ws v c k e =
-    let next = bind_some (next_value_if_stated v c t) (λ d. last_consecutive_value v d ts) k e in
+    let next = bind_some (next_value_if_stated v c t) (λ d. last_if_values_consecutive v d ts) k e in
     let d = next.0 in
     let form = after-is v c d t next.1 in
     let here : tree_holds ws t ≡ is_some_and (slice_get ws v) (λ w. eqb w d) = ap (tree_holds ws) form.0 in
     let rest = last-holds ts ws v d k next.2 in
     rw (here, rest) (next_value (slice_get ws v) c d k form.1 (last-low ts v d k next.2))
 
-last-valid : (ts : Trees) (ranges : List ℕ) (v c k : ℕ) → last_consecutive_value v c ts ≡ Some k → each_valid ranges ts ≡ true → value_valid ranges v c ≡ true → value_valid ranges v k ≡ true
+last-valid : (ts : Trees) (ranges : List ℕ) (v c k : ℕ) → last_if_values_consecutive v c ts ≡ Some k → each_valid ranges ts ≡ true → value_valid ranges v c ≡ true → value_valid ranges v k ≡ true
 last-valid none ranges v c k e h first = subst (λ (x : ℕ). value_valid ranges v x ≡ true) (same_Some c k e) first
 last-valid (more t ts) ranges v c k e h first =
-    let next = bind_some (next_value_if_stated v c t) (λ d. last_consecutive_value v d ts) k e in
+    let next = bind_some (next_value_if_stated v c t) (λ d. last_if_values_consecutive v d ts) k e in
     let form = after-is v c next.0 t next.1 in
     let parts = and_parts (tree_valid ranges t) (each_valid ranges ts) h in
     last-valid ts ranges v next.0 k next.2 parts.1 (sym (ap (tree_valid ranges) form.0) ∙ parts.0)
@@ -136,12 +136,12 @@ say-bound (more (is v zero) (more t ts)) b e = subst (SayBound (more (is v zero)
     bound : ℕ → VarUpperBound
     bound k = record { var = v; most = k }
 
-    last : (k : ℕ) × (last_consecutive_value v 0 (more t ts) ≡ Some k) × (bound k ≡ b)
-    last = mapped-Some (λ k. record { var = v; most = k }) (last_consecutive_value v 0 (more t ts)) b e
+    last : (k : ℕ) × (last_if_values_consecutive v 0 (more t ts) ≡ Some k) × (bound k ≡ b)
+    last = mapped-Some (λ k. record { var = v; most = k }) (last_if_values_consecutive v 0 (more t ts)) b e
 
     some : 0 < last.0
     some =
-        let next = bind_some (next_value_if_stated v 0 t) (λ d. last_consecutive_value v d ts) last.0 last.1 in
+        let next = bind_some (next_value_if_stated v 0 t) (λ d. last_if_values_consecutive v d ts) last.0 last.1 in
         let one = (after-is v 0 next.0 t next.1).1 in
         let rest = last-low ts v next.0 last.0 next.2 in
         omega (arith, one, rest)

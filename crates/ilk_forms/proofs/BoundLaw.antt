@@ -19,7 +19,7 @@ use Rattle.ilk_forms.specs.declared.copy.VarValueAndBoundLits.{VarValueAndBoundL
 use Rattle.ilk_forms.specs.Copy.{LiteralsEncode}
 use Rattle.ilk_forms.specs.declared.bound.VarUpperBound.{VarUpperBound}
 use Rattle.ilk_forms.specs.Leaf.{has_lits_within_vars, ranges_of}
-use Rattle.ilk_forms.specs.Bound.{bound_from_or_of_values, single_var_bound_lit, bound_lit, or_of_values_bound_lit, has_bound_lit, or_of_values_has_lit}
+use Rattle.ilk_forms.specs.Bound.{bound_from_or_of_values, bound_lit_of_var, bound_lit, or_of_values_bound_lit, copy_has_bound_lit, has_bound_lit_for_or}
 use Rattle.ilk_forms.proofs.BoundForms.{Stands, at_most, below, say-bound, stands-as}
 
 shift : (i j : ℕ) → ltb i j ≡ ltb (suc i) (suc j)
@@ -64,7 +64,7 @@ pick_greatest_positive-stands a (Some l) range w k e less h = (refl, is_true-neg
 column-says : (a : List Bool) (column : VarValueAndBoundLits) (range w k : ℕ) →
     map (is_true a) column.values ≡ one_hot_bits w 0 range →
     map (is_true a) column.bounds ≡ bound_bits w 1 (bound_count range) → w < range → 0 < k →
-    Stands a (single_var_bound_lit column k) (eqb (k + 2) range || ltb (k - 1) (bound_count range)) (leb w k)
+    Stands a (bound_lit_of_var column k) (eqb (k + 2) range || ltb (k - 1) (bound_count range)) (leb w k)
 column-says a column range w k values bounds less some =
     subst
     (λ (n : ℕ). Stands a
@@ -85,7 +85,7 @@ column-says a column range w k values bounds less some =
 pub bound-says : (a : List Bool) (columns : List VarValueAndBoundLits) (ranges ws : List ℕ) (v k : ℕ) →
     LiteralsEncode a columns ranges ws → in_ranges ws ranges ≡ true →
     value_valid (ranges_of columns) v k ≡ true → 0 < k →
-    Stands a (bound_lit columns v k) (has_bound_lit ranges v k) (at_most ws v k)
+    Stands a (bound_lit columns v k) (copy_has_bound_lit ranges v k) (at_most ws v k)
 bound-says a [] ranges ws v k h inside valid some = absurd (false≢true valid)
 bound-says a (column ∷ columns) [] ws v k h inside valid some = absurd h
 bound-says a (column ∷ columns) (range ∷ ranges) [] v k h inside valid some = absurd h
@@ -96,7 +96,7 @@ bound-says a (column ∷ columns) (range ∷ ranges) (w ∷ ws) (suc v) k h insi
     let parts = and_parts (ltb w range) (in_ranges ws ranges) inside in
     bound-says a columns ranges ws v k h.2 parts.1 valid some
 
-column-in : (n : ℕ) (column : VarValueAndBoundLits) (k : ℕ) (l : Literal) → is_clause_over n column.values ≡ true → is_clause_over n column.bounds ≡ true → single_var_bound_lit column k ≡ Some l → is_lit_over n l ≡ true
+column-in : (n : ℕ) (column : VarValueAndBoundLits) (k : ℕ) (l : Literal) → is_clause_over n column.values ≡ true → is_clause_over n column.bounds ≡ true → bound_lit_of_var column k ≡ Some l → is_lit_over n l ≡ true
 column-in n column k l values bounds = by_case (eqb (k + 2) (length column.values))
   where
     by_case : (b : Bool) → cond b (option_map negated_lit (slice_get column.values (k + 1))) (slice_get column.bounds (k - 1)) ≡ Some l → is_lit_over n l ≡ true
@@ -108,7 +108,7 @@ column-in n column k l values bounds = by_case (eqb (k + 2) (length column.value
 
 pub bound-in : (columns : List VarValueAndBoundLits) (v k n : ℕ) (l : Literal) → has_lits_within_vars n columns ≡ true → bound_lit columns v k ≡ Some l → is_lit_over n l ≡ true
 bound-in columns v k n l inside e =
-    let c = bind_some (slice_get columns v) (λ column. single_var_bound_lit column k) l e in
+    let c = bind_some (slice_get columns v) (λ column. bound_lit_of_var column k) l e in
     let column = c.0 in
     let here = and_parts (is_clause_over n column.values) (is_clause_over n column.bounds) (list_all-slice_get (λ (x : VarValueAndBoundLits). is_clause_over n x.values && is_clause_over n x.bounds) columns v column inside c.1) in
     column-in n column k l here.0 here.1 c.2
@@ -120,14 +120,14 @@ any-in ts columns n l inside e =
 
 pub any-says : (ts : Trees) (a : List Bool) (columns : List VarValueAndBoundLits) (ranges ws : List ℕ) →
     ((v k : ℕ) → value_valid (ranges_of columns) v k ≡ true → 0 < k →
-    Stands a (bound_lit columns v k) (has_bound_lit ranges v k) (at_most ws v k)) →
+    Stands a (bound_lit columns v k) (copy_has_bound_lit ranges v k) (at_most ws v k)) →
     each_valid (ranges_of columns) ts ≡ true →
-    Stands a (or_of_values_bound_lit columns ts) (or_of_values_has_lit ranges ts) (some_holds ws ts)
+    Stands a (or_of_values_bound_lit columns ts) (has_bound_lit_for_or ranges ts) (some_holds ws ts)
 any-says ts a columns ranges ws bounds valid = by_case (bound_from_or_of_values ts) refl
   where
-    by_case : (o : Option VarUpperBound) → bound_from_or_of_values ts ≡ o → Stands a (option_and_then (λ b. bound_lit columns b.var b.most) o) (is_some_and o (λ b. has_bound_lit ranges b.var b.most)) (some_holds ws ts)
+    by_case : (o : Option VarUpperBound) → bound_from_or_of_values ts ≡ o → Stands a (option_and_then (λ b. bound_lit columns b.var b.most) o) (is_some_and o (λ b. copy_has_bound_lit ranges b.var b.most)) (some_holds ws ts)
     by_case None e = refl
     by_case (Some b) e =
         let said = say-bound ts b e in
-        let has = has_bound_lit ranges b.var b.most in
+        let has = copy_has_bound_lit ranges b.var b.most in
         stands-as a (bound_lit columns b.var b.most) has (at_most ws b.var b.most) has (some_holds ws ts) refl (sym (said.holds ws)) (bounds b.var b.most (said.valid (ranges_of columns) valid) said.some)

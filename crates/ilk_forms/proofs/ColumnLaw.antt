@@ -9,13 +9,13 @@ use Rattle.ilk_cnf.specs.Extends.{ExtensionsAreExactly, EqualsGivenValues, AreVa
 use Rattle.ilk_cnf.proofs.Literals.{are_clauses_over-more}
 use Rattle.ilk_cnf.proofs.Parts.{in_turn, in_words, one_by_one}
 use Rattle.ilk_cnf.proofs.Extending.{no_more_if, only_from_if}
-use Rattle.ilk_ints.specs.Bits.{bit_count, lowest_bits_of, bits_at}
+use Rattle.ilk_ints.specs.Bits.{bit_count, lowest_bits_of, assigned_bits_from_var}
 use Rattle.ilk_ints.specs.Number.{number_part, AreBitsInRange}
 use Rattle.ilk_ints.proofs.BitsLaw.{length-bits}
-use Rattle.ilk_ints.proofs.NumberLaw.{number-law, non_value_clauses-in, bits_at-new}
+use Rattle.ilk_ints.proofs.NumberLaw.{number-law, non_value_clauses-in, assigned_bits_from_var-new}
 use Rattle.ilk_ir.specs.System.{in_ranges}
 use Rattle.ilk_ints.specs.Named.{value_lits_part, bound_lits_part, one_hot_var_bits, bound_vars_bits, bound_count, one_hot_bits}
-use Rattle.ilk_ints.proofs.ValuesLaw.{value_lits_part-low, value_lits_part-law, value_lits_part-say, bits_at-left}
+use Rattle.ilk_ints.proofs.ValuesLaw.{value_lits_part-low, value_lits_part-law, value_lits_part-say, assigned_bits_from_var-left}
 use Rattle.ilk_ints.proofs.BoundsPart.{bound_lits_part-law}
 use Rattle.ilk_ints.proofs.TableParts.{value_lits_part-in, value_lits_part-lits_in, length-value_lits_part, bound_lits_part-low, bound_lits_part-in}
 use Rattle.ilk_forms.specs.Copy.{numbers_part, all_var_lits_part, copy_part, numbers_bits, copy_value_bound_bits, copy_bit_count, var_lits_part, BitsEncode}
@@ -75,7 +75,7 @@ pub BitsEncode-left : (ranges ws : List ℕ) (a c : List Bool) (first : ℕ) →
 BitsEncode-left [] ws a c first fits h = tt
 BitsEncode-left (range ∷ ranges) [] a c first fits h = absurd h
 BitsEncode-left (range ∷ ranges) (w ∷ ws) a c first fits h =
-    (bits_at-left (bit_count range) a c first (omega arith) ∙ h.0, BitsEncode-left ranges ws a c (first + bit_count range) (omega arith) h.1)
+    (assigned_bits_from_var-left (bit_count range) a c first (omega arith) ∙ h.0, BitsEncode-left ranges ws a c (first + bit_count range) (omega arith) h.1)
 
 pub BitsEncode-new : (ranges ws : List ℕ) (a c : List Bool) (first : ℕ) → length a + 1 ≡ first → in_ranges ws ranges ≡ true → BitsEncode (a ++ (numbers_bits ranges ws ++ c)) first ranges ws
 BitsEncode-new [] ws a c first size h = tt
@@ -87,16 +87,16 @@ BitsEncode-new (range ∷ ranges) (w ∷ ws) a c first size h =
     let long : length qs ≡ b = length-bits b w in
     let whole : (a ++ qs) ++ (rest ++ c) ≡ a ++ ((qs ++ rest) ++ c) = append_assoc a qs (rest ++ c) ∙ ap (λ (u : List Bool). a ++ u) (sym (append_assoc qs rest c)) in
     let fits : first + b ≤ length (a ++ qs) + 1 = omega (arith, length-append a qs, long, size) in
-    let here : bits_at (a ++ qs) first b ≡ qs = ap (λ (k : ℕ). bits_at (a ++ qs) first k) (sym long) ∙ bits_at-new qs a first size in
-    let kept : bits_at ((a ++ qs) ++ (rest ++ c)) first b ≡ qs = bits_at-left b (a ++ qs) (rest ++ c) first fits ∙ here in
+    let here : assigned_bits_from_var (a ++ qs) first b ≡ qs = ap (λ (k : ℕ). assigned_bits_from_var (a ++ qs) first k) (sym long) ∙ assigned_bits_from_var-new qs a first size in
+    let kept : assigned_bits_from_var ((a ++ qs) ++ (rest ++ c)) first b ≡ qs = assigned_bits_from_var-left b (a ++ qs) (rest ++ c) first fits ∙ here in
     let next : length (a ++ qs) + 1 ≡ first + b = omega (arith, length-append a qs, long, size) in (
-      subst (λ (u : List Bool). bits_at u first b ≡ qs) whole kept,
+      subst (λ (u : List Bool). assigned_bits_from_var u first b ≡ qs) whole kept,
       subst (λ (u : List Bool). BitsEncode u (first + b) ranges ws) whole (BitsEncode-new ranges ws (a ++ qs) c (first + b) next (and_parts _ _ h).1),
     )
 
 pub column-law : (a : List Bool) (first range w n : ℕ) → length a ≡ n → 0 < first →
     first + bit_count range ≤ n + 1 → range ≤ 2 ^ bit_count range → w < range →
-    bits_at a first (bit_count range) ≡ lowest_bits_of (bit_count range) w →
+    assigned_bits_from_var a first (bit_count range) ≡ lowest_bits_of (bit_count range) w →
     ExtensionsAreExactly a
     (bound_lits_part first range (value_lits_part first range n).lits
     (value_lits_part first range n).part.vars).part.vars
@@ -113,7 +113,7 @@ column-law a first range w n size low high enough less is =
     let one : ExtensionsAreExactly a m v.part.clauses (EqualsGivenValues e) = value_lits_part-law a first range w n size low high enough less is in
     let long : length (a ++ e) ≡ m = one.sized e refl in
     let grows : n ≤ m = value_lits_part-low first range n in
-    let kept : bits_at (a ++ e) first (bit_count range) ≡ lowest_bits_of (bit_count range) w = bits_at-left (bit_count range) a e first (rw size high) ∙ is in
+    let kept : assigned_bits_from_var (a ++ e) first (bit_count range) ≡ lowest_bits_of (bit_count range) w = assigned_bits_from_var-left (bit_count range) a e first (rw size high) ∙ is in
     let end : a ++ (e ++ []) ≡ a ++ e = ap (λ (u : List Bool). a ++ u) (append-nil e) in
     let says : map (is_true (a ++ e)) v.lits ≡ one_hot_bits w 0 range = subst (λ (u : List Bool). map (is_true u) v.lits ≡ one_hot_bits w 0 range) end (value_lits_part-say a [] first range w n size high enough less is) in
     let two : ExtensionsAreExactly (a ++ e) b.part.vars b.part.clauses (EqualsGivenValues (bound_vars_bits range w 1 (bound_count range))) =

@@ -9,7 +9,7 @@ use Rattle.ilk_cnf.specs.Literal.{Literal}
 use Rattle.ilk_cnf.specs.Part.{FormulaPart, empty_part, or_gate_part}
 use Rattle.ilk_ints.specs.Bits.{bit_count}
 use Rattle.ilk_ints.specs.AtMost.{at_most_part, at_most_lit, highest_bit_decides}
-use Rattle.ilk_ints.specs.Named.{value_lits_part, bound_count, bound_lits_from, bound_lits_part}
+use Rattle.ilk_ints.specs.Named.{value_lits_part, bound_count, bound_lits_part_from, bound_lits_part}
 use Rattle.ilk_forms.specs.Copy.{numbers_part, var_lits_part, all_var_lits_part, copy_part, copy_bit_count}
 use Rattle.ilk_forms.proofs.ColumnLaw.{numbers-end}
 use Rattle.ilk_ints.proofs.ValuesLaw.{values-low}
@@ -39,18 +39,18 @@ at_most-few range k n below equal = by_case (highest_bit_decides range k)
     by_case true = omega arith
     by_case false = omega arith
 
-bound_lits_from-few : (es : List Literal) (first range k n : ℕ) (below : Literal) → (bound_lits_from first range below k es n).part.vars ≤ n + length es
-bound_lits_from-few [] first range k n below = omega arith
-bound_lits_from-few (e ∷ es) first range k n below =
+bound_lits_part_from-few : (es : List Literal) (first range k n : ℕ) (below : Literal) → (bound_lits_part_from first range below k es n).part.vars ≤ n + length es
+bound_lits_part_from-few [] first range k n below = omega arith
+bound_lits_part_from-few (e ∷ es) first range k n below =
     let m = (at_most_part range k below e n).vars in
     let one = at_most-few range k n below e in
-    let rest = bound_lits_from-few es first range (k + 1) m (at_most_lit first range k n) in
+    let rest = bound_lits_part_from-few es first range (k + 1) m (at_most_lit first range k n) in
     omega arith
 
 bounds-few : (values : List Literal) (first range n : ℕ) → (bound_lits_part first range values n).part.vars ≤ n + bound_count range
 bounds-few [] first range n = omega arith
 bounds-few (e ∷ es) first range n =
-    let few = bound_lits_from-few (take (bound_count range) es) first range 1 n e in
+    let few = bound_lits_part_from-few (take (bound_count range) es) first range 1 n e in
     omega (arith, few, length-take (bound_count range) es)
 
 values-two : (first range n : ℕ) → eqb range 2 ≡ true → (value_lits_part first range n).part.vars ≡ n

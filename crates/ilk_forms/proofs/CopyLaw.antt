@@ -3,7 +3,7 @@ use Rattle.std.proofs.Common.{◌≡◌, ℕ, ◌+◌, ◌^◌, ◌<◌, ◌≤�
 use Rattle.std.specs.List.{list_all}
 use Rattle.std.proofs.lemmas.List.{append-nil}
 use Rattle.std.proofs.lemmas.Bool.{and_parts, and_from, le-leb, ltb-true}
-use Rattle.ilk_cnf.specs.Formula.{Formula, with_vars_and_clauses, with_var_count}
+use Rattle.ilk_cnf.specs.Formula.{Formula, with_var_count_and_clauses, with_var_count}
 use Rattle.ilk_cnf.specs.Extends.{ExtensionsAreExactly, EqualsGivenValues, AreValuesOfConsecutiveParts}
 use Rattle.ilk_cnf.specs.Part.{FormulaPart, with_part, clauses_from_lists}
 use Rattle.ilk_cnf.proofs.Parts.{in_turn, in_words}
@@ -15,11 +15,11 @@ use Rattle.ilk_ints.proofs.TableParts.{bit_count-enough}
 use Rattle.ilk_forms.specs.Copy.{numbers_part, all_var_lits_part, copy_part, numbers_bits, copy_value_bound_bits, copy_bit_count, var_lits_part, BitsEncode, AreCopyBits}
 use Rattle.ilk_forms.proofs.ColumnLaw.{AreValues, BitsEncode-new, column-low, columns-law, columns-low, numbers-end, numbers-in, numbers-law, numbers-low, ranges_fit}
 
-pub number_there : (f g : Formula) (used range count : ℕ) → count ≡ bit_count range → g ≡ with_vars_and_clauses f f.vars (clauses_from_lists (non_value_clauses (used + 1) range)) →
+pub number_there : (f g : Formula) (used range count : ℕ) → count ≡ bit_count range → g ≡ with_var_count_and_clauses f f.vars (clauses_from_lists (non_value_clauses (used + 1) range)) →
     with_var_count g (used + count) ≡ with_part (with_var_count f used) (number_part range used)
 number_there f g used range count counted made =
     ap (λ (k : Formula). with_var_count k (used + count)) made
-    ∙ ap (λ (k : ℕ). with_var_count (with_vars_and_clauses f f.vars (clauses_from_lists (non_value_clauses (used + 1) range))) (used + k)) counted
+    ∙ ap (λ (k : ℕ). with_var_count (with_var_count_and_clauses f f.vars (clauses_from_lists (non_value_clauses (used + 1) range))) (used + k)) counted
 
 pub numbers_step : (f g : Formula) (range : ℕ) (all rest : List ℕ) → all ≡ range ∷ rest → g ≡ with_part f (number_part range f.vars) → with_part g (numbers_part rest g.vars) ≡ with_part f (numbers_part all f.vars)
 numbers_step f g range all rest split made =

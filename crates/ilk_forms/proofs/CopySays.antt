@@ -3,9 +3,9 @@ use Rattle.std.proofs.lemmas.List.{append-nil}
 use Rattle.std.proofs.lemmas.Bool.{and_parts, leb-true, ltb-true}
 use Rattle.ilk_cnf.specs.Truth.{is_true}
 use Rattle.ilk_cnf.specs.Extends.{ExtensionsAreExactly, EqualsGivenValues}
-use Rattle.ilk_ints.specs.Bits.{bit_count, lowest_bits_of, bits_at}
+use Rattle.ilk_ints.specs.Bits.{bit_count, lowest_bits_of, assigned_bits_from_var}
 use Rattle.ilk_ints.specs.Named.{value_lits_part, bound_lits_part, one_hot_var_bits, bound_vars_bits, bound_count, one_hot_bits, bound_bits}
-use Rattle.ilk_ints.proofs.ValuesLaw.{value_lits_part-low, value_lits_part-law, value_lits_part-say, bits_at-left}
+use Rattle.ilk_ints.proofs.ValuesLaw.{value_lits_part-low, value_lits_part-law, value_lits_part-say, assigned_bits_from_var-left}
 use Rattle.ilk_ints.proofs.BoundsPart.{bound_lits_part-say}
 use Rattle.ilk_ints.proofs.TableParts.{value_lits_part-lits_in, length-value_lits_part}
 use Rattle.ilk_ir.specs.System.{in_ranges}
@@ -33,7 +33,7 @@ columns-say (range ∷ ranges) (w ∷ ws) a c first n size low high fit inside h
     let one : ExtensionsAreExactly a m v.part.clauses (EqualsGivenValues e) = value_lits_part-law a first range w n size low reach enough less has.0 in
     let long : length (a ++ e) ≡ m = one.sized e refl in
     let grows : n ≤ m = value_lits_part-low first range n in
-    let kept : bits_at (a ++ e) first (bit_count range) ≡ lowest_bits_of (bit_count range) w = bits_at-left (bit_count range) a e first (rw size reach) ∙ has.0 in
+    let kept : assigned_bits_from_var (a ++ e) first (bit_count range) ≡ lowest_bits_of (bit_count range) w = assigned_bits_from_var-left (bit_count range) a e first (rw size reach) ∙ has.0 in
     let end : a ++ (e ++ []) ≡ a ++ e = ap (λ (u : List Bool). a ++ u) (append-nil e) in
     let says : map (is_true (a ++ e)) v.lits ≡ one_hot_bits w 0 range = subst (λ (u : List Bool). map (is_true u) v.lits ≡ one_hot_bits w 0 range) end (value_lits_part-say a [] first range w n size reach enough less has.0) in
     let both = column-law a first range w n size low reach enough less has.0 in

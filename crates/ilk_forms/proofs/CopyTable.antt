@@ -6,7 +6,7 @@ use Rattle.ilk_cnf.specs.Formula.{is_clause_over}
 use Rattle.ilk_cnf.proofs.Literals.{is_lit_over-more, is_clause_over-more}
 use Rattle.ilk_ints.specs.Bits.{bit_count}
 use Rattle.ilk_ints.specs.AtMost.{at_most_part, at_most_lit}
-use Rattle.ilk_ints.specs.Named.{value_lits_part, bound_count, bound_lits_from, bound_lits_part}
+use Rattle.ilk_ints.specs.Named.{value_lits_part, bound_count, bound_lits_part_from, bound_lits_part}
 use Rattle.ilk_ints.proofs.AtMostLaw.{bits_some}
 use Rattle.ilk_ints.proofs.ValuesLaw.{value_lits_part-low}
 use Rattle.ilk_ints.proofs.BoundsLaw.{at_most-low, at_most-is_lit_over, bounds-low}
@@ -18,13 +18,13 @@ use Rattle.ilk_forms.proofs.Reading.{has_lits_within_vars-more}
 
 bounds-lits_in : (es : List Literal) (first range k n : ℕ) (below : Literal) → 0 < first →
     0 < bit_count range → first + bit_count range ≤ n + 1 →
-    is_clause_over (bound_lits_from first range below k es n).part.vars (bound_lits_from first range below k es n).lits
+    is_clause_over (bound_lits_part_from first range below k es n).part.vars (bound_lits_part_from first range below k es n).lits
     ≡ true
 bounds-lits_in [] first range k n below low some high = refl
 bounds-lits_in (e ∷ es) first range k n below low some high =
     let m = (at_most_part range k below e n).vars in
     let l = at_most_lit first range k n in
-    let end = (bound_lits_from first range l (k + 1) es m).part.vars in
+    let end = (bound_lits_part_from first range l (k + 1) es m).part.vars in
     let grows : n ≤ m = at_most-low range k n below e in
     and_from _ _ (is_lit_over-more m end l (bounds-low es first range (k + 1) m l) (at_most-is_lit_over first range k n below e low some high)) (bounds-lits_in es first range (k + 1) m l low some (omega (arith, high, grows)))
 
@@ -36,7 +36,7 @@ bound_lits_part-lits_in (e ∷ es) first range n low high enough =
       | inl more ↦ bounds-lits_in (take (bound_count range) es) first range 1 n e low (bits_some range (bit_count range) more enough) high
       | inr one ↦
           (let none : 0 ≡ bound_count range = omega arith in
-          subst (λ (j : ℕ). is_clause_over (bound_lits_from first range e 1 (take j es) n).part.vars (bound_lits_from first range e 1 (take j es) n).lits ≡ true) none refl)
+          subst (λ (j : ℕ). is_clause_over (bound_lits_part_from first range e 1 (take j es) n).part.vars (bound_lits_part_from first range e 1 (take j es) n).lits ≡ true) none refl)
     ]
 
 column-lits_in : (first range n : ℕ) → 0 < first → first + bit_count range ≤ n + 1 → range ≤ 2 ^ bit_count range → has_lits_within_vars (var_lits_part first range n).part.vars ((var_lits_part first range n).column ∷ []) ≡ true

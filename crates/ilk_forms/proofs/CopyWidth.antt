@@ -1,7 +1,7 @@
 use Rattle.std.proofs.Common.{◌≡◌, ℕ, ◌+◌, ◌*◌, ◌≤◌, List, [], ◌∷◌, ap, ◌∙◌, arith}
 use Rattle.std.specs.Prelude.{sum}
 use Rattle.ilk_cnf.specs.Literal.{Literal}
-use Rattle.ilk_cnf.specs.Formula.{Formula, with_vars_and_clauses, with_var_count}
+use Rattle.ilk_cnf.specs.Formula.{Formula, with_var_count_and_clauses, with_var_count}
 use Rattle.ilk_cnf.specs.Part.{FormulaPart, with_part, clauses_from_lists}
 use Rattle.ilk_ints.specs.Bits.{bit_count}
 use Rattle.ilk_ints.proofs.TableParts.{named-end}
@@ -25,7 +25,7 @@ copy-end ranges n =
 pub width-few : (ranges : List ℕ) → copy_var_count ranges ≤ 2 * sum ranges
 width-few ranges = omega (arith, copy-end ranges 0, copy-few ranges 0)
 
-pub added-there : (f h : Formula) (n m : ℕ) (p : FormulaPart) → h.vars ≡ f.vars → with_var_count h m ≡ with_part (with_var_count f n) p → h ≡ with_vars_and_clauses f f.vars (clauses_from_lists p.clauses)
+pub added-there : (f h : Formula) (n m : ℕ) (p : FormulaPart) → h.vars ≡ f.vars → with_var_count h m ≡ with_part (with_var_count f n) p → h ≡ with_var_count_and_clauses f f.vars (clauses_from_lists p.clauses)
 added-there f h n m p same made =
     ap (λ (k : ℕ). let g : Formula = record { vars = k; clauses = h.clauses } in g) same
     ∙ ap (λ (cs : List (List Literal)). let g : Formula = record { vars = f.vars; clauses = cs } in g) (ap (λ (k : Formula). k.clauses) made)

@@ -14,13 +14,13 @@ use Rattle.ilk_cnf.proofs.Literals.{is_clause_over-more, are_clauses_over-more}
 use Rattle.ilk_cnf.proofs.Parts.{is_clause_true-left}
 use Rattle.ilk_cnf.proofs.Extending.{no_more_if, if_from_only, if_then_if}
 use Rattle.ilk_ints.specs.Named.{PartWithLits}
-use Rattle.ilk_ir.specs.Tree.{Tree, yes, no, is, all_of, any_of, negation, Trees, none, more, tree_holds, each_holds, some_holds, tree_valid, each_valid, var_has_value}
+use Rattle.ilk_ir.specs.Tree.{Tree, yes, no, is, all_of, any_of, negation, Trees, none, more, tree_holds, each_holds, some_holds, tree_valid, each_valid, is_value_of_var}
 use Rattle.ilk_forms.specs.declared.copy.VarValueAndBoundLits.{VarValueAndBoundLits}
 use Rattle.ilk_forms.specs.Leaf.{value_lit, has_lits_within_vars, ranges_of}
-use Rattle.ilk_forms.specs.Bound.{or_of_values_bound_lit, or_of_values_has_lit}
+use Rattle.ilk_forms.specs.Bound.{or_of_values_bound_lit, has_bound_lit_for_or}
 use Rattle.ilk_forms.specs.Gathered.{bool_equals, with_sign, forms_to_and_or_lits}
 use Rattle.ilk_forms.specs.Truths.{VarAndLitTruths, gate_truth, truths_each, demand_of_bits, demand_each_bits}
-use Rattle.ilk_forms.specs.Demand.{one_clause_part, clause_of_two_lists_part, clause_if_lit_else_part, demand_of, demand_each}
+use Rattle.ilk_forms.specs.Demand.{one_clause_part, clause_of_two_lists_part, clause_if_lit_given_else, demand_of, demand_each}
 use Rattle.ilk_forms.proofs.BoundForms.{Stands}
 use Rattle.ilk_forms.proofs.BoundLaw.{any-in, any-says}
 use Rattle.ilk_forms.proofs.Reading.{Reads, reads-more, has_lits_within_vars-more, value_lit-in}
@@ -52,10 +52,10 @@ signed_clause-fits : (first : List Literal) (positive : Bool) (l : Literal) (n :
 signed_clause-fits first positive l n f h =
     clause-fits (first ++ with_sign positive l ∷ []) n (joined-in first (with_sign positive l ∷ []) n f (and_from _ _ (signed-in positive n l h) refl))
 
-clause_if_lit_else_part-fits : (first : List Literal) (positive : Bool) (o : Option Literal) (n : ℕ) (p : FormulaPart) → is_clause_over n first ≡ true → ((l : Literal) → o ≡ Some l → is_lit_over n l ≡ true) → PartFits n p
-    → PartFits n (clause_if_lit_else_part first positive o n p)
-clause_if_lit_else_part-fits first positive None n p f inside h = h
-clause_if_lit_else_part-fits first positive (Some l) n p f inside h = signed_clause-fits first positive l n f (inside l refl)
+clause_if_lit_given_else-fits : (first : List Literal) (positive : Bool) (o : Option Literal) (n : ℕ) (p : FormulaPart) → is_clause_over n first ≡ true → ((l : Literal) → o ≡ Some l → is_lit_over n l ≡ true) → PartFits n p
+    → PartFits n (clause_if_lit_given_else first positive o n p)
+clause_if_lit_given_else-fits first positive None n p f inside h = h
+clause_if_lit_given_else-fits first positive (Some l) n p f inside h = signed_clause-fits first positive l n f (inside l refl)
 
 mutual
   pub demand_of-fits : (t : Tree) (columns : List VarValueAndBoundLits) (first : List Literal) (positive : Bool) (n : ℕ) →
@@ -70,9 +70,9 @@ mutual
   demand_of-fits (all_of ts) columns first false n h f k = some-fits first n (forms_to_and_or_lits columns false false ts n) f (forms_to_and_or_lits-fits ts columns false false n h k)
   demand_of-fits (any_of ts) columns first true n h f k =
       let g = forms_to_and_or_lits columns false true ts n in
-      clause_if_lit_else_part-fits first true (or_of_values_bound_lit columns ts) n (clause_of_two_lists_part first g) f (λ l e. any-in ts columns n l h e) (some-fits first n g f (forms_to_and_or_lits-fits ts columns false true n h k))
+      clause_if_lit_given_else-fits first true (or_of_values_bound_lit columns ts) n (clause_of_two_lists_part first g) f (λ l e. any-in ts columns n l h e) (some-fits first n g f (forms_to_and_or_lits-fits ts columns false true n h k))
   demand_of-fits (any_of ts) columns first false n h f k =
-      clause_if_lit_else_part-fits first false (or_of_values_bound_lit columns ts) n (demand_each columns first false ts n) f (λ l e. any-in ts columns n l h e) (demand_each-fits ts columns first false n h f k)
+      clause_if_lit_given_else-fits first false (or_of_values_bound_lit columns ts) n (demand_each columns first false ts n) f (λ l e. any-in ts columns n l h e) (demand_each-fits ts columns first false n h f k)
   demand_of-fits (negation t) columns first positive n h f k = demand_of-fits t columns first (not positive) n h f k
 
   pub demand_each-fits :
@@ -135,16 +135,16 @@ some-law a first g t truth n size f fits says means =
     (λ _. no_more_if (a ++ e) m (ls ∷ []) ok long one) in
     subst (λ (d : List Bool). ExtensionsAreExactly a m (g.part.clauses ++ ls ∷ []) (PassesAndEqualsGivenValues ok d)) (append-nil e) both
 
-clause_if_lit_else_part-law :
+clause_if_lit_given_else-law :
     (a : List Bool) (first : List Literal) (positive : Bool) (o : Option Literal) (has truth : Bool) (n : ℕ)
     (p : FormulaPart) (bits : List Bool) → length a ≡ n →
     Stands a o has truth →
     ExtensionsAreExactly a p.vars p.clauses (PassesAndEqualsGivenValues (is_clause_true a first || bool_equals positive truth) bits) →
-    ExtensionsAreExactly a (clause_if_lit_else_part first positive o n p).vars (clause_if_lit_else_part first positive o n p).clauses
+    ExtensionsAreExactly a (clause_if_lit_given_else first positive o n p).vars (clause_if_lit_given_else first positive o n p).clauses
     (PassesAndEqualsGivenValues (is_clause_true a first || bool_equals positive truth) (cond has [] bits))
-clause_if_lit_else_part-law a first positive None has truth n p bits size h law =
+clause_if_lit_given_else-law a first positive None has truth n p bits size h law =
     subst (λ (b : Bool). ExtensionsAreExactly a p.vars p.clauses (PassesAndEqualsGivenValues (is_clause_true a first || bool_equals positive truth) (cond {A = List Bool} b [] bits))) (sym h) law
-clause_if_lit_else_part-law a first positive (Some l) has truth n p bits size h law =
+clause_if_lit_given_else-law a first positive (Some l) has truth n p bits size h law =
     subst
     (λ (b : Bool). ExtensionsAreExactly a n ((first ++ with_sign positive l ∷ []) ∷ [])
     (PassesAndEqualsGivenValues (is_clause_true a first || bool_equals positive truth) (cond {A = List Bool} b [] bits)))
@@ -169,7 +169,7 @@ mutual
   demand_of-law no columns ranges ws first true a n size r f k = clause-law a first n size
   demand_of-law no columns ranges ws first false a n size r f k = no_clause-law a first n size
   demand_of-law (is v c) columns ranges ws first positive a n size r f k =
-      value_lit-law a first (with_sign positive (value_lit columns v c)) (bool_equals positive (var_has_value ws v c)) n size (signed-says a positive (value_lit columns v c) ∙ ap (bool_equals positive) (r.says v c k))
+      value_lit-law a first (with_sign positive (value_lit columns v c)) (bool_equals positive (is_value_of_var ws v c)) n size (signed-says a positive (value_lit columns v c) ∙ ap (bool_equals positive) (r.says v c k))
   demand_of-law (all_of ts) columns ranges ws first true a n size r f k =
       subst
       (λ (q : Bool). ExtensionsAreExactly a (demand_each columns first true ts n).vars
@@ -185,7 +185,7 @@ mutual
   demand_of-law (any_of ts) columns ranges ws first true a n size r f k =
       let g = forms_to_and_or_lits columns false true ts n in
       let s = truths_each ranges ws false true ts in
-      clause_if_lit_else_part-law a first true (or_of_values_bound_lit columns ts) (or_of_values_has_lit ranges ts) (some_holds ws ts) n
+      clause_if_lit_given_else-law a first true (or_of_values_bound_lit columns ts) (has_bound_lit_for_or ranges ts) (some_holds ws ts) n
       (clause_of_two_lists_part first g) s.bits size (any-says ts a columns ranges ws r.bounded k)
       (some-law a first g s (some_holds ws ts) n size f
       (forms_to_and_or_lits-fits ts columns false true n (here columns ranges ws a n size r) k)
@@ -194,7 +194,7 @@ mutual
   demand_of-law (any_of ts) columns ranges ws first false a n size r f k =
       let p = demand_each columns first false ts n in
       let bits = demand_each_bits ranges ws false ts in
-      clause_if_lit_else_part-law a first false (or_of_values_bound_lit columns ts) (or_of_values_has_lit ranges ts) (some_holds ws ts) n p bits
+      clause_if_lit_given_else-law a first false (or_of_values_bound_lit columns ts) (has_bound_lit_for_or ranges ts) (some_holds ws ts) n p bits
       size (any-says ts a columns ranges ws r.bounded k)
       (subst (λ (q : Bool). ExtensionsAreExactly a p.vars p.clauses (PassesAndEqualsGivenValues (is_clause_true a first || q) bits))
       (some-are ws false ts) (demand_each-law ts columns ranges ws first false a n size r f k))

@@ -9,8 +9,8 @@ use Rattle.ilk_ir.specs.Tree.{Tree, yes, no, is, all_of, any_of, negation, Trees
 use Rattle.ilk_forms.specs.declared.copy.VarValueAndBoundLits.{VarValueAndBoundLits}
 use Rattle.ilk_forms.specs.Size.{tree_size, trees_size}
 use Rattle.ilk_forms.specs.Bound.{or_of_values_bound_lit}
-use Rattle.ilk_forms.specs.Gathered.{bool_equals, part_with_no_lits, optional_lit_or_part, append_part_lits, gate_part, combined_lit, combine_lits_into_one, merge_lits_if_same_gate, form_to_and_or_lits, forms_to_and_or_lits}
-use Rattle.ilk_forms.specs.Demand.{clause_of_two_lists_part, clause_if_lit_else_part, demand_of, demand_each}
+use Rattle.ilk_forms.specs.Gathered.{bool_equals, part_with_no_lits, lit_if_given_else_part, append_parts_with_lits, gate_part, combined_lit, combine_lits_into_one, keep_lits_if_same_gate, form_to_and_or_lits, forms_to_and_or_lits}
+use Rattle.ilk_forms.specs.Demand.{clause_of_two_lists_part, clause_if_lit_given_else, demand_of, demand_each}
 
 pub record Few (n k : ℕ) (g : PartWithLits) : Type 0 where
   pub vars : g.part.vars ≤ n + k
@@ -42,8 +42,8 @@ combine_lits_into_one-few all n k g h =
     let one = last.0 in
     let two = last.1 in (omega arith, omega (arith, length-append g.part.clauses s.part.clauses))
 
-merge_lits_if_same_gate-few : (outer inner : Bool) (n k : ℕ) (g : PartWithLits) → Few n k g → Few n (k + 1) (merge_lits_if_same_gate outer inner g)
-merge_lits_if_same_gate-few outer inner n k g h = by_case (bool_equals outer inner)
+keep_lits_if_same_gate-few : (outer inner : Bool) (n k : ℕ) (g : PartWithLits) → Few n k g → Few n (k + 1) (keep_lits_if_same_gate outer inner g)
+keep_lits_if_same_gate-few outer inner n k g h = by_case (bool_equals outer inner)
   where
     by_case : (b : Bool) → Few n (k + 1) (cond {A = PartWithLits} b g (record { part = (combine_lits_into_one inner g).part; lits = (combine_lits_into_one inner g).lit ∷ [] }))
     by_case true = let vars = h.vars in let clauses = h.clauses in record { vars = omega arith; clauses = omega arith }
@@ -56,7 +56,7 @@ merge_lits_if_same_gate-few outer inner n k g h = by_case (bool_equals outer inn
 part_with_no_lits-few : (n : ℕ) → Few n 0 (part_with_no_lits n)
 part_with_no_lits-few n = record { vars = omega arith; clauses = omega arith }
 
-then-few : (n j k : ℕ) (g : PartWithLits) (h : ℕ → PartWithLits) → Few n j g → Few g.part.vars k (h g.part.vars) → Few n (j + k) (append_part_lits g h)
+then-few : (n j k : ℕ) (g : PartWithLits) (h : ℕ → PartWithLits) → Few n j g → Few g.part.vars k (h g.part.vars) → Few n (j + k) (append_parts_with_lits g h)
 then-few n j k g h one two =
     let v = one.vars in
     let c = one.clauses in
@@ -67,19 +67,19 @@ then-few n j k g h one two =
       clauses = omega (arith, length-append g.part.clauses (h g.part.vars).part.clauses, length-append g.lits (h g.part.vars).lits);
     }
 
-optional_lit_or_part-few : (positive : Bool) (o : Option Literal) (n k : ℕ) (g : PartWithLits) → Few n (k + 1) g → Few n (k + 1) (optional_lit_or_part positive o n g)
-optional_lit_or_part-few positive None n k g h = h
-optional_lit_or_part-few positive (Some l) n k g h = record { vars = omega arith; clauses = omega arith }
+lit_if_given_else_part-few : (positive : Bool) (o : Option Literal) (n k : ℕ) (g : PartWithLits) → Few n (k + 1) g → Few n (k + 1) (lit_if_given_else_part positive o n g)
+lit_if_given_else_part-few positive None n k g h = h
+lit_if_given_else_part-few positive (Some l) n k g h = record { vars = omega arith; clauses = omega arith }
 
 mutual
   pub form_to_and_or_lits-few : (t : Tree) (columns : List VarValueAndBoundLits) (all positive : Bool) (n : ℕ) → Few n (tree_size t) (form_to_and_or_lits columns all positive t n)
-  form_to_and_or_lits-few yes columns all positive n = merge_lits_if_same_gate-few all positive n 0 (part_with_no_lits n) (part_with_no_lits-few n)
-  form_to_and_or_lits-few no columns all positive n = merge_lits_if_same_gate-few all (not positive) n 0 (part_with_no_lits n) (part_with_no_lits-few n)
+  form_to_and_or_lits-few yes columns all positive n = keep_lits_if_same_gate-few all positive n 0 (part_with_no_lits n) (part_with_no_lits-few n)
+  form_to_and_or_lits-few no columns all positive n = keep_lits_if_same_gate-few all (not positive) n 0 (part_with_no_lits n) (part_with_no_lits-few n)
   form_to_and_or_lits-few (is v c) columns all positive n = record { vars = omega arith; clauses = omega arith }
-  form_to_and_or_lits-few (all_of ts) columns all positive n = merge_lits_if_same_gate-few all positive n (trees_size ts) (forms_to_and_or_lits columns positive positive ts n) (forms_to_and_or_lits-few ts columns positive positive n)
+  form_to_and_or_lits-few (all_of ts) columns all positive n = keep_lits_if_same_gate-few all positive n (trees_size ts) (forms_to_and_or_lits columns positive positive ts n) (forms_to_and_or_lits-few ts columns positive positive n)
   form_to_and_or_lits-few (any_of ts) columns all positive n =
       let g = forms_to_and_or_lits columns (not positive) positive ts n in
-      optional_lit_or_part-few positive (or_of_values_bound_lit columns ts) n (trees_size ts) (merge_lits_if_same_gate all (not positive) g) (merge_lits_if_same_gate-few all (not positive) n (trees_size ts) g (forms_to_and_or_lits-few ts
+      lit_if_given_else_part-few positive (or_of_values_bound_lit columns ts) n (trees_size ts) (keep_lits_if_same_gate all (not positive) g) (keep_lits_if_same_gate-few all (not positive) n (trees_size ts) g (forms_to_and_or_lits-few ts
       columns (not positive) positive n))
   form_to_and_or_lits-few (negation t) columns all positive n =
       let h = form_to_and_or_lits-few t columns all (not positive) n in
@@ -105,9 +105,9 @@ wider n k p h =
     let c = h.clauses in
     record { vars = omega arith; clauses = omega arith }
 
-clause_if_lit_else_part-few : (first : List Literal) (positive : Bool) (o : Option Literal) (n k : ℕ) (p : FormulaPart) → PartFew n (k + 1) p → PartFew n (k + 1) (clause_if_lit_else_part first positive o n p)
-clause_if_lit_else_part-few first positive None n k p h = h
-clause_if_lit_else_part-few first positive (Some l) n k p h = record { vars = omega arith; clauses = omega arith }
+clause_if_lit_given_else-few : (first : List Literal) (positive : Bool) (o : Option Literal) (n k : ℕ) (p : FormulaPart) → PartFew n (k + 1) p → PartFew n (k + 1) (clause_if_lit_given_else first positive o n p)
+clause_if_lit_given_else-few first positive None n k p h = h
+clause_if_lit_given_else-few first positive (Some l) n k p h = record { vars = omega arith; clauses = omega arith }
 
 mutual
   pub demand_of-few : (t : Tree) (columns : List VarValueAndBoundLits) (first : List Literal) (positive : Bool) (n : ℕ) → PartFew n (tree_size t) (demand_of columns first positive t n)
@@ -120,10 +120,10 @@ mutual
   demand_of-few (all_of ts) columns first false n = some-few first n (trees_size ts) (forms_to_and_or_lits columns false false ts n) (forms_to_and_or_lits-few ts columns false false n)
   demand_of-few (any_of ts) columns first true n =
       let g = forms_to_and_or_lits columns false true ts n in
-      clause_if_lit_else_part-few first true (or_of_values_bound_lit columns ts) n (trees_size ts) (clause_of_two_lists_part first g) (some-few first n (trees_size ts) g (forms_to_and_or_lits-few ts columns false true n))
+      clause_if_lit_given_else-few first true (or_of_values_bound_lit columns ts) n (trees_size ts) (clause_of_two_lists_part first g) (some-few first n (trees_size ts) g (forms_to_and_or_lits-few ts columns false true n))
   demand_of-few (any_of ts) columns first false n =
       let p = demand_each columns first false ts n in
-      clause_if_lit_else_part-few first false (or_of_values_bound_lit columns ts) n (trees_size ts) p (wider n (trees_size ts) p (demand_each-few ts columns first false n))
+      clause_if_lit_given_else-few first false (or_of_values_bound_lit columns ts) n (trees_size ts) p (wider n (trees_size ts) p (demand_each-few ts columns first false n))
   demand_of-few (negation t) columns first positive n = wider n (tree_size t) (demand_of columns first (not positive) t n) (demand_of-few t columns first (not positive) n)
 
   pub demand_each-few : (ts : Trees) (columns : List VarValueAndBoundLits) (first : List Literal) (positive : Bool) (n : ℕ) → PartFew n (trees_size ts) (demand_each columns first positive ts n)

@@ -19,7 +19,7 @@ use Rattle.ilk_ir.specs.declared.form.Form.{Form}
 use Rattle.ilk_forms.specs.declared.copy.VarValueAndBoundLits.{VarValueAndBoundLits}
 use Rattle.ilk_forms.specs.Leaf.{has_lits_within_vars, ranges_of}
 use Rattle.ilk_forms.specs.Bound.{or_of_values_bound_lit}
-use Rattle.ilk_forms.specs.Gathered.{bool_equals, combine_lits_into_one, optional_lit_or_part, merge_lits_if_same_gate, append_part_lits, form_to_and_or_lits, forms_to_and_or_lits}
+use Rattle.ilk_forms.specs.Gathered.{bool_equals, combine_lits_into_one, lit_if_given_else_part, keep_lits_if_same_gate, append_parts_with_lits, form_to_and_or_lits, forms_to_and_or_lits}
 use Rattle.ilk_forms.specs.Truths.{VarAndLitTruths, truths}
 use Rattle.ilk_forms.specs.Size.{tree_size, trees_size}
 use Rattle.ilk_forms.specs.Violated.{some_first_violated_part, some_first_violated_bits, has_no_trees, is_trivially_false, has_trivially_false, form_fails_part, form_fails_bits}
@@ -159,9 +159,9 @@ one-weight inner n k g h some =
     let one = (combined_lit-few inner g.lits g.part.vars).0 in
     omega arith
 
-optional_lit_or_part-weight : (positive : Bool) (o : Option Literal) (n k : ℕ) (g : PartWithLits) → weight_of g ≤ n + 2 * (k + 1) → weight_of (optional_lit_or_part positive o n g) ≤ n + 2 * (k + 1)
-optional_lit_or_part-weight positive None n k g h = h
-optional_lit_or_part-weight positive (Some l) n k g h = omega arith
+lit_if_given_else_part-weight : (positive : Bool) (o : Option Literal) (n k : ℕ) (g : PartWithLits) → weight_of g ≤ n + 2 * (k + 1) → weight_of (lit_if_given_else_part positive o n g) ≤ n + 2 * (k + 1)
+lit_if_given_else_part-weight positive None n k g h = h
+lit_if_given_else_part-weight positive (Some l) n k g h = omega arith
 
 mutual
   form_to_and_or_lits-weight : (t : Tree) (columns : List VarValueAndBoundLits) (positive : Bool) (n : ℕ) → is_trivially_false positive t ≡ false → weight_of (form_to_and_or_lits columns true positive t n) ≤ n + 2 * tree_size t
@@ -174,11 +174,11 @@ mutual
   form_to_and_or_lits-weight (all_of ts) columns false n h = one-weight false n (trees_size ts) (forms_to_and_or_lits columns false false ts n) (forms_to_and_or_lits-few ts columns false false n).vars (sizes-some ts h)
   form_to_and_or_lits-weight (any_of ts) columns true n h =
       let g = forms_to_and_or_lits columns false true ts n in
-      optional_lit_or_part-weight true (or_of_values_bound_lit columns ts) n (trees_size ts) (merge_lits_if_same_gate true false g) (one-weight false n (trees_size ts) g (forms_to_and_or_lits-few ts columns false true n).vars (sizes-some ts h))
+      lit_if_given_else_part-weight true (or_of_values_bound_lit columns ts) n (trees_size ts) (keep_lits_if_same_gate true false g) (one-weight false n (trees_size ts) g (forms_to_and_or_lits-few ts columns false true n).vars (sizes-some ts h))
   form_to_and_or_lits-weight (any_of ts) columns false n h =
       let g = forms_to_and_or_lits columns true false ts n in
       let w = forms_to_and_or_lits-weight ts columns false n h in
-      optional_lit_or_part-weight false (or_of_values_bound_lit columns ts) n (trees_size ts) (merge_lits_if_same_gate true true g) (omega arith)
+      lit_if_given_else_part-weight false (or_of_values_bound_lit columns ts) n (trees_size ts) (keep_lits_if_same_gate true true g) (omega arith)
   form_to_and_or_lits-weight (negation t) columns positive n h = (let w = form_to_and_or_lits-weight t columns (not positive) n h in omega arith)
 
   forms_to_and_or_lits-weight : (ts : Trees) (columns : List VarValueAndBoundLits) (positive : Bool) (n : ℕ) → has_trivially_false positive ts ≡ false → weight_of (forms_to_and_or_lits columns true positive ts n) ≤ n + 2 * trees_size ts
@@ -205,10 +205,10 @@ violated-few t columns n = by_case (is_trivially_false true t) refl
         let few = (first_violated-few g.lits g.part.vars).0 in
         omega arith
 
-pub more-lits : (f h : Formula) (g : PartWithLits) (q : ℕ → PartWithLits) (ls ms : List Literal) → h ≡ with_part f g.part → ls ≡ g.lits → ms ≡ (q h.vars).lits → ls ++ ms ≡ (append_part_lits g q).lits
+pub more-lits : (f h : Formula) (g : PartWithLits) (q : ℕ → PartWithLits) (ls ms : List Literal) → h ≡ with_part f g.part → ls ≡ g.lits → ms ≡ (q h.vars).lits → ls ++ ms ≡ (append_parts_with_lits g q).lits
 more-lits f h g q ls ms made same other = ap (λ (ks : List Literal). ks ++ ms) same ∙ ap (λ (ks : List Literal). g.lits ++ ks) (other ∙ ap (λ (k : Formula). (q k.vars).lits) made)
 
-pub more-made : (f h e : Formula) (g : PartWithLits) (q : ℕ → PartWithLits) → h ≡ with_part f g.part → e ≡ with_part h (q h.vars).part → e ≡ with_part f (append_part_lits g q).part
+pub more-made : (f h e : Formula) (g : PartWithLits) (q : ℕ → PartWithLits) → h ≡ with_part f g.part → e ≡ with_part h (q h.vars).part → e ≡ with_part f (append_parts_with_lits g q).part
 more-made f h e g q made last = last ∙ ap (λ (k : Formula). with_part k (q k.vars).part) made ∙ with_part-and_then f g.part (λ m. (q m).part)
 
 pub violated-made : (f h e : Formula) (t : Tree) (columns : List VarValueAndBoundLits) (ls : List Literal) →

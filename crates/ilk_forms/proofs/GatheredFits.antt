@@ -11,7 +11,7 @@ use Rattle.ilk_ir.specs.Tree.{Tree, yes, no, is, all_of, any_of, negation, Trees
 use Rattle.ilk_forms.specs.declared.copy.VarValueAndBoundLits.{VarValueAndBoundLits}
 use Rattle.ilk_forms.specs.Leaf.{value_lit, has_lits_within_vars, ranges_of}
 use Rattle.ilk_forms.specs.Bound.{or_of_values_bound_lit}
-use Rattle.ilk_forms.specs.Gathered.{PartWithLit, bool_equals, with_sign, part_with_no_lits, part_with_one_lit, optional_lit_or_part, append_part_lits, gate_part, combined_lit, combine_lits_into_one, merge_lits_if_same_gate, form_to_and_or_lits, forms_to_and_or_lits}
+use Rattle.ilk_forms.specs.Gathered.{PartWithLit, bool_equals, with_sign, part_with_no_lits, part_with_one_lit, lit_if_given_else_part, append_parts_with_lits, gate_part, combined_lit, combine_lits_into_one, keep_lits_if_same_gate, form_to_and_or_lits, forms_to_and_or_lits}
 use Rattle.ilk_forms.proofs.BoundLaw.{any-in}
 use Rattle.ilk_forms.proofs.Reading.{has_lits_within_vars-more, value_lit-in}
 
@@ -31,7 +31,7 @@ same n = omega arith
 pub part_with_no_lits-fits : (n : ℕ) → Fits n (part_with_no_lits n)
 part_with_no_lits-fits n = record { low = same n; inside = refl; lits = refl }
 
-pub then-fits : (n : ℕ) (g : PartWithLits) (h : ℕ → PartWithLits) → Fits n g → Fits g.part.vars (h g.part.vars) → Fits n (append_part_lits g h)
+pub then-fits : (n : ℕ) (g : PartWithLits) (h : ℕ → PartWithLits) → Fits n g → Fits g.part.vars (h g.part.vars) → Fits n (append_parts_with_lits g h)
 then-fits n g h one two =
     let m = g.part.vars in
     let k = (h m).part.vars in
@@ -66,8 +66,8 @@ combine_lits_into_one-fits all n g h =
       lit = last.lit;
     }
 
-merge_lits_if_same_gate-fits : (outer inner : Bool) (n : ℕ) (g : PartWithLits) → Fits n g → Fits n (merge_lits_if_same_gate outer inner g)
-merge_lits_if_same_gate-fits outer inner n g h = by_case (bool_equals outer inner)
+keep_lits_if_same_gate-fits : (outer inner : Bool) (n : ℕ) (g : PartWithLits) → Fits n g → Fits n (keep_lits_if_same_gate outer inner g)
+keep_lits_if_same_gate-fits outer inner n g h = by_case (bool_equals outer inner)
   where
     by_case : (b : Bool) → Fits n (cond b g (record { part = (combine_lits_into_one inner g).part; lits = (combine_lits_into_one inner g).lit ∷ [] }))
     by_case true = h
@@ -82,19 +82,19 @@ signed-in false n l h = h
 part_with_one_lit-fits : (positive : Bool) (l : Literal) (n : ℕ) → is_lit_over n l ≡ true → Fits n (part_with_one_lit positive l n)
 part_with_one_lit-fits positive l n h = record { low = same n; inside = refl; lits = and_from _ _ (signed-in positive n l h) refl }
 
-optional_lit_or_part-fits : (positive : Bool) (o : Option Literal) (n : ℕ) (g : PartWithLits) → ((l : Literal) → o ≡ Some l → is_lit_over n l ≡ true) → Fits n g → Fits n (optional_lit_or_part positive o n g)
-optional_lit_or_part-fits positive None n g inside h = h
-optional_lit_or_part-fits positive (Some l) n g inside h = part_with_one_lit-fits positive l n (inside l refl)
+lit_if_given_else_part-fits : (positive : Bool) (o : Option Literal) (n : ℕ) (g : PartWithLits) → ((l : Literal) → o ≡ Some l → is_lit_over n l ≡ true) → Fits n g → Fits n (lit_if_given_else_part positive o n g)
+lit_if_given_else_part-fits positive None n g inside h = h
+lit_if_given_else_part-fits positive (Some l) n g inside h = part_with_one_lit-fits positive l n (inside l refl)
 
 mutual
   pub form_to_and_or_lits-fits : (t : Tree) (columns : List VarValueAndBoundLits) (all positive : Bool) (n : ℕ) → has_lits_within_vars n columns ≡ true → tree_valid (ranges_of columns) t ≡ true → Fits n (form_to_and_or_lits columns all positive t n)
-  form_to_and_or_lits-fits yes columns all positive n h k = merge_lits_if_same_gate-fits all positive n (part_with_no_lits n) (part_with_no_lits-fits n)
-  form_to_and_or_lits-fits no columns all positive n h k = merge_lits_if_same_gate-fits all (not positive) n (part_with_no_lits n) (part_with_no_lits-fits n)
+  form_to_and_or_lits-fits yes columns all positive n h k = keep_lits_if_same_gate-fits all positive n (part_with_no_lits n) (part_with_no_lits-fits n)
+  form_to_and_or_lits-fits no columns all positive n h k = keep_lits_if_same_gate-fits all (not positive) n (part_with_no_lits n) (part_with_no_lits-fits n)
   form_to_and_or_lits-fits (is v c) columns all positive n h k = part_with_one_lit-fits positive (value_lit columns v c) n (value_lit-in columns v c n h k)
-  form_to_and_or_lits-fits (all_of ts) columns all positive n h k = merge_lits_if_same_gate-fits all positive n (forms_to_and_or_lits columns positive positive ts n) (forms_to_and_or_lits-fits ts columns positive positive n h k)
+  form_to_and_or_lits-fits (all_of ts) columns all positive n h k = keep_lits_if_same_gate-fits all positive n (forms_to_and_or_lits columns positive positive ts n) (forms_to_and_or_lits-fits ts columns positive positive n h k)
   form_to_and_or_lits-fits (any_of ts) columns all positive n h k =
       let g = forms_to_and_or_lits columns (not positive) positive ts n in
-      optional_lit_or_part-fits positive (or_of_values_bound_lit columns ts) n (merge_lits_if_same_gate all (not positive) g) (λ l e. any-in ts columns n l h e) (merge_lits_if_same_gate-fits all (not positive) n g (forms_to_and_or_lits-fits
+      lit_if_given_else_part-fits positive (or_of_values_bound_lit columns ts) n (keep_lits_if_same_gate all (not positive) g) (λ l e. any-in ts columns n l h e) (keep_lits_if_same_gate-fits all (not positive) n g (forms_to_and_or_lits-fits
       ts columns (not positive) positive n h k))
   form_to_and_or_lits-fits (negation t) columns all positive n h k = form_to_and_or_lits-fits t columns all (not positive) n h k
 

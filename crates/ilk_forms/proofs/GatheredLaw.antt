@@ -16,12 +16,12 @@ use Rattle.ilk_cnf.proofs.Gates.{is_true-negated_lit}
 use Rattle.ilk_cnf.proofs.Extending.{no_more_if, only_from_if, all_of-law, any_of-law}
 use Rattle.ilk_ints.specs.Named.{PartWithLits}
 use Rattle.ilk_ints.proofs.OneOfLaw.{map-left}
-use Rattle.ilk_ir.specs.Tree.{Tree, yes, no, is, all_of, any_of, negation, Trees, none, more, some_holds, tree_valid, each_valid, var_has_value}
+use Rattle.ilk_ir.specs.Tree.{Tree, yes, no, is, all_of, any_of, negation, Trees, none, more, some_holds, tree_valid, each_valid, is_value_of_var}
 use Rattle.ilk_forms.specs.declared.copy.VarValueAndBoundLits.{VarValueAndBoundLits}
 use Rattle.ilk_forms.specs.Leaf.{value_lit, has_lits_within_vars, ranges_of}
-use Rattle.ilk_forms.specs.Bound.{or_of_values_bound_lit, or_of_values_has_lit}
-use Rattle.ilk_forms.specs.Gathered.{PartWithLit, bool_equals, with_sign, part_with_no_lits, part_with_one_lit, optional_lit_or_part, append_part_lits, gate_part, combined_lit, combine_lits_into_one, merge_lits_if_same_gate, form_to_and_or_lits, forms_to_and_or_lits}
-use Rattle.ilk_forms.specs.Truths.{VarAndLitTruths, no_truths, single_lit_truth, append_truths, gate_truth, gate_bits, merge_truths_if_same_gate, truths, truths_each}
+use Rattle.ilk_forms.specs.Bound.{or_of_values_bound_lit, has_bound_lit_for_or}
+use Rattle.ilk_forms.specs.Gathered.{PartWithLit, bool_equals, with_sign, part_with_no_lits, part_with_one_lit, lit_if_given_else_part, append_parts_with_lits, gate_part, combined_lit, combine_lits_into_one, keep_lits_if_same_gate, form_to_and_or_lits, forms_to_and_or_lits}
+use Rattle.ilk_forms.specs.Truths.{VarAndLitTruths, no_truths, single_lit_truth, append_var_and_lit_truths, gate_truth, gate_var_bit_if_any, merge_truths_if_same_gate, truths, truths_each}
 use Rattle.ilk_forms.proofs.BoundForms.{Stands}
 use Rattle.ilk_forms.proofs.BoundLaw.{any-says}
 use Rattle.ilk_forms.proofs.Reading.{Reads, reads-more}
@@ -43,7 +43,7 @@ pub part_with_no_lits-says : (a : List Bool) (n : ℕ) → length a ≡ n → Sa
 part_with_no_lits-says a n size = record { part = nothing a n size; means = refl }
 
 pub then-says : (a : List Bool) (n : ℕ) (g : PartWithLits) (h : ℕ → PartWithLits) (s t : VarAndLitTruths) → length a ≡ n → Fits n g → Fits g.part.vars (h g.part.vars) → Says a g s → Says (a ++ s.bits) (h g.part.vars) t
-    → Says a (append_part_lits g h) (append_truths s t)
+    → Says a (append_parts_with_lits g h) (append_var_and_lit_truths s t)
 then-says a n g h s t size fits next_fits one two =
     let m = g.part.vars in
     let k = (h m).part.vars in
@@ -74,7 +74,7 @@ gate-says a false ls n size h =
       means = value-new a [] (gate_truth false (map (is_true a) ls)) (n + 1) (ap (λ (k : ℕ). k + 1) size);
     }
 
-combined_lit-says : (a : List Bool) (all : Bool) (ls : List Literal) (n : ℕ) → length a ≡ n → is_clause_over n ls ≡ true → SingleSays a (combined_lit all ls n) (gate_bits all (map (is_true a) ls)) (gate_truth all (map (is_true a) ls))
+combined_lit-says : (a : List Bool) (all : Bool) (ls : List Literal) (n : ℕ) → length a ≡ n → is_clause_over n ls ≡ true → SingleSays a (combined_lit all ls n) (gate_var_bit_if_any all (map (is_true a) ls)) (gate_truth all (map (is_true a) ls))
 combined_lit-says a all [] n size h = gate-says a all [] n size h
 combined_lit-says a all (l ∷ []) n size h = record {
   part = nothing a n size;
@@ -83,14 +83,14 @@ combined_lit-says a all (l ∷ []) n size h = record {
 combined_lit-says a all (l ∷ m ∷ ls) n size h = gate-says a all (l ∷ m ∷ ls) n size h
 
 pub combine_lits_into_one-says : (a : List Bool) (all : Bool) (n : ℕ) (g : PartWithLits) (t : VarAndLitTruths) → length a ≡ n → Fits n g → Says a g t → SingleSays a (combine_lits_into_one all g) (t.bits ++
-    gate_bits all t.lits) (gate_truth all t.lits)
+    gate_var_bit_if_any all t.lits) (gate_truth all t.lits)
 combine_lits_into_one-says a all n g t size fits one =
     let m = g.part.vars in
     let s = combined_lit all g.lits m in
     let long : length (a ++ t.bits) ≡ m = one.part.sized t.bits refl in
     let low : length a ≤ m = rw size fits.low in
-    let e = gate_bits all t.lits in
-    let last : SingleSays (a ++ t.bits) s e (gate_truth all t.lits) = subst (λ (qs : List Bool). SingleSays (a ++ t.bits) s (gate_bits all qs) (gate_truth all qs)) one.means (combined_lit-says (a ++ t.bits) all g.lits m long fits.lits) in
+    let e = gate_var_bit_if_any all t.lits in
+    let last : SingleSays (a ++ t.bits) s e (gate_truth all t.lits) = subst (λ (qs : List Bool). SingleSays (a ++ t.bits) s (gate_var_bit_if_any all qs) (gate_truth all qs)) one.means (combined_lit-says (a ++ t.bits) all g.lits m long fits.lits) in
     record {
       part = one_by_one a t.bits e m s.part.vars g.part.clauses s.part.clauses low (single_of-low all g.lits m) fits.inside one.part last.part;
       means = subst (λ (u : List Bool). is_true u s.lit ≡ gate_truth all t.lits) (append_assoc a t.bits e) last.means;
@@ -103,11 +103,11 @@ combine_lits_into_one-says a all n g t size fits one =
     single_of-low true (l ∷ m ∷ ls) n = omega arith
     single_of-low false (l ∷ m ∷ ls) n = omega arith
 
-merge_lits_if_same_gate-says : (a : List Bool) (outer inner : Bool) (n : ℕ) (g : PartWithLits) (t : VarAndLitTruths) → length a ≡ n → Fits n g → Says a g t → Says a (merge_lits_if_same_gate outer inner g) (merge_truths_if_same_gate outer inner t)
-merge_lits_if_same_gate-says a outer inner n g t size fits one = by_case (bool_equals outer inner)
+keep_lits_if_same_gate-says : (a : List Bool) (outer inner : Bool) (n : ℕ) (g : PartWithLits) (t : VarAndLitTruths) → length a ≡ n → Fits n g → Says a g t → Says a (keep_lits_if_same_gate outer inner g) (merge_truths_if_same_gate outer inner t)
+keep_lits_if_same_gate-says a outer inner n g t size fits one = by_case (bool_equals outer inner)
   where
     by_case : (b : Bool) → Says a (cond b g (record { part = (combine_lits_into_one inner g).part; lits = (combine_lits_into_one inner g).lit ∷ [] })) (cond b t (record {
-      bits = t.bits ++ gate_bits inner t.lits;
+      bits = t.bits ++ gate_var_bit_if_any inner t.lits;
       lits =
           gate_truth inner t.lits ∷ [];
     }))
@@ -131,13 +131,13 @@ part_with_one_lit-says a positive l truth n size h =
     let says : is_true (a ++ []) (with_sign positive l) ≡ bool_equals positive truth = ap (λ (u : List Bool). is_true u (with_sign positive l)) (append-nil a) ∙ signed-says a positive l ∙ ap (bool_equals positive) h in
     record { part = nothing a n size; means = ap (λ (q : Bool). q ∷ []) says }
 
-optional_lit_or_part-says :
+lit_if_given_else_part-says :
     (a : List Bool) (positive : Bool) (o : Option Literal) (has truth : Bool) (n : ℕ) (g : PartWithLits) (t : VarAndLitTruths)
     → length a ≡ n →
     Stands a o has truth → Says a g t →
-    Says a (optional_lit_or_part positive o n g) (cond has (single_lit_truth positive truth) t)
-optional_lit_or_part-says a positive None has truth n g t size h one = subst (λ (b : Bool). Says a g (cond {A = VarAndLitTruths} b (single_lit_truth positive truth) t)) (sym h) one
-optional_lit_or_part-says a positive (Some l) has truth n g t size h one =
+    Says a (lit_if_given_else_part positive o n g) (cond has (single_lit_truth positive truth) t)
+lit_if_given_else_part-says a positive None has truth n g t size h one = subst (λ (b : Bool). Says a g (cond {A = VarAndLitTruths} b (single_lit_truth positive truth) t)) (sym h) one
+lit_if_given_else_part-says a positive (Some l) has truth n g t size h one =
     subst (λ (b : Bool). Says a (part_with_one_lit positive l n) (cond {A = VarAndLitTruths} b (single_lit_truth positive truth) t)) (sym h.0) (part_with_one_lit-says a positive l truth n size h.1)
 
 mutual
@@ -145,26 +145,26 @@ mutual
       (t : Tree) (columns : List VarValueAndBoundLits) (ranges ws : List ℕ) (all positive : Bool) (a : List Bool) (n : ℕ) →
       length a ≡ n → Reads a columns ranges ws → tree_valid (ranges_of columns) t ≡ true →
       Says a (form_to_and_or_lits columns all positive t n) (truths ranges ws all positive t)
-  form_to_and_or_lits-says yes columns ranges ws all positive a n size r k = merge_lits_if_same_gate-says a all positive n (part_with_no_lits n) no_truths size (record { low = same n; inside = refl; lits = refl }) (part_with_no_lits-says a n size)
-  form_to_and_or_lits-says no columns ranges ws all positive a n size r k = merge_lits_if_same_gate-says a all (not positive) n (part_with_no_lits n) no_truths size (record {
+  form_to_and_or_lits-says yes columns ranges ws all positive a n size r k = keep_lits_if_same_gate-says a all positive n (part_with_no_lits n) no_truths size (record { low = same n; inside = refl; lits = refl }) (part_with_no_lits-says a n size)
+  form_to_and_or_lits-says no columns ranges ws all positive a n size r k = keep_lits_if_same_gate-says a all (not positive) n (part_with_no_lits n) no_truths size (record {
     low = same n;
     inside = refl;
     lits =
         refl;
   }) (part_with_no_lits-says a n size)
-  form_to_and_or_lits-says (is v c) columns ranges ws all positive a n size r k = part_with_one_lit-says a positive (value_lit columns v c) (var_has_value ws v c) n size (r.says v c k)
+  form_to_and_or_lits-says (is v c) columns ranges ws all positive a n size r k = part_with_one_lit-says a positive (value_lit columns v c) (is_value_of_var ws v c) n size (r.says v c k)
   form_to_and_or_lits-says (all_of ts) columns ranges ws all positive a n size r k =
-      merge_lits_if_same_gate-says a all positive n (forms_to_and_or_lits columns positive positive ts n)
+      keep_lits_if_same_gate-says a all positive n (forms_to_and_or_lits columns positive positive ts n)
       (truths_each ranges ws positive positive ts) size
       (forms_to_and_or_lits-fits ts columns positive positive n (here columns ranges ws a n size r) k)
       (forms_to_and_or_lits-says ts columns ranges ws positive positive a n size r k)
   form_to_and_or_lits-says (any_of ts) columns ranges ws all positive a n size r k =
       let g = forms_to_and_or_lits columns (not positive) positive ts n in
       let s = truths_each ranges ws (not positive) positive ts in
-      optional_lit_or_part-says a positive (or_of_values_bound_lit columns ts) (or_of_values_has_lit ranges ts) (some_holds ws ts) n
-      (merge_lits_if_same_gate all (not positive) g) (merge_truths_if_same_gate all (not positive) s) size
+      lit_if_given_else_part-says a positive (or_of_values_bound_lit columns ts) (has_bound_lit_for_or ranges ts) (some_holds ws ts) n
+      (keep_lits_if_same_gate all (not positive) g) (merge_truths_if_same_gate all (not positive) s) size
       (any-says ts a columns ranges ws r.bounded k)
-      (merge_lits_if_same_gate-says a all (not positive) n g s size
+      (keep_lits_if_same_gate-says a all (not positive) n g s size
       (forms_to_and_or_lits-fits ts columns (not positive) positive n (here columns ranges ws a n size r) k)
       (forms_to_and_or_lits-says ts columns ranges ws (not positive) positive a n size r k))
   form_to_and_or_lits-says (negation t) columns ranges ws all positive a n size r k = form_to_and_or_lits-says t columns ranges ws all (not positive) a n size r k

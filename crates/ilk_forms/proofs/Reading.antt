@@ -8,12 +8,12 @@ use Rattle.ilk_cnf.specs.Truth.{is_true}
 use Rattle.ilk_cnf.proofs.Literals.{is_clause_over-more}
 use Rattle.ilk_cnf.proofs.Parts.{is_true-left}
 use Rattle.ilk_ints.specs.Named.{one_hot_bits}
-use Rattle.ilk_ir.specs.Tree.{value_valid, var_has_value}
+use Rattle.ilk_ir.specs.Tree.{value_valid, is_value_of_var}
 use Rattle.ilk_ir.specs.System.{in_ranges}
 use Rattle.ilk_forms.specs.declared.copy.VarValueAndBoundLits.{VarValueAndBoundLits}
 use Rattle.ilk_forms.specs.Copy.{LiteralsEncode}
 use Rattle.ilk_forms.specs.Leaf.{value_lit, has_lits_within_vars, ranges_of}
-use Rattle.ilk_forms.specs.Bound.{bound_lit, has_bound_lit}
+use Rattle.ilk_forms.specs.Bound.{bound_lit, copy_has_bound_lit}
 use Rattle.ilk_forms.proofs.BoundForms.{Stands, at_most, stands-left}
 use Rattle.ilk_forms.proofs.BoundLaw.{bound-says, bound-in}
 
@@ -54,7 +54,7 @@ item-says a (l ∷ ls) w v (suc j) (suc c) h k =
     let same : v + 1 + c ≡ v + suc c = omega arith in
     item-says a ls w (v + 1) j c rest (less c (length ls) k) ∙ ap (eqb w) same
 
-pub value_lit-says : (a : List Bool) (columns : List VarValueAndBoundLits) (ranges ws : List ℕ) (v c : ℕ) → LiteralsEncode a columns ranges ws → value_valid (ranges_of columns) v c ≡ true → is_true a (value_lit columns v c) ≡ var_has_value ws v c
+pub value_lit-says : (a : List Bool) (columns : List VarValueAndBoundLits) (ranges ws : List ℕ) (v c : ℕ) → LiteralsEncode a columns ranges ws → value_valid (ranges_of columns) v c ≡ true → is_true a (value_lit columns v c) ≡ is_value_of_var ws v c
 value_lit-says a [] ranges ws v c h k = absurd (false≢true k)
 value_lit-says a (column ∷ columns) [] ws v c h k = absurd h
 value_lit-says a (column ∷ columns) (range ∷ ranges) [] v c h k = absurd h
@@ -64,8 +64,8 @@ value_lit-says a (column ∷ columns) (range ∷ ranges) (w ∷ ws) (suc v) c h 
 -- Holds if the literals say the values and bounds of the copy's variables.
 pub record Reads (a : List Bool) (columns : List VarValueAndBoundLits) (ranges ws : List ℕ) : Type 0 where
   pub within : has_lits_within_vars (length a) columns ≡ true
-  pub says : (v c : ℕ) → value_valid (ranges_of columns) v c ≡ true → is_true a (value_lit columns v c) ≡ var_has_value ws v c
-  pub bounded : (v k : ℕ) → value_valid (ranges_of columns) v k ≡ true → 0 < k → Stands a (bound_lit columns v k) (has_bound_lit ranges v k) (at_most ws v k)
+  pub says : (v c : ℕ) → value_valid (ranges_of columns) v c ≡ true → is_true a (value_lit columns v c) ≡ is_value_of_var ws v c
+  pub bounded : (v k : ℕ) → value_valid (ranges_of columns) v k ≡ true → 0 < k → Stands a (bound_lit columns v k) (copy_has_bound_lit ranges v k) (at_most ws v k)
 
 pub reads : (a : List Bool) (columns : List VarValueAndBoundLits) (ranges ws : List ℕ) (n : ℕ) → length a ≡ n → has_lits_within_vars n columns ≡ true → LiteralsEncode a columns ranges ws → in_ranges ws ranges ≡ true → Reads a columns ranges ws
 reads a columns ranges ws n size inside h fit = record {
@@ -78,5 +78,5 @@ pub reads-more : (a b : List Bool) (columns : List VarValueAndBoundLits) (ranges
 reads-more a b columns ranges ws le r = record {
   within = has_lits_within_vars-more (length a) (length (a ++ b)) columns le r.within;
   says = λ v c k. is_true-left a b (value_lit columns v c) (leb-true _ _ (and_parts _ _ (value_lit-in columns v c (length a) r.within k)).1) ∙ r.says v c k;
-  bounded = λ v k valid some. stands-left a b (bound_lit columns v k) (has_bound_lit ranges v k) (at_most ws v k) (λ l e. leb-true _ _ (and_parts _ _ (bound-in columns v k (length a) l r.within e)).1) (r.bounded v k valid some);
+  bounded = λ v k valid some. stands-left a b (bound_lit columns v k) (copy_has_bound_lit ranges v k) (at_most ws v k) (λ l e. leb-true _ _ (and_parts _ _ (bound-in columns v k (length a) l r.within e)).1) (r.bounded v k valid some);
 }

@@ -10,15 +10,15 @@ use Rattle.ilk_ints.specs.Named.{PartWithLits}
 use Rattle.ilk_ir.specs.Tree.{Tree, Trees, more, each_valid}
 use Rattle.ilk_forms.specs.declared.copy.VarValueAndBoundLits.{VarValueAndBoundLits}
 use Rattle.ilk_forms.specs.Leaf.{has_lits_within_vars, ranges_of}
-use Rattle.ilk_forms.specs.Gathered.{bool_equals, combined_lit, combine_lits_into_one, merge_lits_if_same_gate, form_to_and_or_lits, forms_to_and_or_lits}
+use Rattle.ilk_forms.specs.Gathered.{bool_equals, combined_lit, combine_lits_into_one, keep_lits_if_same_gate, form_to_and_or_lits, forms_to_and_or_lits}
 use Rattle.ilk_forms.specs.Demand.{one_clause_part, clause_of_two_lists_part, demand_of, demand_each}
 use Rattle.ilk_forms.proofs.Reading.{has_lits_within_vars-more}
 use Rattle.ilk_forms.proofs.GatheredFits.{Fits, form_to_and_or_lits-fits}
 use Rattle.ilk_forms.proofs.DemandLaw.{demand_of-fits}
 
-pub merge_lits_if_same_gate-lits : (outer inner : Bool) (f h : Formula) (g : PartWithLits) (ls : List Literal) → h ≡ with_part f g.part → ls ≡ g.lits
-    → (merge_lits_if_same_gate outer inner (record { part = empty_part h.vars; lits = ls })).lits ≡ (merge_lits_if_same_gate outer inner g).lits
-merge_lits_if_same_gate-lits outer inner f h g ls made is = by_case (bool_equals outer inner)
+pub keep_lits_if_same_gate-lits : (outer inner : Bool) (f h : Formula) (g : PartWithLits) (ls : List Literal) → h ≡ with_part f g.part → ls ≡ g.lits
+    → (keep_lits_if_same_gate outer inner (record { part = empty_part h.vars; lits = ls })).lits ≡ (keep_lits_if_same_gate outer inner g).lits
+keep_lits_if_same_gate-lits outer inner f h g ls made is = by_case (bool_equals outer inner)
   where
     by_case : (b : Bool) →
         (cond {A = PartWithLits} b (record { part = empty_part h.vars; lits = ls })
@@ -33,11 +33,11 @@ merge_lits_if_same_gate-lits outer inner f h g ls made is = by_case (bool_equals
     by_case false =
         ap (λ (ks : List Literal). (combined_lit inner ks h.vars).lit ∷ []) is ∙ ap (λ (k : Formula). (combined_lit inner g.lits k.vars).lit ∷ []) made
 
-pub merge_lits_if_same_gate-made : (outer inner : Bool) (f h k : Formula) (g : PartWithLits) (ls : List Literal) →
+pub keep_lits_if_same_gate-made : (outer inner : Bool) (f h k : Formula) (g : PartWithLits) (ls : List Literal) →
     h ≡ with_part f g.part → ls ≡ g.lits →
-    k ≡ with_part h (merge_lits_if_same_gate outer inner (record { part = empty_part h.vars; lits = ls })).part →
-    k ≡ with_part f (merge_lits_if_same_gate outer inner g).part
-merge_lits_if_same_gate-made outer inner f h k g ls made is last = last ∙ by_case (bool_equals outer inner)
+    k ≡ with_part h (keep_lits_if_same_gate outer inner (record { part = empty_part h.vars; lits = ls })).part →
+    k ≡ with_part f (keep_lits_if_same_gate outer inner g).part
+keep_lits_if_same_gate-made outer inner f h k g ls made is last = last ∙ by_case (bool_equals outer inner)
   where
     by_case : (b : Bool) →
         with_part h

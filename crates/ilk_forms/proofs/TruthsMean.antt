@@ -3,7 +3,7 @@ use Rattle.std.proofs.Common.{◌≡◌, ℕ, Bool, true, false, not, ◌&&◌, 
 use Rattle.std.proofs.lemmas.List.Folds.{list_all-append, list_any-append}
 use Rattle.ilk_ir.specs.Tree.{Tree, yes, no, is, all_of, any_of, negation, Trees, none, more, tree_holds, each_holds, some_holds}
 use Rattle.ilk_forms.specs.Gathered.{bool_equals}
-use Rattle.ilk_forms.specs.Bound.{or_of_values_has_lit}
+use Rattle.ilk_forms.specs.Bound.{has_bound_lit_for_or}
 use Rattle.ilk_forms.specs.Truths.{VarAndLitTruths, no_truths, single_lit_truth, gate_truth, merge_truths_if_same_gate, truths, truths_each}
 
 abbrev pub both_or_one : Bool → Bool → Bool → Bool
@@ -78,7 +78,7 @@ mutual
   truths-mean (all_of ts) ranges ws all positive = taken_in-means all positive (truths_each ranges ws positive positive ts) ∙ truths_each-mean ts ranges ws positive positive ∙ all-are ws positive ts
   truths-mean (any_of ts) ranges ws all positive =
       let g = merge_truths_if_same_gate all (not positive) (truths_each ranges ws (not positive) positive ts) in
-      one_or-means all (or_of_values_has_lit ranges ts) positive (some_holds ws ts) g
+      one_or-means all (has_bound_lit_for_or ranges ts) positive (some_holds ws ts) g
       (taken_in-means all (not positive) (truths_each ranges ws (not positive) positive ts) ∙ truths_each-mean ts ranges ws (not positive) positive ∙ some-are ws positive ts)
   truths-mean (negation t) ranges ws all positive = truths-mean t ranges ws all (not positive) ∙ turned positive (tree_holds ws t)
 

@@ -3,7 +3,7 @@
 use Rattle.std.specs.Prelude.{ℕ, ◌+◌, Bool, true, List, [], ◌∷◌, ◌++◌, ◌≡◌, map}
 use Rattle.ilk_cnf.specs.Truth.{is_true}
 use Rattle.ilk_cnf.specs.Part.{FormulaPart, empty_part, and_then}
-use Rattle.ilk_ints.specs.Bits.{bit_count, lowest_bits_of, bits_at}
+use Rattle.ilk_ints.specs.Bits.{bit_count, lowest_bits_of, assigned_bits_from_var}
 use Rattle.ilk_ints.specs.Number.{number_part}
 use Rattle.ilk_ints.specs.Named.{value_lits_part, bound_lits_part, value_bound_var_count, one_hot_var_bits, bound_vars_bits, bound_count, one_hot_bits, bound_bits}
 use Rattle.ilk_ir.specs.System.{in_ranges}
@@ -25,13 +25,13 @@ copy_bit_count [] = 0
 copy_bit_count (range ∷ ranges) = bit_count range + copy_bit_count ranges
 
 -- A formula part, and the literals of one variable (`column`).
-pub record PartWithVarLits : Type 0 where
+pub record PartWithOneVarLits : Type 0 where
   pub part : FormulaPart
   pub column : VarValueAndBoundLits
 
 -- The formula part with the literals of one integer below `range`, whose bits begin at variable
 -- `first`. It follows the first `n` variables.
-abbrev pub var_lits_part : ℕ → ℕ → ℕ → PartWithVarLits
+abbrev pub var_lits_part : ℕ → ℕ → ℕ → PartWithOneVarLits
 var_lits_part first range n =
     record {
       part = and_then (value_lits_part first range n).part (λ m. (bound_lits_part first range (value_lits_part first range n).lits m).part);
@@ -95,7 +95,7 @@ abbrev pub BitsEncode : List Bool → ℕ → List ℕ → List ℕ → Type 0
 BitsEncode a first [] ws = Unit {0}
 BitsEncode a first (range ∷ ranges) [] = ⊥
 BitsEncode a first (range ∷ ranges) (w ∷ ws) =
-    (bits_at a first (bit_count range) ≡ lowest_bits_of (bit_count range) w) × BitsEncode a (first + bit_count range) ranges ws
+    (assigned_bits_from_var a first (bit_count range) ≡ lowest_bits_of (bit_count range) w) × BitsEncode a (first + bit_count range) ranges ws
 
 -- Holds if, under assignment `a`, each variable's literals say exactly its value and its bounds.
 abbrev pub LiteralsEncode : List Bool → List VarValueAndBoundLits → List ℕ → List ℕ → Type 0

@@ -19,9 +19,9 @@ clause_of_two_lists_part first g = and_then g.part (one_clause_part (first ++ g.
 
 -- The clause that some literal of `first`, or the given literal `l` (negated unless `positive`), is
 -- true. If no literal is given, the part `p`.
-abbrev pub clause_if_lit_else_part : List Literal → Bool → Option Literal → ℕ → FormulaPart → FormulaPart
-clause_if_lit_else_part first positive (Some l) n p = one_clause_part (first ++ with_sign positive l ∷ []) n
-clause_if_lit_else_part first positive None n p = p
+abbrev pub clause_if_lit_given_else : List Literal → Bool → Option Literal → ℕ → FormulaPart → FormulaPart
+clause_if_lit_given_else first positive (Some l) n p = one_clause_part (first ++ with_sign positive l ∷ []) n
+clause_if_lit_given_else first positive None n p = p
 
 -- The formula part, after the first `n` variables, that says: some literal of `first` is true, or
 -- the form holds (`positive`) or fails (otherwise) for the copy.
@@ -35,9 +35,9 @@ abbrev mutual
   demand_of columns first true (all_of ts) n = demand_each columns first true ts n
   demand_of columns first false (all_of ts) n = clause_of_two_lists_part first (forms_to_and_or_lits columns false false ts n)
   demand_of columns first true (any_of ts) n =
-      clause_if_lit_else_part first true (or_of_values_bound_lit columns ts) n (clause_of_two_lists_part first (forms_to_and_or_lits columns false true ts n))
+      clause_if_lit_given_else first true (or_of_values_bound_lit columns ts) n (clause_of_two_lists_part first (forms_to_and_or_lits columns false true ts n))
   demand_of columns first false (any_of ts) n =
-      clause_if_lit_else_part first false (or_of_values_bound_lit columns ts) n (demand_each columns first false ts n)
+      clause_if_lit_given_else first false (or_of_values_bound_lit columns ts) n (demand_each columns first false ts n)
   demand_of columns first positive (negation t) n = demand_of columns first (not positive) t n
 
   pub demand_each : List VarValueAndBoundLits → List Literal → Bool → Trees → ℕ → FormulaPart

@@ -30,13 +30,13 @@ abbrev pub part_with_one_lit : Bool → Literal → ℕ → PartWithLits
 part_with_one_lit positive l n = record { part = empty_part n; lits = with_sign positive l ∷ [] }
 
 -- The given literal, negated unless `positive`. If none is given, the literals of `g`.
-abbrev pub optional_lit_or_part : Bool → Option Literal → ℕ → PartWithLits → PartWithLits
-optional_lit_or_part positive (Some l) n g = part_with_one_lit positive l n
-optional_lit_or_part positive None n g = g
+abbrev pub lit_if_given_else_part : Bool → Option Literal → ℕ → PartWithLits → PartWithLits
+lit_if_given_else_part positive (Some l) n g = part_with_one_lit positive l n
+lit_if_given_else_part positive None n g = g
 
 -- Part `g`, then part `h`, which follows its variables; the literals of both, in this order.
-abbrev pub append_part_lits : PartWithLits → (ℕ → PartWithLits) → PartWithLits
-append_part_lits g h = record { part = and_then g.part (λ m. (h m).part); lits = g.lits ++ (h g.part.vars).lits }
+abbrev pub append_parts_with_lits : PartWithLits → (ℕ → PartWithLits) → PartWithLits
+append_parts_with_lits g h = record { part = and_then g.part (λ m. (h m).part); lits = g.lits ++ (h g.part.vars).lits }
 
 -- The formula part that adds one variable after the first `n`, true exactly if all literals are
 -- (`all`), or at least one is (otherwise).
@@ -61,23 +61,23 @@ combine_lits_into_one all g =
 
 -- The literals of `g` for use in an And (`outer`) or an Or (otherwise). `inner` says in the same
 -- way what `g` is. If both agree, the literals stay. Otherwise one new literal replaces them.
-abbrev pub merge_lits_if_same_gate : Bool → Bool → PartWithLits → PartWithLits
-merge_lits_if_same_gate outer inner g =
+abbrev pub keep_lits_if_same_gate : Bool → Bool → PartWithLits → PartWithLits
+keep_lits_if_same_gate outer inner g =
     if bool_equals outer inner then g else record { part = (combine_lits_into_one inner g).part; lits = (combine_lits_into_one inner g).lit ∷ [] }
 
 -- Literals, after the first `n` variables, that represent the form, or its negation unless
 -- `positive`. That formula holds exactly if all of them (`all`), or some (otherwise), are true.
 abbrev mutual
   pub form_to_and_or_lits : List VarValueAndBoundLits → Bool → Bool → Tree → ℕ → PartWithLits
-  form_to_and_or_lits columns all positive yes n = merge_lits_if_same_gate all positive (part_with_no_lits n)
-  form_to_and_or_lits columns all positive no n = merge_lits_if_same_gate all (not positive) (part_with_no_lits n)
+  form_to_and_or_lits columns all positive yes n = keep_lits_if_same_gate all positive (part_with_no_lits n)
+  form_to_and_or_lits columns all positive no n = keep_lits_if_same_gate all (not positive) (part_with_no_lits n)
   form_to_and_or_lits columns all positive (is v c) n = part_with_one_lit positive (value_lit columns v c) n
-  form_to_and_or_lits columns all positive (all_of ts) n = merge_lits_if_same_gate all positive (forms_to_and_or_lits columns positive positive ts n)
+  form_to_and_or_lits columns all positive (all_of ts) n = keep_lits_if_same_gate all positive (forms_to_and_or_lits columns positive positive ts n)
   form_to_and_or_lits columns all positive (any_of ts) n =
-      optional_lit_or_part positive (or_of_values_bound_lit columns ts) n (merge_lits_if_same_gate all (not positive) (forms_to_and_or_lits columns (not positive) positive ts n))
+      lit_if_given_else_part positive (or_of_values_bound_lit columns ts) n (keep_lits_if_same_gate all (not positive) (forms_to_and_or_lits columns (not positive) positive ts n))
   form_to_and_or_lits columns all positive (negation t) n = form_to_and_or_lits columns all (not positive) t n
 
   pub forms_to_and_or_lits : List VarValueAndBoundLits → Bool → Bool → Trees → ℕ → PartWithLits
   forms_to_and_or_lits columns all positive none n = part_with_no_lits n
   forms_to_and_or_lits columns all positive (more t ts) n =
-      append_part_lits (form_to_and_or_lits columns all positive t n) (forms_to_and_or_lits columns all positive ts)
+      append_parts_with_lits (form_to_and_or_lits columns all positive t n) (forms_to_and_or_lits columns all positive ts)

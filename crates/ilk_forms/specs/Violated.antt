@@ -5,16 +5,16 @@ use Rattle.ilk_cnf.specs.Part.{FormulaPart, empty_part, and_then, and_gate_part,
 use Rattle.ilk_ints.specs.Named.{PartWithLits}
 use Rattle.ilk_ir.specs.Tree.{Tree, yes, no, is, all_of, any_of, negation, Trees, none, more}
 use Rattle.ilk_forms.specs.declared.copy.VarValueAndBoundLits.{VarValueAndBoundLits}
-use Rattle.ilk_forms.specs.Gathered.{part_with_no_lits, append_part_lits, form_to_and_or_lits}
+use Rattle.ilk_forms.specs.Gathered.{part_with_no_lits, append_parts_with_lits, form_to_and_or_lits}
 use Rattle.ilk_forms.specs.Demand.{one_clause_part, clause_of_two_lists_part}
-use Rattle.ilk_forms.specs.Truths.{VarAndLitTruths, no_truths, append_truths, truths}
+use Rattle.ilk_forms.specs.Truths.{VarAndLitTruths, no_truths, append_var_and_lit_truths, truths}
 
 -- The two variables for the next instance, after the first `n`. One is false exactly if this
 -- instance is the first violated one. The other is true exactly if each instance so far is
 -- satisfied. The literal `before` says that all earlier ones are satisfied, `kept` that this one
 -- is.
-abbrev pub next_instance_first_violated_lits : Literal → Literal → ℕ → PartWithLits
-next_instance_first_violated_lits before kept n =
+abbrev pub next_first_violated_marker_lits : Literal → Literal → ℕ → PartWithLits
+next_first_violated_marker_lits before kept n =
     record {
       part = and_then (or_gate_part (negated_lit before ∷ kept ∷ []) n) (and_gate_part (before ∷ kept ∷ []));
       lits = negative_lit (n + 1) ∷ [];
@@ -22,32 +22,32 @@ next_instance_first_violated_lits before kept n =
 
 -- For each further instance, a literal that says that it is the first violated one. The literal
 -- `before` says that all earlier instances are satisfied.
-abbrev pub first_violated_lits : Literal → List Literal → ℕ → PartWithLits
-first_violated_lits before [] n = part_with_no_lits n
-first_violated_lits before (kept ∷ others) n = append_part_lits (next_instance_first_violated_lits before kept n) (first_violated_lits (positive_lit (n + 1 + 1)) others)
+abbrev pub first_violated_marker_lits : Literal → List Literal → ℕ → PartWithLits
+first_violated_marker_lits before [] n = part_with_no_lits n
+first_violated_marker_lits before (kept ∷ others) n = append_parts_with_lits (next_first_violated_marker_lits before kept n) (first_violated_marker_lits (positive_lit (n + 1 + 1)) others)
 
 -- The formula part, after the first `n` variables, that says that some instance is the first
 -- violated one. Each literal says that its instance is satisfied. Without instances it can't be
 -- satisfied.
 abbrev pub some_first_violated_part : List Literal → ℕ → FormulaPart
 some_first_violated_part [] n = one_clause_part [] n
-some_first_violated_part (kept ∷ others) n = clause_of_two_lists_part (negated_lit kept ∷ []) (first_violated_lits kept others n)
+some_first_violated_part (kept ∷ others) n = clause_of_two_lists_part (negated_lit kept ∷ []) (first_violated_marker_lits kept others n)
 
--- The truth values for `next_instance_first_violated_lits`, by whether all earlier instances are
+-- The truth values for `next_first_violated_marker_lits`, by whether all earlier instances are
 -- satisfied (`before`) and whether the next one is (`kept`).
-abbrev pub next_instance_first_violated_truths : Bool → Bool → VarAndLitTruths
-next_instance_first_violated_truths before kept = record { bits = not (before && not kept) ∷ (before && kept) ∷ []; lits = (before && not kept) ∷ [] }
+abbrev pub next_first_violated_marker_truths : Bool → Bool → VarAndLitTruths
+next_first_violated_marker_truths before kept = record { bits = not (before && not kept) ∷ (before && kept) ∷ []; lits = (before && not kept) ∷ [] }
 
--- The truth values for `first_violated_lits`, by whether each instance is satisfied.
-abbrev pub first_violated_truths : Bool → List Bool → VarAndLitTruths
-first_violated_truths before [] = no_truths
-first_violated_truths before (kept ∷ others) = append_truths (next_instance_first_violated_truths before kept) (first_violated_truths (before && kept) others)
+-- The truth values for `first_violated_marker_lits`, by whether each instance is satisfied.
+abbrev pub first_violated_marker_truths : Bool → List Bool → VarAndLitTruths
+first_violated_marker_truths before [] = no_truths
+first_violated_marker_truths before (kept ∷ others) = append_var_and_lit_truths (next_first_violated_marker_truths before kept) (first_violated_marker_truths (before && kept) others)
 
 -- The truth values of the new variables of `some_first_violated_part`, by whether each instance is
 -- satisfied.
 abbrev pub some_first_violated_bits : List Bool → List Bool
 some_first_violated_bits [] = []
-some_first_violated_bits (kept ∷ others) = (first_violated_truths kept others).bits
+some_first_violated_bits (kept ∷ others) = (first_violated_marker_truths kept others).bits
 
 -- Returns whether the list of forms is empty.
 abbrev pub has_no_trees : Trees → Bool

@@ -2,7 +2,7 @@ ghost use Rattle.std.specs.Prelude.{◌≡◌, ℕ, IfSome, IsTrue};
 ghost use Rattle.ilk_cnf.specs.Formula.{is_lit_over};
 ghost use Rattle.ilk_ir.specs.Form.{tree_of, trees_of};
 ghost use Rattle.ilk_forms.specs.Leaf.{has_lits_within_vars};
-ghost use Rattle.ilk_forms.specs.Bound.{next_value_if_stated, last_consecutive_value, bound_from_or_of_values, single_var_bound_lit, bound_lit, or_of_values_bound_lit};
+ghost use Rattle.ilk_forms.specs.Bound.{next_value_if_stated, last_if_values_consecutive, bound_from_or_of_values, bound_lit_of_var, bound_lit, or_of_values_bound_lit};
 
 use crate::copy::{CopyLits, VarValueAndBoundLits};
 use ilk_cnf::Lit;
@@ -24,8 +24,8 @@ fn next_value_if_stated(v: u32, c: u8, form: &Form) -> Option<u8>
     }
 }
 
-fn last_consecutive_value(v: u32, c: u8, forms: &[Form]) -> Option<u8>
-    ensures { result ≡ last_consecutive_value v c (trees_of forms.now) }
+fn last_if_values_consecutive(v: u32, c: u8, forms: &[Form]) -> Option<u8>
+    ensures { result ≡ last_if_values_consecutive v c (trees_of forms.now) }
 {
     let mut last = c;
     for form in forms {
@@ -39,15 +39,15 @@ fn bound_from_or_of_values(forms: &[Form]) -> Option<VarUpperBound>
 {
     match forms {
         [Form::Is(v, 0), rest @ ..] if !rest.is_empty() => {
-            let most = last_consecutive_value(*v, 0, rest)?;
+            let most = last_if_values_consecutive(*v, 0, rest)?;
             Some(VarUpperBound { var: *v, most })
         }
         _ => None,
     }
 }
 
-fn single_var_bound_lit(column: &VarValueAndBoundLits, k: u8) -> Option<Lit>
-    ensures { result ≡ single_var_bound_lit column.now k }
+fn bound_lit_of_var(column: &VarValueAndBoundLits, k: u8) -> Option<Lit>
+    ensures { result ≡ bound_lit_of_var column.now k }
 {
     let k = u64::from(k);
     if k + 2 == column.values.len() {
@@ -64,7 +64,7 @@ fn bound_leaf(table: &CopyLits, bound: VarUpperBound) -> Option<Lit>
     ensures { result ≡ bound_lit table.now bound.var bound.most }
 {
     let column = table.as_slice().get(bound.var as usize)?;
-    single_var_bound_lit(column, bound.most)
+    bound_lit_of_var(column, bound.most)
 }
 
 /// Returns the literal of a copy for the bound that an Or of `forms` states: "v is at most k" if

@@ -35,7 +35,7 @@ pub(crate) fn add_clause_of_two_lists(
     let mut lits = Lits::new(alloc);
     push_all(&mut lits, first)?;
     push_all(&mut lits, others)?;
-    cnf.add_clause_from_lits(lits.as_slice())
+    cnf.add_clause_unless_tautology(lits.as_slice())
 }
 
 // Demands that a literal of `first` is true, or some form holds (`positive`) or fails.
@@ -80,8 +80,8 @@ fn demand_of(
 {
     match form {
         Form::Yes if positive => Ok(()),
-        Form::Yes => cnf.add_clause_from_lits(first),
-        Form::No if positive => cnf.add_clause_from_lits(first),
+        Form::Yes => cnf.add_clause_unless_tautology(first),
+        Form::No if positive => cnf.add_clause_unless_tautology(first),
         Form::No => Ok(()),
         Form::Is(v, c) => {
             let lit = with_sign(positive, value_lit(table, *v, *c));

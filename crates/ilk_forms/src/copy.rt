@@ -1,7 +1,7 @@
 ghost use Rattle.std.specs.Prelude.{◌≡◌, ℕ, ◌+◌, ◌*◌, ◌<◌, ◌≤◌, ◌++◌, List, Bool, nat_lt, sum, length, OnOk, IfOk, IsTrue};
 ghost use Rattle.std.specs.List.{list_all};
 ghost use Rattle.ilk_cnf.specs.Extends.{PartExtensionsAreExactly};
-ghost use Rattle.ilk_cnf.specs.Formula.{with_vars_and_clauses, with_var_count};
+ghost use Rattle.ilk_cnf.specs.Formula.{with_var_count_and_clauses, with_var_count};
 ghost use Rattle.ilk_cnf.specs.Part.{with_part, clauses_from_lists};
 ghost use Rattle.ilk_ints.specs.Bits.{bit_count};
 ghost use Rattle.ilk_ints.specs.Named.{value_bound_var_count};
@@ -12,7 +12,7 @@ use ilk_base::Row;
 use ilk_cnf::{Cnf, Lits};
 use ilk_ints::{
     Bounded, add_bound_lits, add_number_clauses, add_value_lits, bit_count, reserve_number,
-    reserve_value_bound_lits,
+    reserve_value_and_bound_vars,
 };
 use ilk_ir::Ranges;
 use std::alloc::{AllocError, Global};
@@ -43,14 +43,14 @@ fn take_columns(cnf: &mut Cnf, ranges: &[u8]) -> Result<(), AllocError>
         (cnf.old.vars + copy_value_bound_var_count ranges.now)) }
 {
     for range in ranges {
-        reserve_value_bound_lits(cnf, *range)?;
+        reserve_value_and_bound_vars(cnf, *range)?;
     }
     Ok(())
 }
 
 /// Adds the variables of a copy (time frame) with these `ranges` to `cnf`, and no clause;
 /// `add_copy_clauses` adds the clauses. On error, `cnf` may have grown.
-pub fn reserve_copy(cnf: &mut Cnf, ranges: &Ranges) -> Result<(), AllocError>
+pub fn reserve_copy_vars(cnf: &mut Cnf, ranges: &Ranges) -> Result<(), AllocError>
     ensures taken { OnOk result
         (cnf.new ≡ with_var_count cnf.old (cnf.old.vars + copy_var_count ranges.now)) }
 
@@ -141,7 +141,7 @@ fn add_columns(
 }
 
 /// Adds the clauses of a copy (time frame) with these `ranges` to `cnf`, and returns its literals.
-/// The copy's variables already exist (`reserve_copy`), after the first `before` ones. An
+/// The copy's variables already exist (`reserve_copy_vars`), after the first `before` ones. An
 /// assignment of those extends over the copy in exactly one way for each list of values in range.
 /// On error, `cnf` may have grown.
 pub fn add_copy_clauses(
@@ -154,7 +154,7 @@ pub fn add_copy_clauses(
     ensures table { IfOk result (λ table. table ≡ (copy_part ranges.now before).columns) }
     ensures made { OnOk result
         (cnf.new
-        ≡ with_vars_and_clauses cnf.old cnf.old.vars
+        ≡ with_var_count_and_clauses cnf.old cnf.old.vars
         (clauses_from_lists (copy_part ranges.now before).part.clauses)) }
     ensures law { OnOk result
         ((a : List Bool) → length a ≡ before →

@@ -3,8 +3,8 @@
 //! A copy (time frame) has one integer for each variable of the system (`specs/Copy`). The bits of
 //! all integers come first, then the literals of their values and bounds, variable by variable.
 //! Forms and rules use only these literals, so a search sees a value in one literal and not in its
-//! bits. `reserve_copy` adds the variables of a copy, and `add_copy_clauses` its clauses. So copies
-//! may have their variables in another order than their clauses.
+//! bits. `reserve_copy_vars` adds the variables of a copy, and `add_copy_clauses` its clauses. So
+//! copies may have their variables in another order than their clauses.
 //!
 //! `demand_some_lit_or_form` adds clauses that say that some literal is true or a form holds
 //! (`specs/Demand`). Not is pushed inward. An Or of a variable's values up to k is the copy's
@@ -25,5 +25,5 @@ mod literals;
 mod violated;
 
 pub use clauses::demand_some_lit_or_form;
-pub use copy::{CopyLits, VarValueAndBoundLits, add_copy_clauses, reserve_copy};
+pub use copy::{CopyLits, VarValueAndBoundLits, add_copy_clauses, reserve_copy_vars};
 pub use violated::{demand_form_or_some_fail, demand_some_first_violated, demand_some_form_fails};

@@ -5,7 +5,7 @@ ghost use Rattle.ilk_cnf.specs.Part.{with_part, empty_part};
 ghost use Rattle.ilk_ir.specs.Form.{tree_of, trees_of};
 ghost use Rattle.ilk_ir.specs.Tree.{tree_valid, each_valid, value_valid};
 ghost use Rattle.ilk_forms.specs.Leaf.{value_lit, has_lits_within_vars, ranges_of};
-ghost use Rattle.ilk_forms.specs.Gathered.{with_sign, gate_part, combined_lit, merge_lits_if_same_gate, form_to_and_or_lits, forms_to_and_or_lits};
+ghost use Rattle.ilk_forms.specs.Gathered.{with_sign, gate_part, combined_lit, keep_lits_if_same_gate, form_to_and_or_lits, forms_to_and_or_lits};
 
 use crate::bound::or_of_values_bound_lit;
 use crate::copy::CopyLits;
@@ -75,12 +75,12 @@ fn take_in(
     ensures lits { IfOk result
         (λ taken. taken
         ≡
-        (merge_lits_if_same_gate outer inner
+        (keep_lits_if_same_gate outer inner
         (record { part = empty_part cnf.old.vars; lits = lits })).lits) }
     ensures made { OnOk result
         (cnf.new
         ≡ with_part cnf.old
-        (merge_lits_if_same_gate outer inner
+        (keep_lits_if_same_gate outer inner
         (record { part = empty_part cnf.old.vars; lits = lits })).part) }
 {
     if outer == inner {
@@ -151,13 +151,13 @@ fn join(
     ensures lits { IfOk result
         (λ lits. lits
         ≡
-        (merge_lits_if_same_gate all inner
+        (keep_lits_if_same_gate all inner
         (forms_to_and_or_lits table.now inner positive (trees_of forms.now)
         cnf.old.vars)).lits) }
     ensures made { OnOk result
         (cnf.new
         ≡ with_part cnf.old
-        (merge_lits_if_same_gate all inner
+        (keep_lits_if_same_gate all inner
         (forms_to_and_or_lits table.now inner positive (trees_of forms.now)
         cnf.old.vars)).part) }
 {

@@ -12,7 +12,7 @@ ghost use Rattle.ilk_forms.specs.Copy.{LiteralsEncode};
 ghost use Rattle.ilk_forms.specs.Leaf.{has_lits_within_vars, ranges_of};
 ghost use Rattle.ilk_forms.specs.Demand.{clause_of_two_lists_part};
 ghost use Rattle.ilk_forms.specs.Size.{tree_size};
-ghost use Rattle.ilk_forms.specs.Violated.{next_instance_first_violated_lits, first_violated_lits, some_first_violated_part, some_first_violated_bits, has_no_trees, is_trivially_false, has_trivially_false, form_fails_part, form_fails_bits};
+ghost use Rattle.ilk_forms.specs.Violated.{next_first_violated_marker_lits, first_violated_marker_lits, some_first_violated_part, some_first_violated_bits, has_no_trees, is_trivially_false, has_trivially_false, form_fails_part, form_fails_bits};
 
 use crate::clauses::add_clause_of_two_lists;
 use crate::copy::CopyLits;
@@ -35,7 +35,7 @@ fn add_next(alloc: Global, cnf: &mut Cnf, before: Lit, kept: Lit) -> Result<Next
     ensures first { IfOk result (λ next. next.first ≡ negative_lit (cnf.old.vars + 1)) }
     ensures before { IfOk result (λ next. next.before ≡ positive_lit (cnf.old.vars + 1 + 1)) }
     ensures made { OnOk result
-        (cnf.new ≡ with_part cnf.old (next_instance_first_violated_lits before kept
+        (cnf.new ≡ with_part cnf.old (next_first_violated_marker_lits before kept
         cnf.old.vars).part) }
 {
     let other = add_or_gate(alloc, cnf, &[before.negated(), kept])?;
@@ -46,7 +46,7 @@ fn add_next(alloc: Global, cnf: &mut Cnf, before: Lit, kept: Lit) -> Result<Next
     })
 }
 
-fn first_violated_lits(
+fn first_violated_marker_lits(
     alloc: Global,
     cnf: &mut Cnf,
     before: Lit,
@@ -54,9 +54,10 @@ fn first_violated_lits(
 ) -> Result<Lits, AllocError>
     requires { IsTrue (is_clause_over cnf.old.vars (before ∷ others.now)) }
     ensures lits { IfOk result
-        (λ lits. lits ≡ (first_violated_lits before others.now cnf.old.vars).lits) }
+        (λ lits. lits ≡ (first_violated_marker_lits before others.now cnf.old.vars).lits) }
     ensures made { OnOk result
-        (cnf.new ≡ with_part cnf.old (first_violated_lits before others.now cnf.old.vars).part) }
+        (cnf.new ≡ with_part cnf.old
+        (first_violated_marker_lits before others.now cnf.old.vars).part) }
 {
     let mut before = before;
     let mut lits = Lits::new(alloc);
@@ -74,9 +75,9 @@ fn some_violated(alloc: Global, cnf: &mut Cnf, kept: Lit, others: &[Lit]) -> Res
         (cnf.new
         ≡ with_part cnf.old
         (clause_of_two_lists_part (negated_lit kept ∷ [])
-        (first_violated_lits kept others.now cnf.old.vars))) }
+        (first_violated_marker_lits kept others.now cnf.old.vars))) }
 {
-    let lits = first_violated_lits(alloc, cnf, kept, others)?;
+    let lits = first_violated_marker_lits(alloc, cnf, kept, others)?;
     add_clause_of_two_lists(alloc, cnf, &[kept.negated()], lits.as_slice())?;
     Ok(())
 }
@@ -87,7 +88,7 @@ fn add_first_violated(alloc: Global, cnf: &mut Cnf, kept: &[Lit]) -> Result<(), 
         (cnf.new ≡ with_part cnf.old (some_first_violated_part kept.now cnf.old.vars)) }
 {
     match kept {
-        [] => cnf.add_clause_from_lits(&[])?,
+        [] => cnf.add_clause_unless_tautology(&[])?,
         [first, rest @ ..] => some_violated(alloc, cnf, *first, rest)?,
     }
     Ok(())

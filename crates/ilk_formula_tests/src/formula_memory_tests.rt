@@ -3,7 +3,7 @@ ghost use Rattle.ilk_cnf.specs.Formula.{is_clause_over};
 
 use ilk_base::{Row, Text};
 use ilk_cnf::{Clause, Cnf, Lit, add_and_gate, add_or_gate, negated_lits};
-use ilk_forms::{add_copy_clauses, demand_some_first_violated, reserve_copy};
+use ilk_forms::{add_copy_clauses, demand_some_first_violated, reserve_copy_vars};
 use ilk_ints::one_of;
 use std::alloc::{AllocError, Global};
 use std::test::Fail;
@@ -23,7 +23,7 @@ fn demanded(alloc: Global, lits: &[Lit]) -> Result<u64, AllocError>
     requires { IsTrue (is_clause_over 3 lits.now) }
 {
     let mut cnf = formula(alloc)?;
-    cnf.add_clause_from_lits(lits)?;
+    cnf.add_clause_unless_tautology(lits)?;
     Ok(cnf.clauses())
 }
 
@@ -82,7 +82,7 @@ fn copied(alloc: Global) -> Result<u64, AllocError> {
     ranges.push(5)?;
     ranges.push(8)?;
     let mut cnf = Cnf::new(alloc);
-    reserve_copy(&mut cnf, &ranges)?;
+    reserve_copy_vars(&mut cnf, &ranges)?;
     let table = add_copy_clauses(alloc, &mut cnf, &ranges, 0)?;
     Ok(table.len())
 }

@@ -45,7 +45,7 @@ fn patterns_with(alloc: Global, range: u8, value: u8, patterns: u64) -> Result<V
     let mut cnf = Cnf::new(alloc);
     let n = number(alloc, &mut cnf, range)?;
     let lit = is(alloc, &mut cnf, n, value)?;
-    cnf.add_clause_from_lits(&[lit])?;
+    cnf.add_clause_unless_tautology(&[lit])?;
     let mut found = Vec::new(alloc);
     for pattern in 0..patterns {
         let a = assignment_of(alloc, cnf.vars(), pattern)?;

@@ -16,12 +16,12 @@ fn formula(alloc: Global, refuted: bool) -> Result<Cnf, AllocError>
     cnf.fresh()?;
     cnf.fresh()?;
     cnf.fresh()?;
-    cnf.add_clause_from_lits(&[Lit::new(1, false), Lit::new(2, false), Lit::new(3, true)])?;
-    cnf.add_clause_from_lits(&[Lit::new(1, false), Lit::new(2, true)])?;
-    cnf.add_clause_from_lits(&[Lit::new(3, true), Lit::new(4, true)])?;
-    cnf.add_clause_from_lits(&[Lit::new(1, true)])?;
+    cnf.add_clause_unless_tautology(&[Lit::new(1, false), Lit::new(2, false), Lit::new(3, true)])?;
+    cnf.add_clause_unless_tautology(&[Lit::new(1, false), Lit::new(2, true)])?;
+    cnf.add_clause_unless_tautology(&[Lit::new(3, true), Lit::new(4, true)])?;
+    cnf.add_clause_unless_tautology(&[Lit::new(1, true)])?;
     if refuted {
-        cnf.add_clause_from_lits(&[Lit::new(2, false), Lit::new(3, false)])?;
+        cnf.add_clause_unless_tautology(&[Lit::new(2, false), Lit::new(3, false)])?;
     }
     Ok(cnf)
 }

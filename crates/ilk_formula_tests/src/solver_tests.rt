@@ -46,9 +46,9 @@ fn weighing(alloc: Global) -> Result<Cnf, AllocError> {
     cnf.fresh()?;
     cnf.fresh()?;
     cnf.fresh()?;
-    cnf.add_clause_from_lits(&[Lit::new(2, true), Lit::new(3, true), Lit::new(4, true)])?;
-    cnf.add_clause_from_lits(&[Lit::new(2, true), Lit::new(3, true), Lit::new(4, false)])?;
-    cnf.add_clause_from_lits(&[Lit::new(1, true), Lit::new(3, false)])?;
+    cnf.add_clause_unless_tautology(&[Lit::new(2, true), Lit::new(3, true), Lit::new(4, true)])?;
+    cnf.add_clause_unless_tautology(&[Lit::new(2, true), Lit::new(3, true), Lit::new(4, false)])?;
+    cnf.add_clause_unless_tautology(&[Lit::new(1, true), Lit::new(3, false)])?;
     Ok(cnf)
 }
 
@@ -92,10 +92,10 @@ fn forcing(alloc: Global, refuted: bool) -> Result<Cnf, AllocError> {
     let mut cnf = Cnf::new(alloc);
     cnf.fresh()?;
     cnf.fresh()?;
-    cnf.add_clause_from_lits(&[Lit::new(1, true)])?;
-    cnf.add_clause_from_lits(&[Lit::new(1, false), Lit::new(2, true)])?;
+    cnf.add_clause_unless_tautology(&[Lit::new(1, true)])?;
+    cnf.add_clause_unless_tautology(&[Lit::new(1, false), Lit::new(2, true)])?;
     if refuted {
-        cnf.add_clause_from_lits(&[Lit::new(1, false), Lit::new(2, false)])?;
+        cnf.add_clause_unless_tautology(&[Lit::new(1, false), Lit::new(2, false)])?;
     }
     Ok(cnf)
 }

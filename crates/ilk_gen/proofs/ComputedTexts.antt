@@ -8,9 +8,9 @@ use Rattle.ilk_gen.specs.StationRoutes.{stations_table}
 use Rattle.ilk_gen.specs.Stations.{stations_net}
 use Rattle.ilk_gen.specs.StationsText.{stations_text}
 use Rattle.ilk_conf_write.specs.ConfigurationText.{configuration_value}
-use Rattle.ilk_net_read.specs.Network.{network_from_value}
+use Rattle.ilk_net_read.specs.Network.{network_from_conf_value}
 use Rattle.ilk_net_read.specs.declared.version.Version.TheVariants.{First}
-use Rattle.ilk_table_read.specs.Table.{net_and_table_drafts, table_draft_from_value}
+use Rattle.ilk_table_read.specs.Table.{net_and_table_drafts, table_draft_from_conf_value}
 use Rattle.serde_json.proofs.OnLiterals.{serde_json_on_literals}
 use Rattle.serde_json.specs.Data.{Data}
 use Rattle.serde_json.specs.Read.{read}
@@ -26,13 +26,13 @@ value-read : (n : ℕ) → 1 ≤ n → n ≤ 16 → read (stations_text n) ≡ S
 unfolding digits serde_json_on_literals
 value-read = any_of_sixteen (λ n. read (stations_text n) ≡ Some (stations_value n)) refl refl refl refl refl refl refl refl refl refl refl refl refl refl refl refl
 
-network-read : (n : ℕ) → 1 ≤ n → n ≤ 16 → network_from_value (stations_value n) ≡ Ok (stations_net n)
+network-read : (n : ℕ) → 1 ≤ n → n ≤ 16 → network_from_conf_value (stations_value n) ≡ Ok (stations_net n)
 unfolding digits
-network-read = any_of_sixteen (λ n. network_from_value (stations_value n) ≡ Ok (stations_net n)) refl refl refl refl refl refl refl refl refl refl refl refl refl refl refl refl
+network-read = any_of_sixteen (λ n. network_from_conf_value (stations_value n) ≡ Ok (stations_net n)) refl refl refl refl refl refl refl refl refl refl refl refl refl refl refl refl
 
-table-read : (n : ℕ) → 1 ≤ n → n ≤ 16 → table_draft_from_value (stations_value n) ≡ Ok (stations_table n)
+table-read : (n : ℕ) → 1 ≤ n → n ≤ 16 → table_draft_from_conf_value (stations_value n) ≡ Ok (stations_table n)
 unfolding digits
-table-read = any_of_sixteen (λ n. table_draft_from_value (stations_value n) ≡ Ok (stations_table n)) refl refl refl refl refl refl refl refl refl refl refl refl refl refl refl refl
+table-read = any_of_sixteen (λ n. table_draft_from_conf_value (stations_value n) ≡ Ok (stations_table n)) refl refl refl refl refl refl refl refl refl refl refl refl refl refl refl refl
 
 pub stations-read : (n : ℕ) → 1 ≤ n → n ≤ 16 → net_and_table_drafts (stations_text n) ≡ Ok (stations_net n, stations_table n)
 stations-read n some few =

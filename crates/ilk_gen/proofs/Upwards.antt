@@ -11,7 +11,7 @@ use Rattle.ilk_base.specs.Option.{is_some_and}
 use Rattle.ilk_plant.proofs.Neighbours.{ends_of_draft-within}
 use Rattle.ilk_plant.specs.Broken.{broken_below}
 use Rattle.ilk_plant.specs.Network.{same_direction}
-use Rattle.ilk_plant.specs.NetworkRules.{End, ends_of, is_next_up, reaches_via_below, refers_to_section, is_on_up_cycle, section_named}
+use Rattle.ilk_plant.specs.NetworkRules.{End, ends_of, is_next_up, reaches_via_below, end_refers_to_section, is_on_up_cycle, section_named}
 use Rattle.ilk_plant.specs.declared.broken.Broken.{Broken}
 use Rattle.ilk_plant.specs.declared.broken.Rule.{Rule}
 use Rattle.ilk_plant.specs.declared.draft.NetDraft.{NetDraft}
@@ -32,7 +32,7 @@ greater true (Some z) x y a b = grind (arith, nat_tests)
 step-above : (net : NetDraft) → lists_upwards net ≡ true → (x y : ℕ) → is_next_up net x y ≡ true → x < y
 step-above net upwards x y h =
     let found : (k : ℕ) × (end : End) × (slice_get (ends_of net x) k ≡ Some end)
-    × ((same_direction end.side Up && refers_to_section net y end) ≡ true) = list_any-at (λ end. same_direction end.side Up && refers_to_section net y end) (ends_of net x) h in
+    × ((same_direction end.side Up && end_refers_to_section net y end) ≡ true) = list_any-at (λ end. same_direction end.side Up && end_refers_to_section net y end) (ends_of net x) h in
     let within = ends_of_draft-within net x found.0 found.1 found.2 in
     let here = list_all-slice_get (λ z. list_all (leads_to_greater net z) (ends_of net z)) (range_with_len 0 (length net.sections)) x x upwards (range-at (length net.sections) x within) in
     greater (same_direction found.1.side Up) (section_named net found.1.name) x y (list_all-slice_get (leads_to_greater net x) (ends_of net x) found.0 found.1 here found.2) found.3

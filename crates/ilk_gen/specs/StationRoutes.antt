@@ -9,7 +9,7 @@ use Rattle.ilk_plant.specs.declared.draft.RouteDraft.{RouteDraft}
 use Rattle.ilk_plant.specs.declared.draft.TableDraft.{TableDraft}
 use Rattle.ilk_plant.specs.declared.network.Position.{Position}
 use Rattle.ilk_plant.specs.declared.network.Position.TheVariants.{Plus, Minus}
-use Rattle.ilk_gen.specs.Stations.{down_board_name, down_point_name, line, line_down_board, line_up_board, track_name, up_board_name, up_point_name}
+use Rattle.ilk_gen.specs.Stations.{down_board_name, down_end_point_name, line, line_down_board, line_up_board, track_name, up_board_name, up_end_point_name}
 
 -- The name of route `k` of station `j`: for example `s1r2`.
 abbrev pub route_name : ℕ → ℕ → Name
@@ -33,22 +33,22 @@ route_over_point name source destination point at behind = record {
 -- Route `k` of station `j`, up into the station from the line below it, by the track at position
 -- `at`.
 abbrev pub up_route_into : ℕ → ℕ → Position → RouteDraft
-up_route_into j k at = route_over_point (route_name j k) (up_board_name (line (j - 1))) (Some (up_board_name (track_name j at))) (down_point_name j) at (track_name j at)
+up_route_into j k at = route_over_point (route_name j k) (up_board_name (line (j - 1))) (Some (up_board_name (track_name j at))) (down_end_point_name j) at (track_name j at)
 
 -- Route `k` of station `j` of `n`, up out of the station to the line above it, from the track at
 -- position `at`. At the last station it has no destination board.
 abbrev pub up_route_out_of : ℕ → ℕ → ℕ → Position → RouteDraft
-up_route_out_of n j k at = route_over_point (route_name j k) (up_board_name (track_name j at)) (line_up_board n j) (up_point_name j) at (line j)
+up_route_out_of n j k at = route_over_point (route_name j k) (up_board_name (track_name j at)) (line_up_board n j) (up_end_point_name j) at (line j)
 
 -- Route `k` of station `j`, down into the station from the line above it, by the track at position
 -- `at`.
 abbrev pub down_route_into : ℕ → ℕ → Position → RouteDraft
-down_route_into j k at = route_over_point (route_name j k) (down_board_name (line j)) (Some (down_board_name (track_name j at))) (up_point_name j) at (track_name j at)
+down_route_into j k at = route_over_point (route_name j k) (down_board_name (line j)) (Some (down_board_name (track_name j at))) (up_end_point_name j) at (track_name j at)
 
 -- Route `k` of station `j`, down out of the station to the line below it, from the track at
 -- position `at`. At station 1 it has no destination board.
 abbrev pub down_route_out_of : ℕ → ℕ → Position → RouteDraft
-down_route_out_of j k at = route_over_point (route_name j k) (down_board_name (track_name j at)) (line_down_board (j - 1)) (down_point_name j) at (line (j - 1))
+down_route_out_of j k at = route_over_point (route_name j k) (down_board_name (track_name j at)) (line_down_board (j - 1)) (down_end_point_name j) at (line (j - 1))
 
 -- The eight routes of station `j` of `n`, without conflicts.
 abbrev pub station_routes : ℕ → ℕ → List RouteDraft

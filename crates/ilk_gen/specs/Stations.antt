@@ -25,8 +25,8 @@ abbrev pub line : ℕ → Name
 line j = codes "l" ++ decimal j
 
 -- The name of the point at the down end of station `j`.
-abbrev pub down_point_name : ℕ → Name
-down_point_name j = codes "p" ++ decimal j
+abbrev pub down_end_point_name : ℕ → Name
+down_end_point_name j = codes "p" ++ decimal j
 
 -- The name of the track of station `j` that joins the legs of its points at a position.
 abbrev pub track_name : ℕ → Position → Name
@@ -34,8 +34,8 @@ track_name j Plus = codes "t" ++ decimal j
 track_name j Minus = codes "u" ++ decimal j
 
 -- The name of the point at the up end of station `j`.
-abbrev pub up_point_name : ℕ → Name
-up_point_name j = codes "q" ++ decimal j
+abbrev pub up_end_point_name : ℕ → Name
+up_end_point_name j = codes "q" ++ decimal j
 
 -- The name of the board for up trains on a section.
 abbrev pub up_board_name : Name → Name
@@ -55,12 +55,12 @@ line_down_board j = then_some (nat_lt 0 j) (down_board_name (line j))
 
 -- The name of the down neighbour of line `j`, a point of station `j`, or `None` for line 0.
 abbrev pub line_down_neighbour : ℕ → Option Name
-line_down_neighbour j = then_some (nat_lt 0 j) (up_point_name j)
+line_down_neighbour j = then_some (nat_lt 0 j) (up_end_point_name j)
 
 -- The name of the up neighbour of line `j` of `n` stations, a point of station `j` + 1, or `None`
 -- for the last line.
 abbrev pub line_up_neighbour : ℕ → ℕ → Option Name
-line_up_neighbour n j = then_some (nat_lt j n) (down_point_name (j + 1))
+line_up_neighbour n j = then_some (nat_lt j n) (down_end_point_name (j + 1))
 
 -- The draft of line `j` of `n` stations.
 abbrev pub line_section : ℕ → ℕ → SectionDraft
@@ -70,24 +70,24 @@ line_section n j = record { name = line j; kind = Linear (line_down_neighbour j)
 abbrev pub track_section : ℕ → Position → SectionDraft
 track_section j at = record {
   name = track_name j at;
-  kind = Linear (Some (down_point_name j)) (Some (up_point_name j)) (Some (down_board_name (track_name j at))) (Some (up_board_name (track_name j at)));
+  kind = Linear (Some (down_end_point_name j)) (Some (up_end_point_name j)) (Some (down_board_name (track_name j at))) (Some (up_board_name (track_name j at)));
 }
 
 -- The draft of the point at the down end of station `j`. It faces up, to the tracks.
-abbrev pub down_point_section : ℕ → SectionDraft
-down_point_section j = record { name = down_point_name j; kind = Point (line (j - 1)) (track_name j Plus) (track_name j Minus) Up }
+abbrev pub down_end_point_section : ℕ → SectionDraft
+down_end_point_section j = record { name = down_end_point_name j; kind = Point (line (j - 1)) (track_name j Plus) (track_name j Minus) Up }
 
 -- The draft of the point at the up end of station `j`. It faces down, to the tracks.
-abbrev pub up_point_section : ℕ → SectionDraft
-up_point_section j = record { name = up_point_name j; kind = Point (line j) (track_name j Plus) (track_name j Minus) Down }
+abbrev pub up_end_point_section : ℕ → SectionDraft
+up_end_point_section j = record { name = up_end_point_name j; kind = Point (line j) (track_name j Plus) (track_name j Minus) Down }
 
 -- The drafts of the four sections of station `j` of `n`, and of the line above it.
 abbrev pub station_and_line_sections : ℕ → ℕ → List SectionDraft
 station_and_line_sections n j =
-    down_point_section j
+    down_end_point_section j
     ∷ track_section j Plus
     ∷ track_section j Minus
-    ∷ up_point_section j
+    ∷ up_end_point_section j
     ∷ line_section n j
     ∷ []
 

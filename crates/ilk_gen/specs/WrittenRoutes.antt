@@ -26,20 +26,20 @@ abbrev pub conflicts_down_out_of : ℕ → List ℕ → List Name
 conflicts_down_out_of j own = station_route_names_if (nat_lt 1 j) (j - 1) (3 ∷ 4 ∷ []) ++ route_names j own
 
 -- The route with these conflicts.
-abbrev pub with_listed_conflicts : List Name → RouteDraft → RouteDraft
-with_listed_conflicts names route = record route { conflicts = names }
+abbrev pub route_with_given_conflicts : List Name → RouteDraft → RouteDraft
+route_with_given_conflicts names route = record route { conflicts = names }
 
 -- The routes of station `j` of `n`, with conflicts as constants.
 abbrev pub explicit_station_routes : ℕ → ℕ → List RouteDraft
 explicit_station_routes n j =
-    with_listed_conflicts (route_names j (2 ∷ 5 ∷ 7 ∷ 8 ∷ [])) (up_route_into j 1 Plus)
-    ∷ with_listed_conflicts (route_names j (1 ∷ 6 ∷ 7 ∷ 8 ∷ [])) (up_route_into j 2 Minus)
-    ∷ with_listed_conflicts (conflicts_up_out_of n j (4 ∷ 5 ∷ 6 ∷ [])) (up_route_out_of n j 3 Plus)
-    ∷ with_listed_conflicts (conflicts_up_out_of n j (3 ∷ 5 ∷ 6 ∷ [])) (up_route_out_of n j 4 Minus)
-    ∷ with_listed_conflicts (route_names j (1 ∷ 3 ∷ 4 ∷ 6 ∷ [])) (down_route_into j 5 Plus)
-    ∷ with_listed_conflicts (route_names j (2 ∷ 3 ∷ 4 ∷ 5 ∷ [])) (down_route_into j 6 Minus)
-    ∷ with_listed_conflicts (conflicts_down_out_of j (1 ∷ 2 ∷ 8 ∷ [])) (down_route_out_of j 7 Plus)
-    ∷ with_listed_conflicts (conflicts_down_out_of j (1 ∷ 2 ∷ 7 ∷ [])) (down_route_out_of j 8 Minus)
+    route_with_given_conflicts (route_names j (2 ∷ 5 ∷ 7 ∷ 8 ∷ [])) (up_route_into j 1 Plus)
+    ∷ route_with_given_conflicts (route_names j (1 ∷ 6 ∷ 7 ∷ 8 ∷ [])) (up_route_into j 2 Minus)
+    ∷ route_with_given_conflicts (conflicts_up_out_of n j (4 ∷ 5 ∷ 6 ∷ [])) (up_route_out_of n j 3 Plus)
+    ∷ route_with_given_conflicts (conflicts_up_out_of n j (3 ∷ 5 ∷ 6 ∷ [])) (up_route_out_of n j 4 Minus)
+    ∷ route_with_given_conflicts (route_names j (1 ∷ 3 ∷ 4 ∷ 6 ∷ [])) (down_route_into j 5 Plus)
+    ∷ route_with_given_conflicts (route_names j (2 ∷ 3 ∷ 4 ∷ 5 ∷ [])) (down_route_into j 6 Minus)
+    ∷ route_with_given_conflicts (conflicts_down_out_of j (1 ∷ 2 ∷ 8 ∷ [])) (down_route_out_of j 7 Plus)
+    ∷ route_with_given_conflicts (conflicts_down_out_of j (1 ∷ 2 ∷ 7 ∷ [])) (down_route_out_of j 8 Minus)
     ∷ []
 
 -- The routes of stations 1 to `n`, with conflicts as constants.

@@ -13,8 +13,8 @@ pub(crate) fn line(alloc: Global, j: u32) -> Result<Text, AllocError>
     Ok(Text::of(format!(in alloc; "l{j}")?))
 }
 
-pub(crate) fn down_point_name(alloc: Global, j: u32) -> Result<Text, AllocError>
-    ensures { IfOk result (λ name. name ≡ stations.down_point_name j) }
+pub(crate) fn down_end_point_name(alloc: Global, j: u32) -> Result<Text, AllocError>
+    ensures { IfOk result (λ name. name ≡ stations.down_end_point_name j) }
 {
     Ok(Text::of(format!(in alloc; "p{j}")?))
 }
@@ -28,8 +28,8 @@ pub(crate) fn track_name(alloc: Global, j: u32, at: Position) -> Result<Text, Al
     }
 }
 
-pub(crate) fn up_point_name(alloc: Global, j: u32) -> Result<Text, AllocError>
-    ensures { IfOk result (λ name. name ≡ stations.up_point_name j) }
+pub(crate) fn up_end_point_name(alloc: Global, j: u32) -> Result<Text, AllocError>
+    ensures { IfOk result (λ name. name ≡ stations.up_end_point_name j) }
 {
     Ok(Text::of(format!(in alloc; "q{j}")?))
 }
@@ -74,7 +74,7 @@ pub(crate) fn point_below(alloc: Global, j: u32) -> Result<Option<Text>, AllocEr
     ensures { IfOk result (λ name. name ≡ stations.line_down_neighbour j) }
 {
     if 0 < j {
-        Ok(Some(up_point_name(alloc, j)?))
+        Ok(Some(up_end_point_name(alloc, j)?))
     } else {
         Ok(None)
     }
@@ -84,7 +84,7 @@ pub(crate) fn point_above(alloc: Global, n: u32, j: u32) -> Result<Option<Text>,
     ensures { IfOk result (λ name. name ≡ stations.line_up_neighbour n j) }
 {
     if j < n {
-        Ok(Some(down_point_name(alloc, j + 1)?))
+        Ok(Some(down_end_point_name(alloc, j + 1)?))
     } else {
         Ok(None)
     }

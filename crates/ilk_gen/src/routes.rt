@@ -7,8 +7,8 @@ ghost use Rattle.ilk_gen.specs.WrittenRoutes as written;
 ghost use Rattle.ilk_gen.specs.declared.making.TheConstants.{MAX_STATIONS};
 
 use crate::names::{
-    down_board_name, down_point_name, line, line_down_board, line_up_board, route_name, track_name,
-    up_board_name, up_point_name,
+    down_board_name, down_end_point_name, line, line_down_board, line_up_board, route_name,
+    track_name, up_board_name, up_end_point_name,
 };
 use ilk_plant::{ListedDraft, Position, RouteDraft, Row, TableDraft, Text};
 use std::alloc::{AllocError, Global};
@@ -49,7 +49,7 @@ fn over_point(
 ) -> Result<RouteDraft, AllocError>
     ensures { IfOk result
         (λ route. route
-        ≡ written.with_listed_conflicts conflicts
+        ≡ written.route_with_given_conflicts conflicts
         (stations.route_over_point ends.name ends.source ends.destination point.now at
         behind.now)) }
 {
@@ -82,10 +82,10 @@ fn up_into(
 ) -> Result<RouteDraft, AllocError>
     requires { 1 ≤ j }
     ensures { IfOk result (λ route. route
-        ≡ written.with_listed_conflicts conflicts (stations.up_route_into j k at)) }
+        ≡ written.route_with_given_conflicts conflicts (stations.up_route_into j k at)) }
 {
     let below = line(alloc, j - 1)?;
-    let point = down_point_name(alloc, j)?;
+    let point = down_end_point_name(alloc, j)?;
     let track_name = track_name(alloc, j, at)?;
     let name = route_name(alloc, j, k)?;
     let source = up_board_name(alloc, &below)?;
@@ -107,11 +107,11 @@ fn up_out_of(
     conflicts: Row<Text>,
 ) -> Result<RouteDraft, AllocError>
     ensures { IfOk result
-        (λ route. route ≡ written.with_listed_conflicts conflicts
+        (λ route. route ≡ written.route_with_given_conflicts conflicts
         (stations.up_route_out_of n j k at)) }
 {
     let above = line(alloc, j)?;
-    let point = up_point_name(alloc, j)?;
+    let point = up_end_point_name(alloc, j)?;
     let track_name = track_name(alloc, j, at)?;
     let name = route_name(alloc, j, k)?;
     let source = up_board_name(alloc, &track_name)?;
@@ -132,10 +132,10 @@ fn down_into(
     conflicts: Row<Text>,
 ) -> Result<RouteDraft, AllocError>
     ensures { IfOk result (λ route. route
-        ≡ written.with_listed_conflicts conflicts (stations.down_route_into j k at)) }
+        ≡ written.route_with_given_conflicts conflicts (stations.down_route_into j k at)) }
 {
     let above = line(alloc, j)?;
-    let point = up_point_name(alloc, j)?;
+    let point = up_end_point_name(alloc, j)?;
     let track_name = track_name(alloc, j, at)?;
     let name = route_name(alloc, j, k)?;
     let source = down_board_name(alloc, &above)?;
@@ -157,11 +157,11 @@ fn down_out_of(
 ) -> Result<RouteDraft, AllocError>
     requires { 1 ≤ j }
     ensures { IfOk result
-        (λ route. route ≡ written.with_listed_conflicts conflicts
+        (λ route. route ≡ written.route_with_given_conflicts conflicts
         (stations.down_route_out_of j k at)) }
 {
     let below = line(alloc, j - 1)?;
-    let point = down_point_name(alloc, j)?;
+    let point = down_end_point_name(alloc, j)?;
     let track_name = track_name(alloc, j, at)?;
     let name = route_name(alloc, j, k)?;
     let source = down_board_name(alloc, &track_name)?;

@@ -4,8 +4,8 @@ ghost use Rattle.std.specs.Prelude.{◌≡◌, ◌≤◌, ◌++◌, IfOk, OnOk};
 ghost use Rattle.ilk_gen.specs.Stations as stations;
 
 use crate::names::{
-    down_board_name, down_point_name, line, line_down_board, line_up_board, point_above,
-    point_below, track_name, up_board_name, up_point_name,
+    down_board_name, down_end_point_name, line, line_down_board, line_up_board, point_above,
+    point_below, track_name, up_board_name, up_end_point_name,
 };
 use ilk_plant::{Dir, KindDraft, NetDraft, Position, Row, SectionDraft};
 use std::alloc::{AllocError, Global};
@@ -31,8 +31,8 @@ fn track_section(alloc: Global, j: u32, at: Position) -> Result<SectionDraft, Al
     ensures { IfOk result (λ section. section ≡ stations.track_section j at) }
 {
     let name = track_name(alloc, j, at)?;
-    let down = down_point_name(alloc, j)?;
-    let up = up_point_name(alloc, j)?;
+    let down = down_end_point_name(alloc, j)?;
+    let up = up_end_point_name(alloc, j)?;
     let board_down = down_board_name(alloc, &name)?;
     let board_up = up_board_name(alloc, &name)?;
     let kind = KindDraft::Linear {
@@ -44,11 +44,11 @@ fn track_section(alloc: Global, j: u32, at: Position) -> Result<SectionDraft, Al
     Ok(SectionDraft { name, kind })
 }
 
-fn down_point_section(alloc: Global, j: u32) -> Result<SectionDraft, AllocError>
+fn down_end_point_section(alloc: Global, j: u32) -> Result<SectionDraft, AllocError>
     requires { 1 ≤ j }
-    ensures { IfOk result (λ section. section ≡ stations.down_point_section j) }
+    ensures { IfOk result (λ section. section ≡ stations.down_end_point_section j) }
 {
-    let name = down_point_name(alloc, j)?;
+    let name = down_end_point_name(alloc, j)?;
     let stem = line(alloc, j - 1)?;
     let plus = track_name(alloc, j, Position::Plus)?;
     let minus = track_name(alloc, j, Position::Minus)?;
@@ -61,10 +61,10 @@ fn down_point_section(alloc: Global, j: u32) -> Result<SectionDraft, AllocError>
     Ok(SectionDraft { name, kind })
 }
 
-fn up_point_section(alloc: Global, j: u32) -> Result<SectionDraft, AllocError>
-    ensures { IfOk result (λ section. section ≡ stations.up_point_section j) }
+fn up_end_point_section(alloc: Global, j: u32) -> Result<SectionDraft, AllocError>
+    ensures { IfOk result (λ section. section ≡ stations.up_end_point_section j) }
 {
-    let name = up_point_name(alloc, j)?;
+    let name = up_end_point_name(alloc, j)?;
     let stem = line(alloc, j)?;
     let plus = track_name(alloc, j, Position::Plus)?;
     let minus = track_name(alloc, j, Position::Minus)?;
@@ -86,10 +86,10 @@ fn push_station(
     requires { 1 ≤ j }
     ensures { OnOk result (sections.new ≡ sections.old ++ stations.station_and_line_sections n j) }
 {
-    sections.push(down_point_section(alloc, j)?)?;
+    sections.push(down_end_point_section(alloc, j)?)?;
     sections.push(track_section(alloc, j, Position::Plus)?)?;
     sections.push(track_section(alloc, j, Position::Minus)?)?;
-    sections.push(up_point_section(alloc, j)?)?;
+    sections.push(up_end_point_section(alloc, j)?)?;
     sections.push(line_section(alloc, n, j)?)
 }
 

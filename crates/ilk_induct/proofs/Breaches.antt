@@ -21,7 +21,7 @@ use Rattle.ilk_induct.specs.declared.verdict.Verdict.TheVariants.{Unsafe, Breach
 use Rattle.ilk_unroll.specs.Evidence.{HasRun}
 use Rattle.ilk_induct.specs.Right.{IsRunOfQuery, IsRightSystemVerdict}
 use Rattle.ilk_induct.specs.Spent.{LogStepsDerivedAndFresh}
-use Rattle.ilk_induct.specs.Due.{query_with_log, queries_to_query_given_breach, next_hazard_query_or_breach, NoHazardBreachInductionBelow, IsFoundBreachWithoutShorter, QueryFollowsAskedInOrder, IsFinalVerdictAfterAsked, IsValidContinuation}
+use Rattle.ilk_induct.specs.Due.{query_with_log, queries_to_query_given_breach, next_hazard_query_or_breach, NoHazardBreachInductionBelow, IsFoundBreachWithoutShorter, QueryFollowsAskedInOrder, IsRightOrSpentVerdict, IsValidContinuation}
 use Rattle.ilk_unroll.proofs.QueryDemands.{wanted-parts}
 use Rattle.ilk_induct.proofs.Orders.{to-hazard-after, all-to-hazard, more-queries, more-conflicts, asked-to, go-on, found-order, found-to, go-on-found}
 
@@ -43,7 +43,7 @@ pub endangered :
     (log : List LogStep) (asked : List Asked) (left rest : ℕ) →
     QueryFollowsAskedInOrder s g depth conflicts breach (Hazard n) asked left → ((m : ℕ) → m < n → ¬ HasRun s g (Hazard m)) →
     LogStepsDerivedAndFresh s g (query_with_log (Hazard n) log) → count_learned_clauses log + rest ≡ left → IsRunOfQuery s g (Hazard n) t →
-    IsFinalVerdictAfterAsked s g depth conflicts (Unsafe t) (asked ++ query_with_log (Hazard n) log ∷ [])
+    IsRightOrSpentVerdict s g depth conflicts (Unsafe t) (asked ++ query_with_log (Hazard n) log ∷ [])
 endangered s g depth conflicts breach n t log asked left rest d none logged count run =
     let a = query_with_log (Hazard n) log in
     let e : length t.rules ≡ n = steps-of s g (Hazard n) t run in

@@ -13,7 +13,7 @@ use Rattle.ilk_log.specs.Propagation.{after_hint}
 use Rattle.ilk_unroll.specs.Goal.{PlainGoal}
 use Rattle.ilk_unroll.specs.Query.{query_formula}
 use Rattle.ilk_certificate.specs.declared.asked.Asked.{Asked}
-use Rattle.ilk_certificate.specs.Certificate.{IsCertificateText}
+use Rattle.ilk_certificate.specs.Certificate.{IsValidCertificate}
 use Rattle.ilk_certificate.specs.CertificateText.{total_conflicts, has_no_hint_zero, have_no_hint_zero, safe_text, spent_text}
 use Rattle.ilk_certificate.specs.Kept.{drop_nonfinal_step_queries}
 use Rattle.ilk_induct.specs.declared.verdict.Verdict.{Verdict}
@@ -63,7 +63,7 @@ hints_count s g depth conflicts (Safe k) asked h = logs-count s g asked h.1.ends
 hints_count s g depth conflicts (NotInductive t) asked h = logs-count s g asked h.ends.1.logs
 hints_count s g depth conflicts Spent asked h = logs-count s g asked h.0.1.1.logs
 
-pub safe_certifies : (s : PlainSystem) (g : PlainGoal) (depth conflicts k : ℕ) (asked : List Asked) → depth ≤ 16 → 0 < k → AreQueriesOfVerdict s g depth conflicts (Safe k) asked → IsCertificateText s g k (safe_text k
+pub safe_certifies : (s : PlainSystem) (g : PlainGoal) (depth conflicts k : ℕ) (asked : List Asked) → depth ≤ 16 → 0 < k → AreQueriesOfVerdict s g depth conflicts (Safe k) asked → IsValidCertificate s g k (safe_text k
     (drop_nonfinal_step_queries asked))
 safe_certifies s g depth conflicts k asked deep some h =
     let all : AreRefutedCertificateQueries s g k asked = certifies s g depth conflicts (Safe k) asked h in

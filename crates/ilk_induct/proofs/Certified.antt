@@ -10,14 +10,14 @@ use Rattle.ilk_unroll.specs.declared.queries.Wanted.{Wanted}
 use Rattle.ilk_unroll.specs.declared.queries.Wanted.TheVariants.{Hazard, Breach as BreachQuery, Step}
 use Rattle.ilk_unroll.specs.Goal.{PlainGoal}
 use Rattle.ilk_certificate.specs.declared.asked.Asked.{Asked}
-use Rattle.ilk_certificate.specs.Certificate.{IsRefuted, hazard_and_breach_queries}
+use Rattle.ilk_certificate.specs.Certificate.{IsRefuted, hazard_and_breach_query_pair}
 use Rattle.ilk_certificate.specs.Kept.{is_step_query, drop_nonfinal_step_queries}
 use Rattle.ilk_induct.specs.declared.verdict.Verdict.{Verdict}
 use Rattle.ilk_induct.specs.declared.verdict.Verdict.TheVariants.{Safe, Unsafe, Breach, NotInductive, Spent}
 use Rattle.ilk_induct.specs.Order.{queries_of_length, queries_below, queries_to_depth_given_breach}
-use Rattle.ilk_induct.specs.Spent.{QueryAnswerAllowsNext, AskedAnswerAllowsNext, AskedPrefixPassedExceptLast}
+use Rattle.ilk_induct.specs.Spent.{QueryAnswerAllowsNext, AskedQueryAllowsNext, AskedPrefixPassedExceptLast}
 use Rattle.ilk_induct.specs.Asked.{AreQueriesOfVerdict}
-use Rattle.ilk_induct.specs.Certified.{AreRefutedCertificateQueries, QueriesCertifySafeVerdict}
+use Rattle.ilk_induct.specs.Certified.{AreRefutedCertificateQueries, QueriesProveVerdictIfSafe}
 
 abbrev base_of : List Wanted → List Wanted
 base_of [] = []
@@ -29,11 +29,11 @@ base_of-append (Hazard n ∷ qs) rs = ap (λ (us : List Wanted). Hazard n ∷ us
 base_of-append (BreachQuery n ∷ qs) rs = ap (λ (us : List Wanted). BreachQuery n ∷ us) (base_of-append qs rs)
 base_of-append (Step n ∷ qs) rs = base_of-append qs rs
 
-base_of-queries_of_length : (n : ℕ) → base_of (queries_of_length n) ≡ hazard_and_breach_queries n
+base_of-queries_of_length : (n : ℕ) → base_of (queries_of_length n) ≡ hazard_and_breach_query_pair n
 base_of-queries_of_length zero = refl
 base_of-queries_of_length (suc n) = refl
 
-base_of-queries_below : (n : ℕ) → base_of (queries_below n) ≡ flat_map hazard_and_breach_queries (range_with_len 0 n)
+base_of-queries_below : (n : ℕ) → base_of (queries_below n) ≡ flat_map hazard_and_breach_query_pair (range_with_len 0 n)
 base_of-queries_below zero = refl
 base_of-queries_below (suc n) =
     let one : suc n ≡ n + 1 = omega arith in
@@ -41,9 +41,9 @@ base_of-queries_below (suc n) =
     ∙ ap base_of (listed_all-more queries_of_length n)
     ∙ base_of-append (queries_below n) (queries_of_length n)
     ∙ ap (λ (us : List Wanted). us ++ base_of (queries_of_length n)) (base_of-queries_below n)
-    ∙ ap (λ (us : List Wanted). flat_map hazard_and_breach_queries (range_with_len 0 n) ++ us) (base_of-queries_of_length n)
-    ∙ sym (listed_all-more hazard_and_breach_queries n)
-    ∙ ap (λ (k : ℕ). flat_map hazard_and_breach_queries (range_with_len 0 k)) (sym one)
+    ∙ ap (λ (us : List Wanted). flat_map hazard_and_breach_query_pair (range_with_len 0 n) ++ us) (base_of-queries_of_length n)
+    ∙ sym (listed_all-more hazard_and_breach_query_pair n)
+    ∙ ap (λ (k : ℕ). flat_map hazard_and_breach_query_pair (range_with_len 0 k)) (sym one)
 
 abbrev bases : List Asked → List Asked
 bases [] = []
@@ -78,13 +78,13 @@ base-refuted s g (BreachQuery n) log base h = elim h [ inl refuted ↦ refuted |
     none n e = cc
 base-refuted s g (Step n) log base h = absurd cc
 
-bases-refuted : (s : PlainSystem) (g : PlainGoal) (last : Asked) (before : List Asked) → IsRefuted s g last.query last.log → All (AskedAnswerAllowsNext s g None) before → All (λ (a : Asked). IsRefuted s g a.query a.log) (bases before ++ last ∷ [])
+bases-refuted : (s : PlainSystem) (g : PlainGoal) (last : Asked) (before : List Asked) → IsRefuted s g last.query last.log → All (AskedQueryAllowsNext s g None) before → All (λ (a : Asked). IsRefuted s g a.query a.log) (bases before ++ last ∷ [])
 bases-refuted s g last [] r h = All-cons (λ (a : Asked). IsRefuted s g a.query a.log) last [] r (All-nil (λ (a : Asked). IsRefuted s g a.query a.log))
-bases-refuted s g last (a ∷ before) r h = by_case (is_step_query a.query) refl (bases-refuted s g last before r (All-tail (AskedAnswerAllowsNext s g None) a before h))
+bases-refuted s g last (a ∷ before) r h = by_case (is_step_query a.query) refl (bases-refuted s g last before r (All-tail (AskedQueryAllowsNext s g None) a before h))
   where
     by_case : (c : Bool) → is_step_query a.query ≡ c → All (λ (x : Asked). IsRefuted s g x.query x.log) (bases before ++ last ∷ []) → All (λ (x : Asked). IsRefuted s g x.query x.log) (cond c (bases before) (a ∷ bases before) ++ last ∷ [])
     by_case true e rest = rest
-    by_case false e rest = All-cons (λ (x : Asked). IsRefuted s g x.query x.log) a (bases before ++ last ∷ []) (base-refuted s g a.query a.log e (All-head (AskedAnswerAllowsNext s g None) a before h)) rest
+    by_case false e rest = All-cons (λ (x : Asked). IsRefuted s g x.query x.log) a (bases before ++ last ∷ []) (base-refuted s g a.query a.log e (All-head (AskedQueryAllowsNext s g None) a before h)) rest
 
 certified : (s : PlainSystem) (g : PlainGoal) (depth k : ℕ) (asked : List Asked) (last : Asked) →
     map (λ (a : Asked). a.query) asked ≡ queries_to_depth_given_breach None k → AskedPrefixPassedExceptLast s g depth None asked last →
@@ -102,11 +102,11 @@ certified s g depth k asked last order are is refuted =
       queries = ap (map query) split
           ∙ map-append query (bases are.before) (last ∷ [])
           ∙ ap (λ (us : List Wanted). us ++ query last ∷ []) (bases-queries are.before ∙ front ∙ ap base_of order ∙ base_of-queries_below (k + 1))
-          ∙ ap (λ (q : Wanted). flat_map hazard_and_breach_queries (range_with_len 0 (k + 1)) ++ q ∷ []) is;
+          ∙ ap (λ (q : Wanted). flat_map hazard_and_breach_query_pair (range_with_len 0 (k + 1)) ++ q ∷ []) is;
       refuted = subst (λ (xs : List Asked). All (λ (a : Asked). IsRefuted s g a.query a.log) xs) (sym split) (bases-refuted s g last are.before refuted are.passed);
     }
 
-pub certifies : (s : PlainSystem) (g : PlainGoal) (depth conflicts : ℕ) (verdict : Verdict) (asked : List Asked) → AreQueriesOfVerdict s g depth conflicts verdict asked → QueriesCertifySafeVerdict s g verdict asked
+pub certifies : (s : PlainSystem) (g : PlainGoal) (depth conflicts : ℕ) (verdict : Verdict) (asked : List Asked) → AreQueriesOfVerdict s g depth conflicts verdict asked → QueriesProveVerdictIfSafe s g verdict asked
 certifies s g depth conflicts (Unsafe t) asked h = tt
 certifies s g depth conflicts (Breach t) asked h = tt
 certifies s g depth conflicts (Safe k) asked h = certified s g k k asked h.1.ends.0 h.1.all h.1.ends.1 h.1.ends.2.0 h.1.ends.2.1

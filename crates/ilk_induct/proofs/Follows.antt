@@ -26,8 +26,8 @@ use Rattle.ilk_certificate.specs.CertificateText.{total_conflicts}
 use Rattle.ilk_induct.specs.declared.verdict.Verdict.TheVariants.{Safe, NotInductive, Spent}
 use Rattle.ilk_unroll.specs.Evidence.{HasRun}
 use Rattle.ilk_induct.specs.Right.{IsRunOfQuery}
-use Rattle.ilk_induct.specs.Spent.{LogStepsDerivedAndFresh, AskedAnswerAllowsNext}
-use Rattle.ilk_induct.specs.Due.{query_with_log, IsResponse, due_query, breach_length, query_or_verdict_after_response, NoHazardBreachInductionBelow, QueryFollowsAskedInOrder, IsDueAfterAskedQueries, IsFinalVerdictAfterAsked, IsValidContinuation, max_queries_left}
+use Rattle.ilk_induct.specs.Spent.{LogStepsDerivedAndFresh, AskedQueryAllowsNext}
+use Rattle.ilk_induct.specs.Due.{query_with_log, IsResponse, due_query, breach_length, query_or_verdict_after_response, NoHazardBreachInductionBelow, QueryFollowsAskedInOrder, IsDueAfterAskedQueries, IsRightOrSpentVerdict, IsValidContinuation, max_queries_left}
 use Rattle.ilk_unroll.proofs.Induction.{forever}
 use Rattle.ilk_induct.proofs.Orders.{to-breach, to-step, to-hazard, more-conflicts, asked-to, asked-all, go-on, all-conflicts}
 use Rattle.ilk_induct.proofs.Breaches.{after-broken, below-more, broke, endangered, few, hazard-valid, steps-of}
@@ -77,7 +77,7 @@ left-invariant s g depth conflicts n t log asked left rest low d known logged co
             subst (λ (k : ℕ). IsRunOfQuery s g (Step k) t) same run,
           );
           lasts = tt;
-          queries = asked-all s g depth conflicts depth a asked left (AskedAnswerAllowsNext s g None) d logged (ap Step same) sat;
+          queries = asked-all s g depth conflicts depth a asked left (AskedQueryAllowsNext s g None) d logged (ap Step same) sat;
           few = few (total_conflicts (asked ++ a ∷ [])) rest conflicts (more-conflicts asked a left rest conflicts d.counted count);
         }
 
@@ -87,7 +87,7 @@ carried :
     list_all (rule_valid s.ranges) s.rules ≡ true → QueryFollowsAskedInOrder s g depth conflicts None (Step n) asked left →
     NoHazardBreachInductionBelow s g (n + 1) (n + 1) n → LogStepsDerivedAndFresh s g (query_with_log (Step n) log) → count_learned_clauses log + rest ≡ left →
     IsRefuted s g (Step n) log → ¬ HasRun s g (Step n) →
-    IsFinalVerdictAfterAsked s g depth conflicts (Safe n) (asked ++ query_with_log (Step n) log ∷ [])
+    IsRightOrSpentVerdict s g depth conflicts (Safe n) (asked ++ query_with_log (Step n) log ∷ [])
 carried s g depth conflicts n log asked left rest rules d known logged count refuted none =
     let a = query_with_log (Step n) log in
     let ever = forever s g n rules (λ m le. known.no_hazard m (omega (arith, le))) (λ m le. known.no_breach m (omega (arith, le))) none in
@@ -107,7 +107,7 @@ given-up :
     (asked : List Asked) (left rest : ℕ) →
     IsDueAfterAskedQueries s g depth conflicts due asked left → LogStepsDerivedAndFresh s g (query_with_log (due_query due) log) →
     count_learned_clauses log + rest ≡ left → IsResponse s g (due_query due) left GivenUp log →
-    IsFinalVerdictAfterAsked s g depth conflicts Spent (asked ++ query_with_log (due_query due) log ∷ [])
+    IsRightOrSpentVerdict s g depth conflicts Spent (asked ++ query_with_log (due_query due) log ∷ [])
 given-up s g depth conflicts due log asked left rest d logged count spent =
     let a = query_with_log (due_query due) log in
     let total = more-conflicts asked a left rest conflicts d.in_order.counted count in
@@ -186,7 +186,7 @@ follows s g depth conflicts due GivenUp log asked left rest rules deep low d log
 pub first-due : (s : PlainSystem) (g : PlainGoal) (depth conflicts : ℕ) → IsDueAfterAskedQueries s g depth conflicts (Unbroken (Hazard 0)) [] conflicts
 first-due s g depth conflicts =
     record {
-      in_order = record { order = refl; valid = refl; within = omega arith; found = tt; passed = All-nil (AskedAnswerAllowsNext s g None); logs = All-nil (LogStepsDerivedAndFresh s g); counted = omega arith };
+      in_order = record { order = refl; valid = refl; within = omega arith; found = tt; passed = All-nil (AskedQueryAllowsNext s g None); logs = All-nil (LogStepsDerivedAndFresh s g); counted = omega arith };
       known = record { no_hazard = λ m less. absurd (omega (arith, less)); no_breach = λ m less. absurd (omega (arith, less)); runs = λ m pos less. absurd (omega (arith, less)) };
     }
 

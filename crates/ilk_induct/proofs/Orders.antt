@@ -19,7 +19,7 @@ use Rattle.ilk_unroll.specs.Satisfied.{IsSatisfiable}
 use Rattle.ilk_certificate.specs.declared.asked.Asked.{Asked}
 use Rattle.ilk_certificate.specs.CertificateText.{total_conflicts}
 use Rattle.ilk_induct.specs.Order.{queries_of_length, queries_below, queries_to_depth_given_breach, IsPrefix}
-use Rattle.ilk_induct.specs.Spent.{LogStepsDerivedAndFresh, QueryAnswerAllowsNext, AskedAnswerAllowsNext, AskedPrefixPassedExceptLast}
+use Rattle.ilk_induct.specs.Spent.{LogStepsDerivedAndFresh, QueryAnswerAllowsNext, AskedQueryAllowsNext, AskedPrefixPassedExceptLast}
 use Rattle.ilk_induct.specs.Asked.{AllAskedAndLastMeets}
 use Rattle.ilk_induct.specs.Due.{query_with_log, queries_to_query_given_breach, QueryFollowsAskedInOrder}
 
@@ -146,7 +146,7 @@ asked-to s g depth conflicts breach a asked left d log =
 pub go-on :
     (s : PlainSystem) (g : PlainGoal) (depth conflicts : ℕ) (breach : Option ℕ) (a : Asked) (q : Wanted)
     (asked : List Asked) (left rest : ℕ) →
-    QueryFollowsAskedInOrder s g depth conflicts breach a.query asked left → LogStepsDerivedAndFresh s g a → AskedAnswerAllowsNext s g breach a →
+    QueryFollowsAskedInOrder s g depth conflicts breach a.query asked left → LogStepsDerivedAndFresh s g a → AskedQueryAllowsNext s g breach a →
     count_learned_clauses a.log + rest ≡ left → queries_to_query_given_breach breach a.query ++ q ∷ [] ≡ queries_to_query_given_breach breach q →
     step_count_is_allowed q ≡ true → step_count q ≤ depth →
     QueryFollowsAskedInOrder s g depth conflicts breach q (asked ++ a ∷ []) rest
@@ -156,7 +156,7 @@ go-on s g depth conflicts breach a q asked left rest d log passed count order va
       valid = valid;
       within = within;
       found = d.found;
-      passed = All-push (AskedAnswerAllowsNext s g breach) asked a d.passed passed;
+      passed = All-push (AskedQueryAllowsNext s g breach) asked a d.passed passed;
       logs = All-push (LogStepsDerivedAndFresh s g) asked a d.logs log;
       counted = more-conflicts asked a left rest conflicts d.counted count;
     }
@@ -169,8 +169,8 @@ passed-after s g b (BreachQuery n) log h = elim h [ inl refuted ↦ inl refuted 
     none n e = cc
 passed-after s g b (Step n) log h = h
 
-pub all-passed-after : (s : PlainSystem) (g : PlainGoal) (b : ℕ) (asked : List Asked) → All (AskedAnswerAllowsNext s g None) asked → All (AskedAnswerAllowsNext s g (Some b)) asked
-all-passed-after s g b asked h = All-weaker (AskedAnswerAllowsNext s g None) (AskedAnswerAllowsNext s g (Some b)) (λ a k. passed-after s g b a.query a.log k) asked h
+pub all-passed-after : (s : PlainSystem) (g : PlainGoal) (b : ℕ) (asked : List Asked) → All (AskedQueryAllowsNext s g None) asked → All (AskedQueryAllowsNext s g (Some b)) asked
+all-passed-after s g b asked h = All-weaker (AskedQueryAllowsNext s g None) (AskedQueryAllowsNext s g (Some b)) (λ a k. passed-after s g b a.query a.log k) asked h
 
 pub found-order : (asked : List Asked) (n : ℕ) (log : List LogStep) →
     map (λ (x : Asked). x.query) asked ++ BreachQuery n ∷ [] ≡ queries_to_query_given_breach None (BreachQuery n) →
@@ -211,7 +211,7 @@ go-on-found s g depth conflicts n log asked left rest d logged has count valid w
       valid = valid;
       within = within;
       found = (d.within, has);
-      passed = All-push (AskedAnswerAllowsNext s g (Some n)) asked a (all-passed-after s g n asked d.passed) (inr refl);
+      passed = All-push (AskedQueryAllowsNext s g (Some n)) asked a (all-passed-after s g n asked d.passed) (inr refl);
       logs = All-push (LogStepsDerivedAndFresh s g) asked a d.logs logged;
       counted = more-conflicts asked a left rest conflicts d.counted count;
     }

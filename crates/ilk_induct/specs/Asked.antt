@@ -9,7 +9,7 @@ use Rattle.ilk_certificate.specs.CertificateText.{total_conflicts}
 use Rattle.ilk_induct.specs.declared.verdict.Verdict.{Verdict}
 use Rattle.ilk_induct.specs.declared.verdict.Verdict.TheVariants.{Safe, Unsafe, Breach, NotInductive, Spent}
 use Rattle.ilk_induct.specs.Order.{queries_to_depth_given_breach}
-use Rattle.ilk_induct.specs.Spent.{AskedAnswerAllowsNext, AskedPrefixAndLastMeets, GaveUpWithStuckLog}
+use Rattle.ilk_induct.specs.Spent.{AskedQueryAllowsNext, AskedPrefixAndLastMeets, GaveUpWithStuckLog}
 
 -- Holds if `asked` are all queries up to the depth, in order, and `Ends` holds for the last. After
 -- a breach of `breach` steps, only hazard queries follow.
@@ -24,12 +24,12 @@ abbrev pub AreQueriesOfVerdict : PlainSystem → PlainGoal → ℕ → ℕ → V
 AreQueriesOfVerdict s g depth conflicts (Unsafe t) asked =
     (breach : Option ℕ) × AskedPrefixAndLastMeets s g depth breach (λ a. a.query ≡ Hazard (length t.rules)) asked
 -- All up to the depth, and none has ended the series.
-AreQueriesOfVerdict s g depth conflicts (Breach t) asked = AllAskedAndLastMeets s g depth (Some (length t.rules)) (AskedAnswerAllowsNext s g (Some (length t.rules))) asked
+AreQueriesOfVerdict s g depth conflicts (Breach t) asked = AllAskedAndLastMeets s g depth (Some (length t.rules)) (AskedQueryAllowsNext s g (Some (length t.rules))) asked
 -- All up to this number, and the last, its step query, is refuted.
 AreQueriesOfVerdict s g depth conflicts (Safe k) asked =
     (k ≤ depth) × AllAskedAndLastMeets s g k None (λ a. (a.query ≡ Step k) × IsRefuted s g a.query a.log) asked
 -- All up to the depth, and none has ended the series.
-AreQueriesOfVerdict s g depth conflicts (NotInductive t) asked = AllAskedAndLastMeets s g depth None (AskedAnswerAllowsNext s g None) asked
+AreQueriesOfVerdict s g depth conflicts (NotInductive t) asked = AllAskedAndLastMeets s g depth None (AskedQueryAllowsNext s g None) asked
 -- The last was given up, and all conflicts are spent.
 AreQueriesOfVerdict s g depth conflicts Spent asked =
     ((breach : Option ℕ) × AskedPrefixAndLastMeets s g depth breach (GaveUpWithStuckLog s g) asked) × (total_conflicts asked ≡ conflicts)

@@ -15,9 +15,9 @@ pub record AreRefutedCertificateQueries (s : PlainSystem) (g : PlainGoal) (k : �
 
 -- Holds if the queries that were asked prove a safe verdict. It always holds for the other
 -- verdicts.
-abbrev pub QueriesCertifySafeVerdict : PlainSystem → PlainGoal → Verdict → List Asked → Type 0
-QueriesCertifySafeVerdict s g (Unsafe t) asked = Unit {0}
-QueriesCertifySafeVerdict s g (Breach t) asked = Unit {0}
-QueriesCertifySafeVerdict s g (Safe k) asked = AreRefutedCertificateQueries s g k asked
-QueriesCertifySafeVerdict s g (NotInductive t) asked = Unit {0}
-QueriesCertifySafeVerdict s g Spent asked = Unit {0}
+abbrev pub QueriesProveVerdictIfSafe : PlainSystem → PlainGoal → Verdict → List Asked → Type 0
+QueriesProveVerdictIfSafe s g (Unsafe t) asked = Unit {0}
+QueriesProveVerdictIfSafe s g (Breach t) asked = Unit {0}
+QueriesProveVerdictIfSafe s g (Safe k) asked = AreRefutedCertificateQueries s g k asked
+QueriesProveVerdictIfSafe s g (NotInductive t) asked = Unit {0}
+QueriesProveVerdictIfSafe s g Spent asked = Unit {0}

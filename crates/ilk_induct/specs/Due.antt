@@ -24,7 +24,7 @@ use Rattle.ilk_induct.specs.declared.verdict.Verdict.TheVariants.{Safe, Unsafe, 
 use Rattle.ilk_unroll.specs.Evidence.{HasRun}
 use Rattle.ilk_induct.specs.Right.{IsRunOfQuery, IsRightSystemVerdict, SystemVerdictHoldsAtAnyLength}
 use Rattle.ilk_induct.specs.Order.{queries_below}
-use Rattle.ilk_induct.specs.Spent.{LogStepsDerivedAndFresh, AskedAnswerAllowsNext}
+use Rattle.ilk_induct.specs.Spent.{LogStepsDerivedAndFresh, AskedQueryAllowsNext}
 use Rattle.ilk_induct.specs.Asked.{AreQueriesOfVerdict}
 
 -- Holds if the response to a query is right: its run is one that the query asks for, its log
@@ -106,7 +106,7 @@ pub record QueryFollowsAskedInOrder (s : PlainSystem) (g : PlainGoal) (depth con
   pub valid : IsTrue (step_count_is_allowed q)
   pub within : step_count q ≤ depth
   pub found : IfSome breach (λ b. (b ≤ depth) × IsSatisfiable (query_formula s g (BreachQuery b)))
-  pub passed : All (AskedAnswerAllowsNext s g breach) asked
+  pub passed : All (AskedQueryAllowsNext s g breach) asked
   pub logs : All (LogStepsDerivedAndFresh s g) asked
   pub counted : total_conflicts asked + left ≡ conflicts
 
@@ -115,7 +115,7 @@ pub record IsDueAfterAskedQueries (s : PlainSystem) (g : PlainGoal) (depth confl
   pub known : ResultsKnownBeforeDueQuery s g due
 
 -- Holds if the verdict is right, or `Spent`, and the queries `asked` lead to it.
-pub record IsFinalVerdictAfterAsked (s : PlainSystem) (g : PlainGoal) (depth conflicts : ℕ) (verdict : Verdict) (asked : List Asked) : Type 0 where
+pub record IsRightOrSpentVerdict (s : PlainSystem) (g : PlainGoal) (depth conflicts : ℕ) (verdict : Verdict) (asked : List Asked) : Type 0 where
   pub right : IsRightSystemVerdict s g depth verdict ⊎ (verdict ≡ Spent)
   pub lasts : SystemVerdictHoldsAtAnyLength s g verdict
   pub queries : AreQueriesOfVerdict s g depth conflicts verdict asked
@@ -132,4 +132,4 @@ max_queries_left depth (Broken n t) = 3 * (depth - n) + 2
 -- left, or a verdict.
 abbrev pub IsValidContinuation : PlainSystem → PlainGoal → ℕ → ℕ → ℕ → Next → List Asked → ℕ → Type 0
 IsValidContinuation s g depth conflicts due (Ask next) asked left = IsDueAfterAskedQueries s g depth conflicts next asked left × (max_queries_left depth next < due)
-IsValidContinuation s g depth conflicts due (End verdict) asked left = IsFinalVerdictAfterAsked s g depth conflicts verdict asked
+IsValidContinuation s g depth conflicts due (End verdict) asked left = IsRightOrSpentVerdict s g depth conflicts verdict asked

@@ -29,8 +29,8 @@ QueryAnswerAllowsNext s g breach (Hazard n) log = IsRefuted s g (Hazard n) log
 QueryAnswerAllowsNext s g breach (Breach n) log = IsRefuted s g (Breach n) log ⊎ (breach ≡ Some n)
 QueryAnswerAllowsNext s g breach (Step n) log = IsSatisfiable (query_formula s g (Step n))
 
-abbrev pub AskedAnswerAllowsNext : PlainSystem → PlainGoal → Option ℕ → Asked → Type 0
-AskedAnswerAllowsNext s g breach a = QueryAnswerAllowsNext s g breach a.query a.log
+abbrev pub AskedQueryAllowsNext : PlainSystem → PlainGoal → Option ℕ → Asked → Type 0
+AskedQueryAllowsNext s g breach a = QueryAnswerAllowsNext s g breach a.query a.log
 
 -- Holds if the queries `asked` are a prefix of the order up to the depth, and all but the last let
 -- another query follow. If a breach was found, its query is satisfiable.
@@ -39,7 +39,7 @@ pub record AskedPrefixPassedExceptLast (s : PlainSystem) (g : PlainGoal) (depth 
   pub split : asked ≡ before ++ last ∷ []
   pub order : IsPrefix (map (λ (a : Asked). a.query) asked) (queries_to_depth_given_breach breach depth)
   pub found : IfSome breach (λ b. (b ≤ depth) × IsSatisfiable (query_formula s g (Breach b)))
-  pub passed : All (AskedAnswerAllowsNext s g breach) before
+  pub passed : All (AskedQueryAllowsNext s g breach) before
   pub logs : All (LogStepsDerivedAndFresh s g) asked
 
 -- Holds if the queries `asked` are a prefix of the order up to the depth, and `Ends` holds for the

@@ -3,7 +3,7 @@ ghost use Rattle.ilk_ir.specs.System.{plain_system, system_valid};
 ghost use Rattle.ilk_unroll.specs.Goal.{plain_goal, goal_valid};
 ghost use Rattle.ilk_certificate.specs.CertificateText.{total_conflicts};
 ghost use Rattle.ilk_induct.specs.Asked.{AreQueriesOfVerdict};
-ghost use Rattle.ilk_induct.specs.Certified.{QueriesCertifySafeVerdict};
+ghost use Rattle.ilk_induct.specs.Certified.{QueriesProveVerdictIfSafe};
 ghost use Rattle.ilk_induct.specs.Right.{IsRightSystemVerdict, SystemVerdictHoldsAtAnyLength};
 
 use crate::ask::{ResponseWithLog, ask};
@@ -50,7 +50,7 @@ pub fn decide(
 
     // If the verdict is safe, all queries but the step queries before the last are refuted.
     ensures certified { IfOk result
-        (λ found. QueriesCertifySafeVerdict (plain_system system.now)
+        (λ found. QueriesProveVerdictIfSafe (plain_system system.now)
         (plain_goal goal.now) found.verdict
         found.asked) }
     ensures few { IfOk result (λ found. total_conflicts found.asked ≤ conflicts) }

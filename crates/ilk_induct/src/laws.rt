@@ -4,7 +4,7 @@ ghost use Rattle.ilk_ir.specs.System.{PlainSystem};
 ghost use Rattle.ilk_lines.specs.Lines.{Bytes};
 ghost use Rattle.ilk_unroll.specs.Goal.{PlainGoal, step_count_is_allowed};
 ghost use Rattle.ilk_certificate.specs.declared.asked.Asked.{Asked};
-ghost use Rattle.ilk_certificate.specs.Certificate.{IsCertificateText};
+ghost use Rattle.ilk_certificate.specs.Certificate.{IsValidCertificate};
 ghost use Rattle.ilk_certificate.specs.CertificateText.{total_conflicts, have_no_hint_zero, safe_text, spent_text};
 ghost use Rattle.ilk_certificate.specs.Kept.{drop_nonfinal_step_queries};
 ghost use Rattle.ilk_induct.specs.declared.verdict.Verdict.{Verdict};
@@ -17,7 +17,7 @@ ghost use Rattle.ilk_induct.specs.Spent.{IsSpentText};
 pub fn written_texts_are_valid()
     ensures safe { (s : PlainSystem) (g : PlainGoal) (depth conflicts k : ℕ) (asked : List Asked) →
         depth ≤ 16 → 0 < k → AreQueriesOfVerdict s g depth conflicts (Safe k) asked →
-        IsCertificateText s g k (safe_text k (drop_nonfinal_step_queries asked)) }
+        IsValidCertificate s g k (safe_text k (drop_nonfinal_step_queries asked)) }
     ensures spent { (s : PlainSystem) (g : PlainGoal) (depth conflicts : ℕ) (asked : List Asked) →
         AreQueriesOfVerdict s g depth conflicts Spent asked →
         IsSpentText s g depth conflicts (spent_text (total_conflicts asked) asked) }
@@ -34,7 +34,7 @@ pub fn hints_are_from_one()
 
 /// Each query in a spent text, written when all conflicts were spent, has at most 16 steps, and a
 /// step query at least one. Proof only; no run-time effect.
-pub fn spent_text_queries_are_valid()
+pub fn spent_text_step_counts_allowed()
     ensures { (s : PlainSystem) (g : PlainGoal) (depth n : ℕ) (bytes : Bytes) → depth ≤ 16 →
         (text : IsSpentText s g depth n bytes) →
         IsTrue (list_all (λ (a : Asked). step_count_is_allowed a.query) text.asked) }

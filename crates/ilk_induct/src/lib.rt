@@ -30,5 +30,5 @@ mod verdict;
 
 pub use deciding::decide;
 pub use ilk_certificate::Asked;
-pub use laws::{hints_are_from_one, spent_text_queries_are_valid, written_texts_are_valid};
+pub use laws::{hints_are_from_one, spent_text_step_counts_allowed, written_texts_are_valid};
 pub use verdict::{Found, Verdict};

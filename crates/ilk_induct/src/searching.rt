@@ -2,7 +2,7 @@ ghost use Rattle.std.specs.Prelude.{◌≡◌, ◌<◌, ◌^◌, ℕ, Bool, IfOk
 ghost use Rattle.std.specs.Borrow.{Bor};
 ghost use Rattle.ilk_cnf.specs.Literal.{Literal};
 ghost use Rattle.ilk_solver.specs.Answered.{IsAnswer, IsEmpoweringLogWithinBudget};
-ghost use Rattle.ilk_solver.specs.View.{ViewLists, IsView, is_unset};
+ghost use Rattle.ilk_solver.specs.View.{TrailAndWeights, IsValidView, is_unset};
 ghost use Rattle.ilk_induct.specs.Decision.{IsNegatedHeaviestUnsetVar, is_restart_due};
 
 use ilk_cnf::{Cnf, Lit};
@@ -24,9 +24,9 @@ pub(crate) fn search(
     asks: Asks,
     budget: u64,
 ) -> Result<Outcome, AllocError>
-    requires picks { (view : Bor ViewLists) (v : ℕ) → IsView view.now →
+    requires picks { (view : Bor TrailAndWeights) (v : ℕ) → IsValidView view.now →
         IsTrue (is_unset view.now v) → Picks.pre picks view }
-    requires decision { (view : Bor ViewLists) (v : ℕ) (l : Literal) → IsView view.now →
+    requires decision { (view : Bor TrailAndWeights) (v : ℕ) (l : Literal) → IsValidView view.now →
         IsTrue (is_unset view.now v) → Picks.post picks view l →
         IsNegatedHeaviestUnsetVar view.now l }
     requires asks { Asks.IsAlwaysCallable asks }

@@ -11,7 +11,7 @@ use Rattle.ilk_cnf.specs.Extends.{ExtensionsAreExactly, EqualsGivenValues}
 use Rattle.ilk_cnf.specs.Part.{empty_part, or_gate_part}
 use Rattle.ilk_cnf.proofs.Parts.{value-new}
 use Rattle.ilk_cnf.proofs.Extending.{any_of-law, no_more_if, only_from_if}
-use Rattle.ilk_ints.specs.Bits.{bit_count, lowest_bits_of, bits_at}
+use Rattle.ilk_ints.specs.Bits.{bit_count, lowest_bits_of, assigned_bits_from_var}
 use Rattle.ilk_ints.specs.AtMost.{highest_bit_decides, at_most_part, at_most_lit, at_most_bits}
 
 pub bits_some : (range b : ℕ) → 1 < range → range ≤ 2 ^ b → 0 < b
@@ -24,7 +24,7 @@ first_item p q ps qs h = cc
 other_items : (p q : Bool) (ps qs : List Bool) → p ∷ ps ≡ q ∷ qs → ps ≡ qs
 other_items p q ps qs h = cc
 
-highest_bit : (m v : ℕ) (a : List Bool) (first : ℕ) → v < 2 ^ suc m → bits_at a first (suc m) ≡ lowest_bits_of (suc m) v → value a (first + m) ≡ leb (2 ^ m) v
+highest_bit : (m v : ℕ) (a : List Bool) (first : ℕ) → v < 2 ^ suc m → assigned_bits_from_var a first (suc m) ≡ lowest_bits_of (suc m) v → value a (first + m) ≡ leb (2 ^ m) v
 highest_bit zero v a first less h =
     let one : value a first ≡ (v % 2 == 1) = first_item (value a first) (v % 2 == 1) [] [] h in
     let here : first + 0 ≡ first = omega arith in
@@ -33,7 +33,7 @@ highest_bit zero v a first less h =
       | inr other ↦ (let low : v < 1 = omega (arith, pow-succ' 2 0) in ne_eqb (v % 2) 1 (λ e. absurd (omega arith)) ∙ sym (lt-leb (2 ^ 0) v (omega arith)))
     ])
 highest_bit (suc m) v a first less h =
-    let rest : bits_at a (first + 1) (suc m) ≡ lowest_bits_of (suc m) (v / 2) = other_items (value a first) (v % 2 == 1) (bits_at a (first + 1) (suc m)) (lowest_bits_of (suc m) (v / 2)) h in
+    let rest : assigned_bits_from_var a (first + 1) (suc m) ≡ lowest_bits_of (suc m) (v / 2) = other_items (value a first) (v % 2 == 1) (assigned_bits_from_var a (first + 1) (suc m)) (lowest_bits_of (suc m) (v / 2)) h in
     let step = highest_bit m (v / 2) a (first + 1) (omega (arith, pow-succ' 2 (suc m))) rest in
     let here : first + suc m ≡ first + 1 + m = omega arith in
     ap (value a) here ∙ step ∙ (elim (cases_lt v (2 ^ suc m)) [
@@ -41,7 +41,7 @@ highest_bit (suc m) v a first less h =
       | inr high ↦ le-leb (2 ^ m) (v / 2) (omega (arith, pow-succ' 2 m)) ∙ sym (le-leb (2 ^ suc m) v high)
     ])
 
-highest_bit-says : (b v k : ℕ) (a : List Bool) (first : ℕ) → 0 < b → v < 2 ^ b → k + 1 ≡ 2 ^ (b - 1) → bits_at a first b ≡ lowest_bits_of b v → not (value a (first + (b - 1))) ≡ leb v k
+highest_bit-says : (b v k : ℕ) (a : List Bool) (first : ℕ) → 0 < b → v < 2 ^ b → k + 1 ≡ 2 ^ (b - 1) → assigned_bits_from_var a first b ≡ lowest_bits_of b v → not (value a (first + (b - 1))) ≡ leb v k
 highest_bit-says zero v k a first some less half h = absurd (omega arith)
 highest_bit-says (suc m) v k a first some less half h =
     let one : suc m - 1 ≡ m = omega arith in
@@ -77,7 +77,7 @@ at_most-law a range k v n below equal size inside low same = by_case (highest_bi
 
 pub at_most-exact : (a : List Bool) (first range k v n : ℕ) → length a ≡ n → 0 < bit_count range →
     range ≤ 2 ^ bit_count range → v < range →
-    bits_at a first (bit_count range) ≡ lowest_bits_of (bit_count range) v →
+    assigned_bits_from_var a first (bit_count range) ≡ lowest_bits_of (bit_count range) v →
     is_true (a ++ at_most_bits range k v) (at_most_lit first range k n) ≡ leb v k
 at_most-exact a first range k v n size some enough less is = by_case (highest_bit_decides range k) refl
   where

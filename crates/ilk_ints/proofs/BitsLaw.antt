@@ -9,7 +9,7 @@ use Rattle.ilk_cnf.specs.Formula.{is_clause_over}
 use Rattle.ilk_cnf.specs.Truth.{value, is_true}
 use Rattle.ilk_cnf.specs.Extends.{ExtensionsAreExactly, EqualsGivenValues}
 use Rattle.ilk_cnf.proofs.Extending.{all_of-law}
-use Rattle.ilk_ints.specs.Bits.{bit_count, lowest_bits_of, bits_at, bit_pattern_lits, same_bits}
+use Rattle.ilk_ints.specs.Bits.{bit_count, lowest_bits_of, assigned_bits_from_var, bit_pattern_lits, same_bits}
 use Rattle.ilk_ints.specs.Number.{value_bit_lits, value_lit_part, bits_have_value}
 
 pub bit_count-first : (range k : ℕ) → k < 8 → ((b : ℕ) → b < k → 2 ^ b < range) → range ≤ 2 ^ k → k ≡ bit_count range
@@ -103,14 +103,14 @@ lits_step first count i rest ls whole l less is h =
     ∙ ap (λ (k : ℕ). ls ++ bit_pattern_lits (first + i) (lowest_bits_of k rest)) (sym more)
     ∙ h
 
-pub lits-say : (a : List Bool) (qs : List Bool) (first : ℕ) → list_all (is_true a) (bit_pattern_lits first qs) ≡ same_bits (bits_at a first (length qs)) qs
+pub lits-say : (a : List Bool) (qs : List Bool) (first : ℕ) → list_all (is_true a) (bit_pattern_lits first qs) ≡ same_bits (assigned_bits_from_var a first (length qs)) qs
 lits-say a [] first = refl
 lits-say a (q ∷ qs) first = ap (λ (r : Bool). cond q (value a first) (not (value a first)) && r) (lits-say a qs (first + 1))
 
 pub value_bit_lits-say : (a : List Bool) (first range v : ℕ) → list_all (is_true a) (value_bit_lits first range v) ≡ bits_have_value a first range v
 value_bit_lits-say a first range v =
     let b = bit_count range in
-    lits-say a (lowest_bits_of b v) first ∙ ap (λ (k : ℕ). same_bits (bits_at a first k) (lowest_bits_of b v)) (length-bits b v)
+    lits-say a (lowest_bits_of b v) first ∙ ap (λ (k : ℕ). same_bits (assigned_bits_from_var a first k) (lowest_bits_of b v)) (length-bits b v)
 
 pub bit_pattern_lits-in : (n : ℕ) (qs : List Bool) (first : ℕ) → 0 < first → first + length qs ≤ n + 1 → is_clause_over n (bit_pattern_lits first qs) ≡ true
 bit_pattern_lits-in n [] first low high = refl
@@ -127,7 +127,7 @@ is-law a first range v n size low high =
     subst (λ (e : Bool). ExtensionsAreExactly a (n + 1) (value_lit_part first range v n).clauses (EqualsGivenValues (e ∷ []))) (value_bit_lits-say a first range v)
     (all_of-law a n (value_bit_lits first range v) size (value_bit_lits-in n first range v low high))
 
-pub has_value-exact : (a : List Bool) (first range v w : ℕ) → range ≤ 2 ^ bit_count range → v < range → w < range → bits_at a first (bit_count range) ≡ lowest_bits_of (bit_count range) w → bits_have_value a first range v ≡ eqb w v
+pub has_value-exact : (a : List Bool) (first range v w : ℕ) → range ≤ 2 ^ bit_count range → v < range → w < range → assigned_bits_from_var a first (bit_count range) ≡ lowest_bits_of (bit_count range) w → bits_have_value a first range v ≡ eqb w v
 has_value-exact a first range v w enough hv hw is =
     let b = bit_count range in
     ap (λ (u : List Bool). same_bits u (lowest_bits_of b v)) is ∙ bits-test b w v (omega arith) (omega arith)

@@ -11,11 +11,11 @@ use Rattle.ilk_cnf.proofs.Literals.{is_clause_over-more, are_clauses_over-more}
 use Rattle.ilk_cnf.proofs.Parts.{is_true-left, one_by_one}
 use Rattle.ilk_cnf.proofs.Gates.{new-in, any_of-in, with_part-and_then}
 use Rattle.ilk_cnf.proofs.Extending.{no_more_if, only_from_if}
-use Rattle.ilk_ints.specs.Bits.{bit_count, lowest_bits_of, bits_at}
+use Rattle.ilk_ints.specs.Bits.{bit_count, lowest_bits_of, assigned_bits_from_var}
 use Rattle.ilk_ints.specs.AtMost.{highest_bit_decides, at_most_part, at_most_lit, at_most_bits}
-use Rattle.ilk_ints.specs.Named.{one_hot_bits, bound_lits_from, bound_bits, bound_vars_bits}
+use Rattle.ilk_ints.specs.Named.{one_hot_bits, bound_lits_part_from, bound_bits, bound_vars_bits}
 use Rattle.ilk_ints.proofs.OneOfLaw.{map-left, first-two}
-use Rattle.ilk_ints.proofs.ValuesLaw.{bits_at-left}
+use Rattle.ilk_ints.proofs.ValuesLaw.{assigned_bits_from_var-left}
 use Rattle.ilk_ints.proofs.AtMostLaw.{at_most-law, at_most-exact}
 
 pub at_most-low : (range k n : ℕ) (below equal : Literal) → n ≤ (at_most_part range k below equal n).vars
@@ -46,7 +46,7 @@ below_next w k =
       | inr upto ↦ le-leb w k upto ∙ sym (lt-ltb w (k + 1) (omega arith))
     ]
 
-pub bounds-low : (es : List Literal) (first range k n : ℕ) (below : Literal) → n ≤ (bound_lits_from first range below k es n).part.vars
+pub bounds-low : (es : List Literal) (first range k n : ℕ) (below : Literal) → n ≤ (bound_lits_part_from first range below k es n).part.vars
 bounds-low [] first range k n below = omega arith
 bounds-low (e ∷ es) first range k n below =
     let one = at_most-low range k n below e in
@@ -62,13 +62,13 @@ next-inside first range k n below e es low some high h =
 
 pub bounds-in : (es : List Literal) (first range k n : ℕ) (below : Literal) → 0 < first →
     0 < bit_count range → first + bit_count range ≤ n + 1 → is_clause_over n (below ∷ es) ≡ true →
-    are_clauses_over (bound_lits_from first range below k es n).part.vars
-    (bound_lits_from first range below k es n).part.clauses ≡ true
+    are_clauses_over (bound_lits_part_from first range below k es n).part.vars
+    (bound_lits_part_from first range below k es n).part.clauses ≡ true
 bounds-in [] first range k n below low some high h = refl
 bounds-in (e ∷ es) first range k n below low some high h =
     let p = at_most_part range k below e n in
     let l = at_most_lit first range k n in
-    let rest = bound_lits_from first range l (k + 1) es p.vars in
+    let rest = bound_lits_part_from first range l (k + 1) es p.vars in
     let grows = at_most-low range k n below e in
     let end = bounds-low es first range (k + 1) p.vars l in
     list_all-append (is_clause_over rest.part.vars) p.clauses rest.part.clauses
@@ -81,22 +81,22 @@ bounds-in (e ∷ es) first range k n below low some high h =
 pub bounds-law : (es : List Literal) (a : List Bool) (first range k w n : ℕ) (below : Literal) →
     length a ≡ n → 0 < first → 0 < bit_count range → first + bit_count range ≤ n + 1 →
     range ≤ 2 ^ bit_count range → w < range →
-    bits_at a first (bit_count range) ≡ lowest_bits_of (bit_count range) w → is_clause_over n (below ∷ es) ≡ true →
+    assigned_bits_from_var a first (bit_count range) ≡ lowest_bits_of (bit_count range) w → is_clause_over n (below ∷ es) ≡ true →
     is_true a below ≡ ltb w k → map (is_true a) es ≡ one_hot_bits w k (length es) →
-    ExtensionsAreExactly a (bound_lits_from first range below k es n).part.vars
-    (bound_lits_from first range below k es n).part.clauses (EqualsGivenValues (bound_vars_bits range w k (length es)))
+    ExtensionsAreExactly a (bound_lits_part_from first range below k es n).part.vars
+    (bound_lits_part_from first range below k es n).part.clauses (EqualsGivenValues (bound_vars_bits range w k (length es)))
 bounds-law [] a first range k w n below size low some high enough less is inside under same = only_from_if a n [] [] (no_more_if a n [] true size refl)
 bounds-law (e ∷ es) a first range k w n below size low some high enough less is inside under same =
     let p = at_most_part range k below e n in
     let l = at_most_lit first range k n in
     let b = at_most_bits range k w in
-    let rest = bound_lits_from first range l (k + 1) es p.vars in
+    let rest = bound_lits_part_from first range l (k + 1) es p.vars in
     let here : is_true a e ≡ eqb w k = first_of (is_true a e) (eqb w k) (map (is_true a) es) (one_hot_bits w (k + 1) (length es)) same in
     let others : map (is_true a) es ≡ one_hot_bits w (k + 1) (length es) = rest_of (is_true a e) (eqb w k) (map (is_true a) es) (one_hot_bits w (k + 1) (length es)) same in
     let one : ExtensionsAreExactly a p.vars p.clauses (EqualsGivenValues b) = at_most-law a range k w n below e size (first-two n below e es inside) under here in
     let long : length (a ++ b) ≡ p.vars = one.sized b refl in
     let grows : n ≤ p.vars = at_most-low range k n below e in
-    let kept : bits_at (a ++ b) first (bit_count range) ≡ lowest_bits_of (bit_count range) w = bits_at-left (bit_count range) a b first (rw size high) ∙ is in
+    let kept : assigned_bits_from_var (a ++ b) first (bit_count range) ≡ lowest_bits_of (bit_count range) w = assigned_bits_from_var-left (bit_count range) a b first (rw size high) ∙ is in
     let next_under : is_true (a ++ b) l ≡ ltb w (k + 1) = at_most-exact a first range k w n size some enough less is ∙ below_next w k in
     let next_same : map (is_true (a ++ b)) es ≡ one_hot_bits w (k + 1) (length es) = map-left a b es (rw size (and_parts _ _ (and_parts _ _ inside).1).1) ∙ others in
     let next = bounds-law es (a ++ b) first range (k + 1) w p.vars l long low some (omega (arith, high, grows)) enough less kept (next-inside first range k n below e es low some high inside) next_under next_same in
@@ -113,9 +113,9 @@ bounds-law (e ∷ es) a first range k w n below size low some high enough less i
 pub bounds-say : (es : List Literal) (a c : List Bool) (first range k w n : ℕ) (below : Literal) →
     length a ≡ n → 0 < first → 0 < bit_count range → first + bit_count range ≤ n + 1 →
     range ≤ 2 ^ bit_count range → w < range →
-    bits_at a first (bit_count range) ≡ lowest_bits_of (bit_count range) w → is_clause_over n (below ∷ es) ≡ true →
+    assigned_bits_from_var a first (bit_count range) ≡ lowest_bits_of (bit_count range) w → is_clause_over n (below ∷ es) ≡ true →
     is_true a below ≡ ltb w k → map (is_true a) es ≡ one_hot_bits w k (length es) →
-    map (is_true (a ++ (bound_vars_bits range w k (length es) ++ c))) (bound_lits_from first range below k es n).lits
+    map (is_true (a ++ (bound_vars_bits range w k (length es) ++ c))) (bound_lits_part_from first range below k es n).lits
     ≡ bound_bits w k (length es)
 bounds-say [] a c first range k w n below size low some high enough less is inside under same = refl
 bounds-say (e ∷ es) a c first range k w n below size low some high enough less is inside under same =
@@ -128,17 +128,17 @@ bounds-say (e ∷ es) a c first range k w n below size low some high enough less
     let one : ExtensionsAreExactly a p.vars p.clauses (EqualsGivenValues b) = at_most-law a range k w n below e size (first-two n below e es inside) under here in
     let long : length (a ++ b) ≡ p.vars = one.sized b refl in
     let grows : n ≤ p.vars = at_most-low range k n below e in
-    let kept : bits_at (a ++ b) first (bit_count range) ≡ lowest_bits_of (bit_count range) w = bits_at-left (bit_count range) a b first (rw size high) ∙ is in
+    let kept : assigned_bits_from_var (a ++ b) first (bit_count range) ≡ lowest_bits_of (bit_count range) w = assigned_bits_from_var-left (bit_count range) a b first (rw size high) ∙ is in
     let says : is_true (a ++ b) l ≡ leb w k = at_most-exact a first range k w n size some enough less is in
     let next_same : map (is_true (a ++ b)) es ≡ one_hot_bits w (k + 1) (length es) = map-left a b es (rw size (and_parts _ _ (and_parts _ _ inside).1).1) ∙ others in
     let rest = bounds-say es (a ++ b) c first range (k + 1) w p.vars l long low some (omega (arith, high, grows)) enough less kept (next-inside first range k n below e es low some high inside) (says ∙ below_next w k) next_same in
     let whole : (a ++ b) ++ (d ++ c) ≡ a ++ ((b ++ d) ++ c) = append_assoc a b (d ++ c) ∙ ap (λ (u : List Bool). a ++ u) (sym (append_assoc b d c)) in
     let var_in : l.var ≤ length (a ++ b) = rw long (leb-true _ _ (and_parts _ _ (at_most-is_lit_over first range k n below e low some high)).1) in
     let head : is_true (a ++ ((b ++ d) ++ c)) l ≡ leb w k = subst (λ (u : List Bool). is_true u l ≡ leb w k) whole (is_true-left (a ++ b) (d ++ c) l var_in ∙ says) in
-    let tail : map (is_true (a ++ ((b ++ d) ++ c))) (bound_lits_from first range l (k + 1) es p.vars).lits
+    let tail : map (is_true (a ++ ((b ++ d) ++ c))) (bound_lits_part_from first range l (k + 1) es p.vars).lits
     ≡ bound_bits w (k + 1) (length es) =
     subst
-    (λ (u : List Bool). map (is_true u) (bound_lits_from first range l (k + 1) es p.vars).lits
+    (λ (u : List Bool). map (is_true u) (bound_lits_part_from first range l (k + 1) es p.vars).lits
     ≡ bound_bits w (k + 1) (length es)) whole rest in
     join head tail
   where
@@ -156,11 +156,11 @@ pub bounds_step :
     (es rest : List Literal) → es ≡ e ∷ rest → 0 < first →
     0 < bit_count range → first + bit_count range ≤ f.vars + 1 → is_clause_over f.vars (below ∷ es) ≡ true →
     l ≡ at_most_lit first range k f.vars → g ≡ with_part f (at_most_part range k below e f.vars) →
-    lits ++ (bound_lits_from first range below k es f.vars).lits ≡ whole →
+    lits ++ (bound_lits_part_from first range below k es f.vars).lits ≡ whole →
     (first + bit_count range ≤ g.vars + 1) × (is_clause_over g.vars (l ∷ rest) ≡ true) ×
-    ((lits ++ l ∷ []) ++ (bound_lits_from first range l (k + 1) rest g.vars).lits ≡ whole) ×
-    (with_part g (bound_lits_from first range l (k + 1) rest g.vars).part
-    ≡ with_part f (bound_lits_from first range below k es f.vars).part)
+    ((lits ++ l ∷ []) ++ (bound_lits_part_from first range l (k + 1) rest g.vars).lits ≡ whole) ×
+    (with_part g (bound_lits_part_from first range l (k + 1) rest g.vars).part
+    ≡ with_part f (bound_lits_part_from first range below k es f.vars).part)
 bounds_step f g lits whole first range k below l e es rest split low some high inside is made h =
     let n = f.vars in
     let p = at_most_part range k below e n in
@@ -171,13 +171,13 @@ bounds_step f g lits whole first range k below l e es rest split low some high i
     let next_in : is_clause_over p.vars (m ∷ rest) ≡ true = next-inside first range k n below e rest low some high whole_in in (
       omega (arith, vars, grows, high),
       ap (λ (u : ℕ). is_clause_over u (l ∷ rest)) vars ∙ ap (λ (u : Literal). is_clause_over p.vars (u ∷ rest)) is ∙ next_in,
-      append_assoc lits (l ∷ []) (bound_lits_from first range l (k + 1) rest g.vars).lits
-          ∙ ap (λ (u : Literal). lits ++ u ∷ (bound_lits_from first range u (k + 1) rest g.vars).lits) is
-          ∙ ap (λ (u : ℕ). lits ++ m ∷ (bound_lits_from first range m (k + 1) rest u).lits) vars
-          ∙ ap (λ (us : List Literal). lits ++ (bound_lits_from first range below k us n).lits) (sym split)
+      append_assoc lits (l ∷ []) (bound_lits_part_from first range l (k + 1) rest g.vars).lits
+          ∙ ap (λ (u : Literal). lits ++ u ∷ (bound_lits_part_from first range u (k + 1) rest g.vars).lits) is
+          ∙ ap (λ (u : ℕ). lits ++ m ∷ (bound_lits_part_from first range m (k + 1) rest u).lits) vars
+          ∙ ap (λ (us : List Literal). lits ++ (bound_lits_part_from first range below k us n).lits) (sym split)
           ∙ h,
-      ap (λ (u : Literal). with_part g (bound_lits_from first range u (k + 1) rest g.vars).part) is
-          ∙ ap (λ (u : Formula). with_part u (bound_lits_from first range m (k + 1) rest u.vars).part) made
-          ∙ with_part-and_then f p (λ u. (bound_lits_from first range m (k + 1) rest u).part)
-          ∙ ap (λ (us : List Literal). with_part f (bound_lits_from first range below k us n).part) (sym split),
+      ap (λ (u : Literal). with_part g (bound_lits_part_from first range u (k + 1) rest g.vars).part) is
+          ∙ ap (λ (u : Formula). with_part u (bound_lits_part_from first range m (k + 1) rest u.vars).part) made
+          ∙ with_part-and_then f p (λ u. (bound_lits_part_from first range m (k + 1) rest u).part)
+          ∙ ap (λ (us : List Literal). with_part f (bound_lits_part_from first range below k us n).part) (sym split),
     )

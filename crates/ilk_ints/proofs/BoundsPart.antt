@@ -7,8 +7,8 @@ use Rattle.ilk_cnf.specs.Formula.{is_lit_over, is_clause_over}
 use Rattle.ilk_cnf.specs.Truth.{is_true}
 use Rattle.ilk_cnf.specs.Extends.{ExtensionsAreExactly, EqualsGivenValues}
 use Rattle.ilk_cnf.proofs.Extending.{no_more_if, only_from_if}
-use Rattle.ilk_ints.specs.Bits.{bit_count, lowest_bits_of, bits_at}
-use Rattle.ilk_ints.specs.Named.{one_hot_bits, bound_count, bound_lits_from, bound_lits_part, bound_bits, bound_vars_bits}
+use Rattle.ilk_ints.specs.Bits.{bit_count, lowest_bits_of, assigned_bits_from_var}
+use Rattle.ilk_ints.specs.Named.{one_hot_bits, bound_count, bound_lits_part_from, bound_lits_part, bound_bits, bound_vars_bits}
 use Rattle.ilk_ints.proofs.AtMostLaw.{bits_some}
 use Rattle.ilk_ints.proofs.BoundsLaw.{bounds-law, bounds-say}
 
@@ -69,7 +69,7 @@ ready a first range w n e es all inside says =
 
 pub bound_lits_part-law : (values : List Literal) (a : List Bool) (first range w n : ℕ) → length a ≡ n →
     0 < first → first + bit_count range ≤ n + 1 → range ≤ 2 ^ bit_count range → length values ≡ range →
-    is_clause_over n values ≡ true → w < range → bits_at a first (bit_count range) ≡ lowest_bits_of (bit_count range) w →
+    is_clause_over n values ≡ true → w < range → assigned_bits_from_var a first (bit_count range) ≡ lowest_bits_of (bit_count range) w →
     map (is_true a) values ≡ one_hot_bits w 0 range →
     ExtensionsAreExactly a (bound_lits_part first range values n).part.vars (bound_lits_part first range values n).part.clauses
     (EqualsGivenValues (bound_vars_bits range w 1 (bound_count range)))
@@ -86,13 +86,13 @@ bound_lits_part-law (e ∷ es) a first range w n size low high enough all inside
           r.same))
       | inr one ↦
           (let none : 0 ≡ bound_count range = omega (arith, few_bounds range) in
-          subst (λ (j : ℕ). ExtensionsAreExactly a (bound_lits_from first range e 1 (take j es) n).part.vars (bound_lits_from first range e 1 (take j es) n).part.clauses (EqualsGivenValues (bound_vars_bits range w 1 j))) none
+          subst (λ (j : ℕ). ExtensionsAreExactly a (bound_lits_part_from first range e 1 (take j es) n).part.vars (bound_lits_part_from first range e 1 (take j es) n).part.clauses (EqualsGivenValues (bound_vars_bits range w 1 j))) none
           (only_from_if a n [] [] (no_more_if a n [] true size refl)))
     ]
 
 pub bound_lits_part-say : (values : List Literal) (a c : List Bool) (first range w n : ℕ) → length a ≡ n →
     0 < first → first + bit_count range ≤ n + 1 → range ≤ 2 ^ bit_count range → length values ≡ range →
-    is_clause_over n values ≡ true → w < range → bits_at a first (bit_count range) ≡ lowest_bits_of (bit_count range) w →
+    is_clause_over n values ≡ true → w < range → assigned_bits_from_var a first (bit_count range) ≡ lowest_bits_of (bit_count range) w →
     map (is_true a) values ≡ one_hot_bits w 0 range →
     map (is_true (a ++ (bound_vars_bits range w 1 (bound_count range) ++ c)))
     (bound_lits_part first range values n).lits
@@ -112,7 +112,7 @@ bound_lits_part-say (e ∷ es) a c first range w n size low high enough all insi
           r.same))
       | inr one ↦
           (let none : 0 ≡ bound_count range = omega (arith, few_bounds range) in
-          subst (λ (j : ℕ). map (is_true (a ++ (bound_vars_bits range w 1 j ++ c))) (bound_lits_from first range e 1 (take j es) n).lits ≡ bound_bits w 1 j) none refl)
+          subst (λ (j : ℕ). map (is_true (a ++ (bound_vars_bits range w 1 j ++ c))) (bound_lits_part_from first range e 1 (take j es) n).lits ≡ bound_bits w 1 j) none refl)
     ]
 
 pub split-inside : (n k m : ℕ) (values : List Literal) (e : Literal) → 1 ≤ length values → e ≡ get_or values 0 e → is_clause_over n values ≡ true → is_clause_over n (e ∷ take k (take m (drop 1 values))) ≡ true

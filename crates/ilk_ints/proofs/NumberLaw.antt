@@ -6,13 +6,13 @@ use Rattle.std.proofs.Math.Pow.{pow_mono}
 use Rattle.std.proofs.lemmas.Bool.{and_parts, and_from, ne_eqb, cases_eq, cases_lt, false≢true}
 use Rattle.std.proofs.Math.Nat.{pow-succ'}
 use Rattle.ilk_cnf.specs.Literal.{Literal, negated_lit}
-use Rattle.ilk_cnf.specs.Formula.{Formula, with_vars_and_clauses, clause_unless_tautology, is_clause_over, are_clauses_over}
+use Rattle.ilk_cnf.specs.Formula.{Formula, with_var_count_and_clauses, clause_unless_tautology, is_clause_over, are_clauses_over}
 use Rattle.ilk_cnf.specs.Truth.{value, is_clause_true, satisfies}
 use Rattle.ilk_cnf.specs.Extends.{ExtensionsAreExactly}
 use Rattle.ilk_cnf.specs.Part.{clauses_from_lists}
 use Rattle.ilk_cnf.proofs.Parts.{value-new}
 use Rattle.ilk_cnf.proofs.Gates.{is_clause_true-opposites, opposites-in, satisfies-clauses_from_lists}
-use Rattle.ilk_ints.specs.Bits.{bit_count, lowest_bits_of, bits_at, bit_pattern_lits, same_bits}
+use Rattle.ilk_ints.specs.Bits.{bit_count, lowest_bits_of, assigned_bits_from_var, bit_pattern_lits, same_bits}
 use Rattle.ilk_ints.specs.Number.{value_bit_lits, non_value_clauses, number_part, bits_have_value, AreBitsInRange}
 use Rattle.ilk_ints.proofs.BitsLaw.{number_of, number-less, number-bits, bits-number, bits-twice, length-bits, same_bits-self, bits-test, value_bit_lits-say, value_bit_lits-in}
 
@@ -36,35 +36,36 @@ are_clauses_over-map : (n : ℕ) (f : ℕ → List Literal) (vs : List ℕ) → 
 are_clauses_over-map n f [] h = refl
 are_clauses_over-map n f (v ∷ vs) h = and_from _ _ (h v) (are_clauses_over-map n f vs h)
 
-length-bits_at : (a : List Bool) (b first : ℕ) → length (bits_at a first b) ≡ b
-length-bits_at a zero first = refl
-length-bits_at a (suc b) first = ap suc (length-bits_at a b (first + 1))
+length-assigned_bits_from_var : (a : List Bool) (b first : ℕ) → length (assigned_bits_from_var a first b) ≡ b
+length-assigned_bits_from_var a zero first = refl
+length-assigned_bits_from_var a (suc b) first = ap suc (length-assigned_bits_from_var a b (first + 1))
 
-pub bits_at-new : (d a : List Bool) (first : ℕ) → length a + 1 ≡ first → bits_at (a ++ d) first (length d) ≡ d
-bits_at-new [] a first size = refl
-bits_at-new (q ∷ d) a first size =
+pub assigned_bits_from_var-new : (d a : List Bool) (first : ℕ) → length a + 1 ≡ first → assigned_bits_from_var (a ++ d) first (length d) ≡ d
+assigned_bits_from_var-new [] a first size = refl
+assigned_bits_from_var-new (q ∷ d) a first size =
     let here : value (a ++ q ∷ d) first ≡ q = value-new a d q first size in
     let longer : length (a ++ q ∷ []) + 1 ≡ first + 1 = omega (arith, length-append a (q ∷ []), size) in
-    let rest : bits_at (a ++ q ∷ d) (first + 1) (length d) ≡ d = subst (λ (u : List Bool). bits_at u (first + 1) (length d) ≡ d) (append_assoc a (q ∷ []) d) (bits_at-new d (a ++ q ∷ []) (first + 1) longer) in
+    let rest : assigned_bits_from_var (a ++ q ∷ d) (first + 1) (length d) ≡ d = subst (λ (u : List Bool). assigned_bits_from_var u (first + 1) (length d) ≡ d) (append_assoc a (q ∷ []) d)
+    (assigned_bits_from_var-new d (a ++ q ∷ []) (first + 1) longer) in
     rw (here, rest) refl
 
 ruled-says : (a : List Bool) (first range v : ℕ) → is_clause_true a (map negated_lit (value_bit_lits first range v)) ≡ not (bits_have_value a first range v)
 ruled-says a first range v = is_clause_true-opposites a (value_bit_lits first range v) ∙ ap not (value_bit_lits-say a first range v)
 
-pub value-below : (a : List Bool) (first range : ℕ) → range ≤ 2 ^ bit_count range → satisfies a (non_value_clauses first range) ≡ true → AreBitsInRange range (bits_at a first (bit_count range))
+pub value-below : (a : List Bool) (first range : ℕ) → range ≤ 2 ^ bit_count range → satisfies a (non_value_clauses first range) ≡ true → AreBitsInRange range (assigned_bits_from_var a first (bit_count range))
 value-below a first range enough sat = below
   where
     b : ℕ
     b = bit_count range
 
     v : ℕ
-    v = number_of (bits_at a first b)
+    v = number_of (assigned_bits_from_var a first b)
 
-    is : bits_at a first b ≡ lowest_bits_of b v
-    is = sym (bits-number (bits_at a first b)) ∙ ap (λ (k : ℕ). lowest_bits_of k v) (length-bits_at a b first)
+    is : assigned_bits_from_var a first b ≡ lowest_bits_of b v
+    is = sym (bits-number (assigned_bits_from_var a first b)) ∙ ap (λ (k : ℕ). lowest_bits_of k v) (length-assigned_bits_from_var a b first)
 
     less : v < 2 ^ b
-    less = subst (λ (k : ℕ). v < 2 ^ k) (length-bits_at a b first) (number-less (bits_at a first b))
+    less = subst (λ (k : ℕ). v < 2 ^ k) (length-assigned_bits_from_var a b first) (number-less (assigned_bits_from_var a first b))
 
     same : bits_have_value a first range v ≡ true
     same = ap (λ (u : List Bool). same_bits u (lowest_bits_of b v)) is ∙ same_bits-self (lowest_bits_of b v)
@@ -80,10 +81,10 @@ value-below a first range enough sat = below
         let here : is_clause_true a (map negated_lit (value_bit_lits first range v)) ≡ true = each-range (λ u. is_clause_true a (map negated_lit (value_bit_lits first range u))) (2 ^ b - range) range v each h (omega (arith, less, enough)) in
         false≢true (sym (ap not same) ∙ (sym (ruled-says a first range v) ∙ here))
 
-    below : AreBitsInRange range (bits_at a first b)
+    below : AreBitsInRange range (assigned_bits_from_var a first b)
     below = elim (cases_lt v range) [ inl low ↦ (v, low, is) | inr high ↦ absurd (past high) ]
 
-pub value-passes : (a : List Bool) (first range w : ℕ) → range ≤ 2 ^ bit_count range → w < range → bits_at a first (bit_count range) ≡ lowest_bits_of (bit_count range) w → satisfies a (non_value_clauses first range) ≡ true
+pub value-passes : (a : List Bool) (first range w : ℕ) → range ≤ 2 ^ bit_count range → w < range → assigned_bits_from_var a first (bit_count range) ≡ lowest_bits_of (bit_count range) w → satisfies a (non_value_clauses first range) ≡ true
 value-passes a first range w enough less bits =
     satisfies-map a (λ v. map negated_lit (value_bit_lits first range v)) (range_with_len range (2 ^ b - range))
     ∙ range-each (λ v. is_clause_true a (map negated_lit (value_bit_lits first range v))) (2 ^ b - range) range (λ i low high. other i low (omega arith))
@@ -103,8 +104,8 @@ number-law a range n enough size = record {
   only = λ d long sat. value d (omega (arith, length-append a d, size, long)) sat;
 }
   where
-    at : (d : List Bool) → length d ≡ bit_count range → bits_at (a ++ d) (n + 1) (bit_count range) ≡ d
-    at d l = ap (λ (k : ℕ). bits_at (a ++ d) (n + 1) k) (sym l) ∙ bits_at-new d a (n + 1) (ap (λ (k : ℕ). k + 1) size)
+    at : (d : List Bool) → length d ≡ bit_count range → assigned_bits_from_var (a ++ d) (n + 1) (bit_count range) ≡ d
+    at d l = ap (λ (k : ℕ). assigned_bits_from_var (a ++ d) (n + 1) k) (sym l) ∙ assigned_bits_from_var-new d a (n + 1) (ap (λ (k : ℕ). k + 1) size)
 
     value : (d : List Bool) → length d ≡ bit_count range → satisfies (a ++ d) (non_value_clauses (n + 1) range) ≡ true → AreBitsInRange range d
     value d l sat = subst (AreBitsInRange range) (at d l) (value-below (a ++ d) (n + 1) range enough sat)
@@ -114,7 +115,7 @@ non_value_clauses-in n first range low high =
     are_clauses_over-map n (λ v. map negated_lit (value_bit_lits first range v)) (range_with_len range (2 ^ bit_count range - range)) (λ v. opposites-in n (value_bit_lits first range v) (value_bit_lits-in n first range v low high))
 
 pub ruled_step : (f g : Formula) (whole : List (List Literal)) (first b v : ℕ) → v < 2 ^ b →
-    g ≡ with_vars_and_clauses f f.vars (clause_unless_tautology (map negated_lit (bit_pattern_lits first (lowest_bits_of b v)))) →
+    g ≡ with_var_count_and_clauses f f.vars (clause_unless_tautology (map negated_lit (bit_pattern_lits first (lowest_bits_of b v)))) →
     f.clauses
     ++ clauses_from_lists (map (λ u. map negated_lit (bit_pattern_lits first (lowest_bits_of b u))) (range_with_len v (2 ^ b - v)))
     ≡ whole →
@@ -131,17 +132,17 @@ ruled_step f g whole first b v less made h =
     ∙ h
 
 pub value_step : (a : List Bool) (first count k v q : ℕ) → k < count → count ≤ 8 →
-    q ≡ cond (value a (first + (count - 1 - k))) 1 0 → lowest_bits_of k v ≡ bits_at a (first + (count - k)) k →
+    q ≡ cond (value a (first + (count - 1 - k))) 1 0 → lowest_bits_of k v ≡ assigned_bits_from_var a (first + (count - k)) k →
     v < 2 ^ k →
-    (lowest_bits_of (k + 1) (2 * v + q) ≡ bits_at a (first + (count - (k + 1))) (k + 1)) ×
+    (lowest_bits_of (k + 1) (2 * v + q) ≡ assigned_bits_from_var a (first + (count - (k + 1))) (k + 1)) ×
     (2 * v + q < 2 ^ (k + 1)) × (2 * v + q < 256)
 value_step a first count k v q less few is bits small =
     let f : ℕ = first + (count - 1 - k) in
     let here : f ≡ first + (count - suc k) = omega arith in
     let next : first + (count - k) ≡ f + 1 = omega arith in
-    let at : lowest_bits_of (suc k) (2 * v + q) ≡ bits_at a (first + (count - suc k)) (suc k) =
-    ap (λ (u : ℕ). lowest_bits_of (suc k) (2 * v + u)) is ∙ bits-twice k v (value a f) ∙ ap (λ (u : List Bool). value a f ∷ u) (bits ∙ ap (λ (g : ℕ). bits_at a g k) next)
-    ∙ ap (λ (g : ℕ). bits_at a g (suc k)) here in
+    let at : lowest_bits_of (suc k) (2 * v + q) ≡ assigned_bits_from_var a (first + (count - suc k)) (suc k) =
+    ap (λ (u : ℕ). lowest_bits_of (suc k) (2 * v + u)) is ∙ bits-twice k v (value a f) ∙ ap (λ (u : List Bool). value a f ∷ u) (bits ∙ ap (λ (g : ℕ). assigned_bits_from_var a g k) next)
+    ∙ ap (λ (g : ℕ). assigned_bits_from_var a g (suc k)) here in
     let one : q ≤ 1 = rw is (at_most_one (value a f)) in
     let fits : 2 * v + q < 2 ^ suc k = omega (arith, pow-succ' 2 k, small, one) in
     let upto : suc k ≤ 8 = omega (arith, less, few) in
@@ -152,7 +153,7 @@ value_step a first count k v q less few is bits small =
     at_most_one true = omega arith
     at_most_one false = omega arith
 
-pub value_read : (a : List Bool) (first range v : ℕ) → range ≤ 2 ^ bit_count range → satisfies a (clauses_from_lists (non_value_clauses first range)) ≡ true → lowest_bits_of (bit_count range) v ≡ bits_at a first (bit_count range) →
+pub value_read : (a : List Bool) (first range v : ℕ) → range ≤ 2 ^ bit_count range → satisfies a (clauses_from_lists (non_value_clauses first range)) ≡ true → lowest_bits_of (bit_count range) v ≡ assigned_bits_from_var a first (bit_count range) →
     v < 2 ^ bit_count range
     → v < range
 value_read a first range v enough sat is small =
@@ -166,8 +167,8 @@ pub byte_of : (b : Bool) → bool_byte b ≡ cond b 1 0
 byte_of true = refl
 byte_of false = refl
 
-pub value_end : (a : List Bool) (first b count k v : ℕ) → k ≡ count → count ≡ b → lowest_bits_of k v ≡ bits_at a (first + (count - k)) k → v < 2 ^ k → (lowest_bits_of b v ≡ bits_at a first b) × (v < 2 ^ b)
+pub value_end : (a : List Bool) (first b count k v : ℕ) → k ≡ count → count ≡ b → lowest_bits_of k v ≡ assigned_bits_from_var a (first + (count - k)) k → v < 2 ^ k → (lowest_bits_of b v ≡ assigned_bits_from_var a first b) × (v < 2 ^ b)
 value_end a first b count k v end is bits small =
     let all : k ≡ b = end ∙ is in
     let start : first + (count - k) ≡ first = omega arith in
-    (ap (λ (u : ℕ). lowest_bits_of u v) (sym all) ∙ bits ∙ ap (λ (f : ℕ). bits_at a f k) start ∙ ap (λ (u : ℕ). bits_at a first u) all, subst (λ (u : ℕ). v < 2 ^ u) all small)
+    (ap (λ (u : ℕ). lowest_bits_of u v) (sym all) ∙ bits ∙ ap (λ (f : ℕ). assigned_bits_from_var a f k) start ∙ ap (λ (u : ℕ). assigned_bits_from_var a first u) all, subst (λ (u : ℕ). v < 2 ^ u) all small)

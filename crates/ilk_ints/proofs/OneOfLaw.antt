@@ -14,7 +14,7 @@ use Rattle.ilk_cnf.proofs.Literals.{is_lit_over-more, is_clause_over-more, are_c
 use Rattle.ilk_cnf.proofs.Parts.{value-new, is_true-left}
 use Rattle.ilk_cnf.proofs.Gates.{is_true-negated_lit, new-in, with_part-and_then}
 use Rattle.ilk_cnf.proofs.Extending.{one_more_if, no_more_if, if_then_if}
-use Rattle.ilk_ints.specs.OneOf.{disjoint_or_clauses, disjoint_or_part, join_pairs_until_one, exactly_one_part, none_true, exactly_one_true, join_pairs_bits, exactly_one_bits}
+use Rattle.ilk_ints.specs.OneOf.{disjoint_or_clauses, disjoint_or_part, join_pairs_and_demand_last, exactly_one_part, none_true, exactly_one_true, join_pairs_bits, exactly_one_bits}
 
 either_says : (w s l : Bool) → ((not l || (w || false)) && ((not s || (w || false)) && ((not w || (s || (l || false))) && ((not s || (not l || false)) && true)))) ≡ (beq w (s || l) && not (s && l))
 either_says true true true = refl
@@ -68,8 +68,8 @@ exactly_one_true-first true false qs = refl
 exactly_one_true-first false true qs = refl
 exactly_one_true-first false false qs = refl
 
-pub exactly_one_true-join_pairs_until_one : (p q : Bool) (qs : List Bool) → (not (p && q) && exactly_one_true (qs ++ (p || q) ∷ [])) ≡ exactly_one_true (p ∷ q ∷ qs)
-exactly_one_true-join_pairs_until_one p q qs = ap (λ (o : Bool). not (p && q) && o) (exactly_one_true-last qs (p || q)) ∙ exactly_one_true-first p q qs
+pub exactly_one_true-join_pairs_and_demand_last : (p q : Bool) (qs : List Bool) → (not (p && q) && exactly_one_true (qs ++ (p || q) ∷ [])) ≡ exactly_one_true (p ∷ q ∷ qs)
+exactly_one_true-join_pairs_and_demand_last p q qs = ap (λ (o : Bool). not (p && q) && o) (exactly_one_true-last qs (p || q)) ∙ exactly_one_true-first p q qs
 
 pub map-left : (a b : List Bool) (ls : List Literal) → is_clause_over (length a) ls ≡ true → map (is_true (a ++ b)) ls ≡ map (is_true a) ls
 map-left a b [] h = refl
@@ -101,36 +101,36 @@ either-next-in s l ls n h =
     let two = and_parts _ _ one.1 in
     and_from _ _ (is_lit_over-more n (n + 1) s (omega arith) one.0) (and_from _ _ (is_lit_over-more n (n + 1) l (omega arith) two.0) (and_from _ _ (new-in n true) refl))
 
-join_pairs_until_one-low : (k : ℕ) (ls : List Literal) (n : ℕ) → n ≤ (join_pairs_until_one k ls n).vars
-join_pairs_until_one-low zero ls n = omega arith
-join_pairs_until_one-low (suc k) [] n = omega arith
-join_pairs_until_one-low (suc k) (l ∷ []) n = omega arith
-join_pairs_until_one-low (suc k) (s ∷ l ∷ ls) n = let h = join_pairs_until_one-low k (ls ++ positive_lit (n + 1) ∷ []) (n + 1) in omega arith
+join_pairs_and_demand_last-low : (k : ℕ) (ls : List Literal) (n : ℕ) → n ≤ (join_pairs_and_demand_last k ls n).vars
+join_pairs_and_demand_last-low zero ls n = omega arith
+join_pairs_and_demand_last-low (suc k) [] n = omega arith
+join_pairs_and_demand_last-low (suc k) (l ∷ []) n = omega arith
+join_pairs_and_demand_last-low (suc k) (s ∷ l ∷ ls) n = let h = join_pairs_and_demand_last-low k (ls ++ positive_lit (n + 1) ∷ []) (n + 1) in omega arith
 
-join_pairs_until_one-in : (k : ℕ) (ls : List Literal) (n : ℕ) → is_clause_over n ls ≡ true → are_clauses_over (join_pairs_until_one k ls n).vars (join_pairs_until_one k ls n).clauses ≡ true
-join_pairs_until_one-in zero ls n h = and_from _ _ h refl
-join_pairs_until_one-in (suc k) [] n h = refl
-join_pairs_until_one-in (suc k) (l ∷ []) n h = and_from _ _ h refl
-join_pairs_until_one-in (suc k) (s ∷ l ∷ ls) n h =
+join_pairs_and_demand_last-in : (k : ℕ) (ls : List Literal) (n : ℕ) → is_clause_over n ls ≡ true → are_clauses_over (join_pairs_and_demand_last k ls n).vars (join_pairs_and_demand_last k ls n).clauses ≡ true
+join_pairs_and_demand_last-in zero ls n h = and_from _ _ h refl
+join_pairs_and_demand_last-in (suc k) [] n h = refl
+join_pairs_and_demand_last-in (suc k) (l ∷ []) n h = and_from _ _ h refl
+join_pairs_and_demand_last-in (suc k) (s ∷ l ∷ ls) n h =
     let next = ls ++ positive_lit (n + 1) ∷ [] in
-    let low = join_pairs_until_one-low k next (n + 1) in
-    list_all-append (is_clause_over (join_pairs_until_one k next (n + 1)).vars) (disjoint_or_clauses s l (positive_lit (n + 1))) (join_pairs_until_one k next (n + 1)).clauses
+    let low = join_pairs_and_demand_last-low k next (n + 1) in
+    list_all-append (is_clause_over (join_pairs_and_demand_last k next (n + 1)).vars) (disjoint_or_clauses s l (positive_lit (n + 1))) (join_pairs_and_demand_last k next (n + 1)).clauses
     ∙ and_from _ _ (are_clauses_over-more (n + 1) _ (disjoint_or_clauses s l (positive_lit (n + 1))) low (disjoint_or_clauses-in (n + 1) s l (positive_lit (n + 1)) (either-next-in s l ls n h)))
-    (join_pairs_until_one-in k next (n + 1) (next-in s l ls n h))
+    (join_pairs_and_demand_last-in k next (n + 1) (next-in s l ls n h))
 
-join_pairs_until_one-law : (k : ℕ) (ls : List Literal) (a : List Bool) (n : ℕ) → length a ≡ n → length ls ≤ k →
+join_pairs_and_demand_last-law : (k : ℕ) (ls : List Literal) (a : List Bool) (n : ℕ) → length a ≡ n → length ls ≤ k →
     is_clause_over n ls ≡ true →
-    ExtensionsAreExactly a (join_pairs_until_one k ls n).vars (join_pairs_until_one k ls n).clauses
+    ExtensionsAreExactly a (join_pairs_and_demand_last k ls n).vars (join_pairs_and_demand_last k ls n).clauses
     (PassesAndEqualsGivenValues (exactly_one_true (map (is_true a) ls)) (join_pairs_bits k (map (is_true a) ls)))
-join_pairs_until_one-law zero [] a n size few h = no_more_if a n ([] ∷ []) false size refl
-join_pairs_until_one-law zero (l ∷ ls) a n size few h = absurd (omega arith)
-join_pairs_until_one-law (suc k) [] a n size few h = no_more_if a n ([] ∷ []) false size refl
-join_pairs_until_one-law (suc k) (l ∷ []) a n size few h = no_more_if a n ((l ∷ []) ∷ []) (exactly_one_true (is_true a l ∷ [])) size (alone (is_true a l))
+join_pairs_and_demand_last-law zero [] a n size few h = no_more_if a n ([] ∷ []) false size refl
+join_pairs_and_demand_last-law zero (l ∷ ls) a n size few h = absurd (omega arith)
+join_pairs_and_demand_last-law (suc k) [] a n size few h = no_more_if a n ([] ∷ []) false size refl
+join_pairs_and_demand_last-law (suc k) (l ∷ []) a n size few h = no_more_if a n ((l ∷ []) ∷ []) (exactly_one_true (is_true a l ∷ [])) size (alone (is_true a l))
   where
     alone : (p : Bool) → ((p || false) && true) ≡ exactly_one_true (p ∷ [])
     alone true = refl
     alone false = refl
-join_pairs_until_one-law (suc k) (s ∷ l ∷ ls) a n size few h =
+join_pairs_and_demand_last-law (suc k) (s ∷ l ∷ ls) a n size few h =
     let v = positive_lit (n + 1) in
     let next = ls ++ v ∷ [] in
     let fewer : length next ≤ k = omega (arith, length-append ls (v ∷ [])) in
@@ -144,41 +144,42 @@ join_pairs_until_one-law (suc k) (s ∷ l ∷ ls) a n size few h =
     let longer : length a + 1 ≡ n + 1 = ap (λ (k : ℕ). k + 1) size in
     let fits : length a ≤ n + 1 = rw size (more n) in
     let here : length (a ++ (p || q) ∷ []) ≡ n + 1 = length-append a ((p || q) ∷ []) ∙ longer in
-    let then : ExtensionsAreExactly (a ++ (p || q) ∷ []) (join_pairs_until_one k next (n + 1)).vars (join_pairs_until_one k next (n + 1)).clauses (PassesAndEqualsGivenValues (exactly_one_true (qs ++ (p || q) ∷ [])) (join_pairs_bits k (qs ++
+    let then : ExtensionsAreExactly (a ++ (p || q) ∷ []) (join_pairs_and_demand_last k next (n + 1)).vars (join_pairs_and_demand_last k next (n + 1)).clauses
+    (PassesAndEqualsGivenValues (exactly_one_true (qs ++ (p || q) ∷ [])) (join_pairs_bits k (qs ++
     (p || q) ∷ []))) =
     subst
-    (λ (xs : List Bool). ExtensionsAreExactly (a ++ (p || q) ∷ []) (join_pairs_until_one k next (n + 1)).vars
-    (join_pairs_until_one k next (n + 1)).clauses (PassesAndEqualsGivenValues (exactly_one_true xs) (join_pairs_bits k xs)))
+    (λ (xs : List Bool). ExtensionsAreExactly (a ++ (p || q) ∷ []) (join_pairs_and_demand_last k next (n + 1)).vars
+    (join_pairs_and_demand_last k next (n + 1)).clauses (PassesAndEqualsGivenValues (exactly_one_true xs) (join_pairs_bits k xs)))
     (next-true ls a (p || q) n size two.1)
-    (join_pairs_until_one-law k next (a ++ (p || q) ∷ []) (n + 1) here fewer (next-in s l ls n h)) in
+    (join_pairs_and_demand_last-law k next (a ++ (p || q) ∷ []) (n + 1) here fewer (next-in s l ls n h)) in
     let both = if_then_if a ((p || q) ∷ []) (join_pairs_bits k (qs ++ (p || q) ∷ [])) (not (p && q))
-    (exactly_one_true (qs ++ (p || q) ∷ [])) (n + 1) (join_pairs_until_one k next (n + 1)).vars (disjoint_or_clauses s l v)
-    (join_pairs_until_one k next (n + 1)).clauses fits (join_pairs_until_one-low k next (n + 1))
+    (exactly_one_true (qs ++ (p || q) ∷ [])) (n + 1) (join_pairs_and_demand_last k next (n + 1)).vars (disjoint_or_clauses s l v)
+    (join_pairs_and_demand_last k next (n + 1)).clauses fits (join_pairs_and_demand_last-low k next (n + 1))
     (disjoint_or_clauses-in (n + 1) s l v (either-next-in s l ls n h))
     (disjoint_or_clauses-law a s l p q (n + 1) longer (rw size si) (rw size li) refl refl) (λ _. then) in
-    subst (λ (o : Bool). ExtensionsAreExactly a (join_pairs_until_one k next (n + 1)).vars (disjoint_or_clauses s l v ++ (join_pairs_until_one k next (n + 1)).clauses) (PassesAndEqualsGivenValues o (join_pairs_bits (suc k) (p ∷ q ∷ qs))))
-    (exactly_one_true-join_pairs_until_one p q qs) both
+    subst (λ (o : Bool). ExtensionsAreExactly a (join_pairs_and_demand_last k next (n + 1)).vars (disjoint_or_clauses s l v ++ (join_pairs_and_demand_last k next (n + 1)).clauses) (PassesAndEqualsGivenValues o (join_pairs_bits (suc k) (p ∷ q ∷ qs))))
+    (exactly_one_true-join_pairs_and_demand_last p q qs) both
 
-join_pairs_until_one-vars : (k : ℕ) (ls : List Literal) (n : ℕ) → (join_pairs_until_one k ls n).vars ≤ n + k
-join_pairs_until_one-vars zero ls n = omega arith
-join_pairs_until_one-vars (suc k) [] n = omega arith
-join_pairs_until_one-vars (suc k) (l ∷ []) n = omega arith
-join_pairs_until_one-vars (suc k) (s ∷ l ∷ ls) n = let h = join_pairs_until_one-vars k (ls ++ positive_lit (n + 1) ∷ []) (n + 1) in omega arith
+join_pairs_and_demand_last-vars : (k : ℕ) (ls : List Literal) (n : ℕ) → (join_pairs_and_demand_last k ls n).vars ≤ n + k
+join_pairs_and_demand_last-vars zero ls n = omega arith
+join_pairs_and_demand_last-vars (suc k) [] n = omega arith
+join_pairs_and_demand_last-vars (suc k) (l ∷ []) n = omega arith
+join_pairs_and_demand_last-vars (suc k) (s ∷ l ∷ ls) n = let h = join_pairs_and_demand_last-vars k (ls ++ positive_lit (n + 1) ∷ []) (n + 1) in omega arith
 
-join_pairs_until_one-few : (k : ℕ) (ls : List Literal) (n : ℕ) → length (join_pairs_until_one k ls n).clauses ≤ 4 * k + 1
-join_pairs_until_one-few zero ls n = omega arith
-join_pairs_until_one-few (suc k) [] n = omega arith
-join_pairs_until_one-few (suc k) (l ∷ []) n = omega arith
-join_pairs_until_one-few (suc k) (s ∷ l ∷ ls) n =
+join_pairs_and_demand_last-few : (k : ℕ) (ls : List Literal) (n : ℕ) → length (join_pairs_and_demand_last k ls n).clauses ≤ 4 * k + 1
+join_pairs_and_demand_last-few zero ls n = omega arith
+join_pairs_and_demand_last-few (suc k) [] n = omega arith
+join_pairs_and_demand_last-few (suc k) (l ∷ []) n = omega arith
+join_pairs_and_demand_last-few (suc k) (s ∷ l ∷ ls) n =
     let next = ls ++ positive_lit (n + 1) ∷ [] in
-    let h = join_pairs_until_one-few k next (n + 1) in
-    omega (arith, length-append (disjoint_or_clauses s l (positive_lit (n + 1))) (join_pairs_until_one k next (n + 1)).clauses, h)
+    let h = join_pairs_and_demand_last-few k next (n + 1) in
+    omega (arith, length-append (disjoint_or_clauses s l (positive_lit (n + 1))) (join_pairs_and_demand_last k next (n + 1)).clauses, h)
 
 pub one_of-low : (ls : List Literal) (n : ℕ) → n ≤ (exactly_one_part ls n).vars
-one_of-low ls n = join_pairs_until_one-low (length ls) ls n
+one_of-low ls n = join_pairs_and_demand_last-low (length ls) ls n
 
 pub part-in : (ls : List Literal) (n : ℕ) → is_clause_over n ls ≡ true → are_clauses_over (exactly_one_part ls n).vars (exactly_one_part ls n).clauses ≡ true
-part-in ls n h = join_pairs_until_one-in (length ls) ls n h
+part-in ls n h = join_pairs_and_demand_last-in (length ls) ls n h
 
 same_length : (ls : List Literal) (qs : List Bool) → length qs ≡ length ls → join_pairs_bits (length ls) qs ≡ exactly_one_bits qs
 same_length ls qs h = ap (λ (k : ℕ). join_pairs_bits k qs) (sym h)
@@ -188,13 +189,13 @@ pub one_of-law : (ls : List Literal) (a : List Bool) (n : ℕ) → length a ≡ 
 one_of-law ls a n size h =
     let qs = map (is_true a) ls in
     subst (λ (b : List Bool). ExtensionsAreExactly a (exactly_one_part ls n).vars (exactly_one_part ls n).clauses (PassesAndEqualsGivenValues (exactly_one_true qs) b)) (same_length ls qs (length-map ls (is_true a)))
-    (join_pairs_until_one-law (length ls) ls a n size (omega arith) h)
+    (join_pairs_and_demand_last-law (length ls) ls a n size (omega arith) h)
 
 pub one_of-vars : (ls : List Literal) (n : ℕ) → (exactly_one_part ls n).vars ≤ n + length ls
-one_of-vars ls n = join_pairs_until_one-vars (length ls) ls n
+one_of-vars ls n = join_pairs_and_demand_last-vars (length ls) ls n
 
 pub one_of-few : (ls : List Literal) (n : ℕ) → length (exactly_one_part ls n).clauses ≤ 4 * length ls + 1
-one_of-few ls n = join_pairs_until_one-few (length ls) ls n
+one_of-few ls n = join_pairs_and_demand_last-few (length ls) ls n
 
 clause_unless_tautology-few : (ls : List Literal) → length (clause_unless_tautology ls) ≤ 1
 clause_unless_tautology-few ls = cond_both (is_tautology ls) [] (deduped_lits ls ∷ []) (λ cs. length cs ≤ 1) (λ _. omega arith) (λ _. omega arith)
@@ -222,7 +223,7 @@ one_of-join : (s l : Literal) (ls : List Literal) (n : ℕ) → and_then (disjoi
 one_of-join s l ls n =
     let next = ls ++ positive_lit (n + 1) ∷ [] in
     let long : length next ≡ suc (length ls) = omega (arith, length-append ls (positive_lit (n + 1) ∷ [])) in
-    ap (λ (k : ℕ). and_then (disjoint_or_part s l n) (join_pairs_until_one k next)) long
+    ap (λ (k : ℕ). and_then (disjoint_or_part s l n) (join_pairs_and_demand_last k next)) long
 
 pub join-step : (f g : Formula) (s l : Literal) (ls : List Literal) →
     g ≡ with_part f (disjoint_or_part s l f.vars) → is_clause_over f.vars (s ∷ l ∷ ls) ≡ true →

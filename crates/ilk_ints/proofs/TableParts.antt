@@ -8,7 +8,7 @@ use Rattle.ilk_cnf.specs.Literal.{Literal, positive_lit}
 use Rattle.ilk_cnf.specs.Formula.{is_lit_over, is_clause_over, are_clauses_over}
 use Rattle.ilk_cnf.specs.Part.{FormulaPart, empty_part, or_gate_part}
 use Rattle.ilk_ints.specs.Bits.{bit_count}
-use Rattle.ilk_ints.specs.Named.{PartWithLits, value_lits_from, value_lits_part, value_var_count, bound_count, bound_lits_from, bound_lits_part, bound_var_count, value_bound_var_count}
+use Rattle.ilk_ints.specs.Named.{PartWithLits, value_lits_part_from, value_lits_part, value_var_count, bound_count, bound_lits_part_from, bound_lits_part, bound_var_count, value_bound_var_count}
 use Rattle.ilk_ints.specs.AtMost.{highest_bit_decides, at_most_part, at_most_lit}
 use Rattle.ilk_ints.proofs.AtMostLaw.{bits_some}
 use Rattle.ilk_ints.proofs.ValuesLaw.{values-low, values-in, values-lits_in}
@@ -40,30 +40,30 @@ two first n =
 pub value_lits_part-in : (first range n : ℕ) → 0 < first → first + bit_count range ≤ n + 1 → are_clauses_over (value_lits_part first range n).part.vars (value_lits_part first range n).part.clauses ≡ true
 value_lits_part-in first range n low high = by_case (range == 2)
   where
-    by_case : (h : Bool) → are_clauses_over (cond h (two first n) (value_lits_from first range 0 range n)).part.vars (cond h (two first n) (value_lits_from first range 0 range n)).part.clauses ≡ true
+    by_case : (h : Bool) → are_clauses_over (cond h (two first n) (value_lits_part_from first range 0 range n)).part.vars (cond h (two first n) (value_lits_part_from first range 0 range n)).part.clauses ≡ true
     by_case true = refl
     by_case false = values-in range first range 0 n low high
 
 pub value_lits_part-lits_in : (first range n : ℕ) → 0 < first → first + bit_count range ≤ n + 1 → is_clause_over (value_lits_part first range n).part.vars (value_lits_part first range n).lits ≡ true
 value_lits_part-lits_in first range n low high = by_case (range == 2) refl
   where
-    by_case : (h : Bool) → (range == 2) ≡ h → is_clause_over (cond h (two first n) (value_lits_from first range 0 range n)).part.vars (cond h (two first n) (value_lits_from first range 0 range n)).lits ≡ true
+    by_case : (h : Bool) → (range == 2) ≡ h → is_clause_over (cond h (two first n) (value_lits_part_from first range 0 range n)).part.vars (cond h (two first n) (value_lits_part_from first range 0 range n)).lits ≡ true
     by_case true h =
         let one : bit_count range ≡ 1 = ap bit_count (eqb-true range 2 h) in
         let var_in : is_lit_over n (positive_lit first) ≡ true = and_from _ _ (lt-ltb 0 first low) (le-leb first n (omega (arith, high, one))) in
         and_from _ _ var_in (and_from _ _ var_in refl)
-    by_case false h = values-lits_in range first range 0 n (value_lits_from first range 0 range n).part.vars (omega (arith, values-low range first range 0 n))
+    by_case false h = values-lits_in range first range 0 n (value_lits_part_from first range 0 range n).part.vars (omega (arith, values-low range first range 0 n))
 
-length-value_lits_from : (j first range v n : ℕ) → length (value_lits_from first range v j n).lits ≡ j
-length-value_lits_from zero first range v n = refl
-length-value_lits_from (suc j) first range v n = ap suc (length-value_lits_from j first range (v + 1) (n + 1))
+length-value_lits_part_from : (j first range v n : ℕ) → length (value_lits_part_from first range v j n).lits ≡ j
+length-value_lits_part_from zero first range v n = refl
+length-value_lits_part_from (suc j) first range v n = ap suc (length-value_lits_part_from j first range (v + 1) (n + 1))
 
 pub length-value_lits_part : (first range n : ℕ) → length (value_lits_part first range n).lits ≡ range
 length-value_lits_part first range n = by_case (range == 2) refl
   where
-    by_case : (h : Bool) → (range == 2) ≡ h → length (cond h (two first n) (value_lits_from first range 0 range n)).lits ≡ range
+    by_case : (h : Bool) → (range == 2) ≡ h → length (cond h (two first n) (value_lits_part_from first range 0 range n)).lits ≡ range
     by_case true h = sym (eqb-true range 2 h)
-    by_case false h = length-value_lits_from range first range 0 n
+    by_case false h = length-value_lits_part_from range first range 0 n
 
 pub bound_lits_part-low : (values : List Literal) (first range n : ℕ) → n ≤ (bound_lits_part first range values n).part.vars
 bound_lits_part-low [] first range n = omega arith
@@ -79,19 +79,19 @@ bound_lits_part-in (e ∷ es) first range n low high enough h =
       | inl more ↦ bounds-in (take (bound_count range) es) first range 1 n e low (bits_some range (bit_count range) more enough) high (some-inside n (bound_count range) e es h)
       | inr one ↦
           (let none : 0 ≡ bound_count range = omega arith in
-          subst (λ (j : ℕ). are_clauses_over (bound_lits_from first range e 1 (take j es) n).part.vars (bound_lits_from first range e 1 (take j es) n).part.clauses ≡ true) none refl)
+          subst (λ (j : ℕ). are_clauses_over (bound_lits_part_from first range e 1 (take j es) n).part.vars (bound_lits_part_from first range e 1 (take j es) n).part.clauses ≡ true) none refl)
     ]
 
-pub at_most-there : (first range k n m : ℕ) (below e : Literal) (es rest : List Literal) → es ≡ e ∷ rest → (bound_lits_from first range below k es n).part.vars ≤ m → (at_most_part range k below e n).vars ≤ m
+pub at_most-there : (first range k n m : ℕ) (below e : Literal) (es rest : List Literal) → es ≡ e ∷ rest → (bound_lits_part_from first range below k es n).part.vars ≤ m → (at_most_part range k below e n).vars ≤ m
 at_most-there first range k n m below e es rest split high =
-    let whole : (bound_lits_from first range below k (e ∷ rest) n).part.vars ≤ m = subst (λ (ls : List Literal). (bound_lits_from first range below k ls n).part.vars ≤ m) split high in
+    let whole : (bound_lits_part_from first range below k (e ∷ rest) n).part.vars ≤ m = subst (λ (ls : List Literal). (bound_lits_part_from first range below k ls n).part.vars ≤ m) split high in
     let low = bounds-low rest first range (k + 1) (at_most_part range k below e n).vars (at_most_lit first range k n) in
     omega arith
 
 pub value_lits_part-end : (first range n : ℕ) → (value_lits_part first range n).part.vars ≡ n + value_var_count range
 value_lits_part-end first range n = by_case (range == 2)
   where
-    by_case : (h : Bool) → (cond h (two first n) (value_lits_from first range 0 range n)).part.vars ≡ n + cond h 0 range
+    by_case : (h : Bool) → (cond h (two first n) (value_lits_part_from first range 0 range n)).part.vars ≡ n + cond h 0 range
     by_case true = omega arith
     by_case false = values-low range first range 0 n
 
@@ -102,12 +102,12 @@ at_most-end range k n below equal = by_case (highest_bit_decides range k)
     by_case true = omega arith
     by_case false = refl
 
-bound_lits_from-end : (es : List Literal) (first range k n : ℕ) (below : Literal) → (bound_lits_from first range below k es n).part.vars ≡ n + bound_var_count range k (length es)
-bound_lits_from-end [] first range k n below = omega arith
-bound_lits_from-end (e ∷ es) first range k n below =
+bound_lits_part_from-end : (es : List Literal) (first range k n : ℕ) (below : Literal) → (bound_lits_part_from first range below k es n).part.vars ≡ n + bound_var_count range k (length es)
+bound_lits_part_from-end [] first range k n below = omega arith
+bound_lits_part_from-end (e ∷ es) first range k n below =
     let m = (at_most_part range k below e n).vars in
     let one = at_most-end range k n below e in
-    let rest = bound_lits_from-end es first range (k + 1) m (at_most_lit first range k n) in
+    let rest = bound_lits_part_from-end es first range (k + 1) m (at_most_lit first range k n) in
     omega arith
 
 pub bound_lits_part-end : (values : List Literal) (first range n : ℕ) → length values ≡ range → (bound_lits_part first range values n).part.vars ≡ n + bound_var_count range 1 (bound_count range)
@@ -117,7 +117,7 @@ bound_lits_part-end [] first range n all =
     omega (arith, no_vars)
 bound_lits_part-end (e ∷ es) first range n all =
     let few : length (take (bound_count range) es) ≡ bound_count range = omega (arith, length-take (bound_count range) es, few_bounds range, all) in
-    bound_lits_from-end (take (bound_count range) es) first range 1 n e ∙ ap (λ (j : ℕ). n + bound_var_count range 1 j) few
+    bound_lits_part_from-end (take (bound_count range) es) first range 1 n e ∙ ap (λ (j : ℕ). n + bound_var_count range 1 j) few
 
 pub named-end : (first range n : ℕ) → (bound_lits_part first range (value_lits_part first range n).lits (value_lits_part first range n).part.vars).part.vars ≡ n + value_bound_var_count range
 named-end first range n =

@@ -15,8 +15,8 @@ lowest_bits_of zero v = []
 lowest_bits_of (suc b) v = (v % 2 == 1) ∷ lowest_bits_of b (v / 2)
 
 -- The truth values in assignment `a` of the `b` variables from `first` on.
-abbrev pub bits_at : List Bool → ℕ → ℕ → List Bool
-bits_at a first b = map (value a) (range_with_len first b)
+abbrev pub assigned_bits_from_var : List Bool → ℕ → ℕ → List Bool
+assigned_bits_from_var a first b = map (value a) (range_with_len first b)
 
 -- Returns whether two lists of bits are equal.
 abbrev pub same_bits : List Bool → List Bool → Bool

@@ -14,12 +14,12 @@ pub record PartWithLits : Type 0 where
 -- The formula part that adds, after the first `n` variables, a literal for each of `j` values from
 -- `v` on, true exactly if the integer has it. The integer is below `range`, with its bits from
 -- `first` on.
-abbrev pub value_lits_from : ℕ → ℕ → ℕ → ℕ → ℕ → PartWithLits
-value_lits_from first range v zero n = record { part = empty_part n; lits = [] }
-value_lits_from first range v (suc j) n =
+abbrev pub value_lits_part_from : ℕ → ℕ → ℕ → ℕ → ℕ → PartWithLits
+value_lits_part_from first range v zero n = record { part = empty_part n; lits = [] }
+value_lits_part_from first range v (suc j) n =
     record {
-      part = and_then (value_lit_part first range v n) (λ m. (value_lits_from first range (v + 1) j m).part);
-      lits = positive_lit (n + 1) ∷ (value_lits_from first range (v + 1) j (n + 1)).lits;
+      part = and_then (value_lit_part first range v n) (λ m. (value_lits_part_from first range (v + 1) j m).part);
+      lits = positive_lit (n + 1) ∷ (value_lits_part_from first range (v + 1) j (n + 1)).lits;
     }
 
 -- The formula part with a literal for each value of an integer below `range`, whose bits begin at
@@ -28,7 +28,7 @@ abbrev pub value_lits_part : ℕ → ℕ → ℕ → PartWithLits
 value_lits_part first range n =
     if range == 2
     then record { part = empty_part n; lits = (record { var = first; positive = (0 == 1) }) ∷ (record { var = first; positive = (1 == 1) }) ∷ [] }
-    else value_lits_from first range 0 range n
+    else value_lits_part_from first range 0 range n
 
 -- For an integer that is `w`: whether it is each of the `j` values from `v` on.
 abbrev pub one_hot_bits : ℕ → ℕ → ℕ → List Bool
@@ -47,19 +47,19 @@ bound_count range = min (range - 3) (range - bit_count range)
 -- The formula part with a literal for each of the bounds k, k + 1, .., true exactly if the integer
 -- is at most the bound. The literal `below` says that it is less than k. The list has the literals
 -- for "it is k", "it is k + 1" and so on.
-abbrev pub bound_lits_from : ℕ → ℕ → Literal → ℕ → List Literal → ℕ → PartWithLits
-bound_lits_from first range below k [] n = record { part = empty_part n; lits = [] }
-bound_lits_from first range below k (e ∷ es) n =
+abbrev pub bound_lits_part_from : ℕ → ℕ → Literal → ℕ → List Literal → ℕ → PartWithLits
+bound_lits_part_from first range below k [] n = record { part = empty_part n; lits = [] }
+bound_lits_part_from first range below k (e ∷ es) n =
     record {
-      part = and_then (at_most_part range k below e n) (λ m. (bound_lits_from first range (at_most_lit first range k n) (k + 1) es m).part);
-      lits = at_most_lit first range k n ∷ (bound_lits_from first range (at_most_lit first range k n) (k + 1) es (at_most_part range k below e n).vars).lits;
+      part = and_then (at_most_part range k below e n) (λ m. (bound_lits_part_from first range (at_most_lit first range k n) (k + 1) es m).part);
+      lits = at_most_lit first range k n ∷ (bound_lits_part_from first range (at_most_lit first range k n) (k + 1) es (at_most_part range k below e n).vars).lits;
     }
 
 -- The formula part with the literals for the bounds of an integer below `range`, built from the
 -- literals of its values.
 abbrev pub bound_lits_part : ℕ → ℕ → List Literal → ℕ → PartWithLits
 bound_lits_part first range [] n = record { part = empty_part n; lits = [] }
-bound_lits_part first range (e ∷ es) n = bound_lits_from first range e 1 (take (bound_count range) es) n
+bound_lits_part first range (e ∷ es) n = bound_lits_part_from first range e 1 (take (bound_count range) es) n
 
 -- The number of variables for the literals of an integer's values, if it is below `range`.
 abbrev pub value_var_count : ℕ → ℕ

@@ -3,7 +3,7 @@ use Rattle.std.specs.Prelude.{ℕ, ◌+◌, ◌-◌, ◌^◌, ◌<◌, ◌≡◌
 use Rattle.std.specs.List.{range_with_len}
 use Rattle.ilk_cnf.specs.Literal.{Literal, negated_lit}
 use Rattle.ilk_cnf.specs.Part.{FormulaPart, and_gate_part}
-use Rattle.ilk_ints.specs.Bits.{bit_count, lowest_bits_of, bits_at, bit_pattern_lits, same_bits}
+use Rattle.ilk_ints.specs.Bits.{bit_count, lowest_bits_of, assigned_bits_from_var, bit_pattern_lits, same_bits}
 
 -- The literals that are all true exactly if the integer below `range`, with its bits from `first`
 -- on, is `v`.
@@ -26,7 +26,7 @@ value_lit_part first range v n = and_gate_part (value_bit_lits first range v) n
 
 -- Returns whether the integer has the value `v` in assignment `a`.
 abbrev pub bits_have_value : List Bool → ℕ → ℕ → ℕ → Bool
-bits_have_value a first range v = same_bits (bits_at a first (bit_count range)) (lowest_bits_of (bit_count range) v)
+bits_have_value a first range v = same_bits (assigned_bits_from_var a first (bit_count range)) (lowest_bits_of (bit_count range) v)
 
 -- Holds if `b` are the bits of some value below `range`.
 abbrev pub AreBitsInRange : ℕ → List Bool → Type 0

@@ -15,14 +15,14 @@ disjoint_or_part s l n = record { vars = n + 1; clauses = disjoint_or_clauses s 
 
 -- The formula part that joins the first two literals into a new one at the end of the list. It
 -- repeats this at most `k` times, until one literal is left, and demands that one.
-abbrev pub join_pairs_until_one : ℕ → List Literal → ℕ → FormulaPart
-join_pairs_until_one (suc k) (s ∷ l ∷ ls) n = and_then (disjoint_or_part s l n) (join_pairs_until_one k (ls ++ positive_lit (n + 1) ∷ []))
-join_pairs_until_one k ls n = record { vars = n; clauses = ls ∷ [] }
+abbrev pub join_pairs_and_demand_last : ℕ → List Literal → ℕ → FormulaPart
+join_pairs_and_demand_last (suc k) (s ∷ l ∷ ls) n = and_then (disjoint_or_part s l n) (join_pairs_and_demand_last k (ls ++ positive_lit (n + 1) ∷ []))
+join_pairs_and_demand_last k ls n = record { vars = n; clauses = ls ∷ [] }
 
 -- The formula part, after the first `n` variables, that says that exactly one of the literals is
 -- true. Without literals it can't be satisfied.
 abbrev pub exactly_one_part : List Literal → ℕ → FormulaPart
-exactly_one_part ls n = join_pairs_until_one (length ls) ls n
+exactly_one_part ls n = join_pairs_and_demand_last (length ls) ls n
 
 -- Returns whether no entry is true.
 abbrev pub none_true : List Bool → Bool
@@ -35,8 +35,8 @@ exactly_one_true [] = false
 exactly_one_true (true ∷ qs) = none_true qs
 exactly_one_true (false ∷ qs) = exactly_one_true qs
 
--- The truth values of the new variables of `join_pairs_until_one`, if the literals have these truth
--- values.
+-- The truth values of the new variables of `join_pairs_and_demand_last`, if the literals have these
+-- truth values.
 abbrev pub join_pairs_bits : ℕ → List Bool → List Bool
 join_pairs_bits (suc k) (p ∷ q ∷ qs) = (p || q) ∷ join_pairs_bits k (qs ++ (p || q) ∷ [])
 join_pairs_bits k qs = []

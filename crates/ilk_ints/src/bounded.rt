@@ -1,10 +1,10 @@
 ghost use Rattle.std.specs.Prelude.{◌≡◌, ◌==◌, ℕ, ◌+◌, ◌-◌, ◌*◌, ◌<◌, ◌≤◌, ◌^◌, ◌∷◌, [], List, Bool, length, map, OnOk, IfOk, IsTrue};
 ghost use Rattle.ilk_cnf.specs.Extends.{PartExtensionsAreExactly, EqualsGivenValues};
-ghost use Rattle.ilk_cnf.specs.Formula.{with_vars_and_clauses, with_var_count, clause_unless_tautology, is_clause_over};
+ghost use Rattle.ilk_cnf.specs.Formula.{with_var_count_and_clauses, with_var_count, clause_unless_tautology, is_clause_over};
 ghost use Rattle.ilk_cnf.specs.Literal.{negated_lit, positive_lit};
 ghost use Rattle.ilk_cnf.specs.Part.{with_part, clauses_from_lists, and_gate_clauses};
 ghost use Rattle.ilk_cnf.specs.Truth.{is_true, satisfies};
-ghost use Rattle.ilk_ints.specs.Bits.{bit_count, lowest_bits_of, bits_at, bit_pattern_lits};
+ghost use Rattle.ilk_ints.specs.Bits.{bit_count, lowest_bits_of, assigned_bits_from_var, bit_pattern_lits};
 ghost use Rattle.ilk_ints.specs.Number.{AreBitsInRange, non_value_clauses, number_part, value_lit_part, value_bit_lits, bits_have_value};
 
 use ilk_cnf::{Assignment, Cnf, Lit, Lits, define_and_gate, negated_lits};
@@ -66,14 +66,14 @@ fn rule_out_value(
     requires within { first + count ≤ cnf.old.vars + 1 }
     ensures { OnOk result
         (cnf.new
-        ≡ with_vars_and_clauses cnf.old cnf.old.vars
+        ≡ with_var_count_and_clauses cnf.old cnf.old.vars
         (clause_unless_tautology
         (map negated_lit (bit_pattern_lits first (lowest_bits_of count value))))) }
 {
     let _ = cnf.vars();
     let lits = lits_of(alloc, first, count, value)?;
     let others = negated_lits(alloc, lits.as_slice())?;
-    cnf.add_clause_from_lits(others.as_slice())?;
+    cnf.add_clause_unless_tautology(others.as_slice())?;
     Ok(())
 }
 
@@ -89,7 +89,7 @@ fn rule_out(
     requires from_1 { 0 < first }
     requires within { first + count ≤ cnf.old.vars + 1 }
     ensures { OnOk result
-        (cnf.new ≡ with_vars_and_clauses cnf.old cnf.old.vars
+        (cnf.new ≡ with_var_count_and_clauses cnf.old cnf.old.vars
         (clauses_from_lists (non_value_clauses first range))) }
 {
     for value in u64::from(range)..1 << count {
@@ -116,7 +116,7 @@ pub fn add_number_clauses(alloc: Global, cnf: &mut Cnf, n: Bounded) -> Result<()
     requires from_1 { 0 < n.first }
     requires within { n.first + bit_count n.range ≤ cnf.old.vars + 1 }
     ensures { OnOk result
-        (cnf.new ≡ with_vars_and_clauses cnf.old cnf.old.vars
+        (cnf.new ≡ with_var_count_and_clauses cnf.old cnf.old.vars
         (clauses_from_lists (non_value_clauses n.first n.range))) }
 {
     rule_out(alloc, cnf, n.first, bit_count(n.range), n.range)?;
@@ -162,7 +162,7 @@ pub fn add_value_lit_clauses(
     requires lit { IsTrue (is_clause_over cnf.old.vars (lit ∷ [])) }
     ensures { OnOk result
         (cnf.new
-        ≡ with_vars_and_clauses cnf.old cnf.old.vars
+        ≡ with_var_count_and_clauses cnf.old cnf.old.vars
         (clauses_from_lists (and_gate_clauses lit (value_bit_lits n.first n.range value)))) }
 {
     let _ = cnf.vars();
@@ -187,7 +187,8 @@ pub fn is(alloc: Global, cnf: &mut Cnf, n: Bounded, value: u8) -> Result<Lit, Al
 
     ensures exact { OnOk result
         ((a : List Bool) (v : ℕ) → v < n.range →
-        bits_at a n.first (bit_count n.range) ≡ lowest_bits_of (bit_count n.range) v →
+        assigned_bits_from_var a n.first (bit_count n.range)
+        ≡ lowest_bits_of (bit_count n.range) v →
         bits_have_value a n.first n.range value ≡ (v == value)) }
 {
     let _ = bit_count(n.range);
@@ -215,7 +216,7 @@ pub fn value_of(n: Bounded, a: &Assignment) -> u8
     requires reached { n.first + bit_count n.range ≤ length a.now + 1 }
     requires satisfied { IsTrue
         (satisfies a.now (clauses_from_lists (non_value_clauses n.first n.range))) }
-    ensures bits { bits_at a.now n.first (bit_count n.range) ≡
+    ensures bits { assigned_bits_from_var a.now n.first (bit_count n.range) ≡
         lowest_bits_of (bit_count n.range) result }
     ensures below { result < n.range }
 {

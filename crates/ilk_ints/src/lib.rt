@@ -32,4 +32,4 @@ pub use bounded::{
 };
 pub use limit::add_bound_lit;
 pub use selection::one_of;
-pub use table::{add_bound_lits, add_value_lits, reserve_value_bound_lits};
+pub use table::{add_bound_lits, add_value_lits, reserve_value_and_bound_vars};

@@ -4,7 +4,7 @@ ghost use Rattle.ilk_cnf.specs.Formula.{is_clause_over, with_var_count};
 ghost use Rattle.ilk_cnf.specs.Part.{with_part};
 ghost use Rattle.ilk_cnf.specs.Truth.{is_true};
 ghost use Rattle.ilk_ints.specs.AtMost.{at_most_part, at_most_lit, at_most_bits, highest_bit_decides};
-ghost use Rattle.ilk_ints.specs.Bits.{bit_count, lowest_bits_of, bits_at};
+ghost use Rattle.ilk_ints.specs.Bits.{bit_count, lowest_bits_of, assigned_bits_from_var};
 
 use crate::bounded::{Bounded, bit_count};
 use ilk_cnf::{Cnf, Lit, define_and_gate};
@@ -51,13 +51,15 @@ pub fn add_bound_lit(
     // If the integer is v, and `below` and `equal` have their meaning.
     ensures law { OnOk result
         ((a : List Bool) (v : ℕ) → length a ≡ used.old → v < n.range →
-        bits_at a n.first (bit_count n.range) ≡ lowest_bits_of (bit_count n.range) v →
+        assigned_bits_from_var a n.first (bit_count n.range)
+        ≡ lowest_bits_of (bit_count n.range) v →
         is_true a below ≡ nat_lt v k → is_true a equal ≡ (v == k) →
         PartExtensionsAreExactly a (at_most_part n.range k below equal used.old)
         (EqualsGivenValues (at_most_bits n.range k v))) }
     ensures exact { OnOk result
         ((a : List Bool) (v : ℕ) → length a ≡ used.old → v < n.range →
-        bits_at a n.first (bit_count n.range) ≡ lowest_bits_of (bit_count n.range) v →
+        assigned_bits_from_var a n.first (bit_count n.range)
+        ≡ lowest_bits_of (bit_count n.range) v →
         is_true (a ++ at_most_bits n.range k v) (at_most_lit n.first n.range k used.old)
         ≡ nat_le v k) }
 {

@@ -1,6 +1,6 @@
 ghost use Rattle.std.specs.Prelude.{◌≡◌, ◌+◌, ◌*◌, ◌≤◌, ◌∷◌, ◌++◌, [], List, Bool, length, map, OnOk, IsTrue};
 ghost use Rattle.ilk_cnf.specs.Extends.{PartExtensionsAreExactly, PassesAndEqualsGivenValues};
-ghost use Rattle.ilk_cnf.specs.Formula.{is_clause_over, with_vars_and_clauses};
+ghost use Rattle.ilk_cnf.specs.Formula.{is_clause_over, with_var_count_and_clauses};
 ghost use Rattle.ilk_cnf.specs.Literal.{positive_lit};
 ghost use Rattle.ilk_cnf.specs.Part.{with_part, clauses_from_lists};
 ghost use Rattle.ilk_cnf.specs.Truth.{is_true};
@@ -13,13 +13,13 @@ use std::alloc::{AllocError, Global};
 fn add_either(cnf: &mut Cnf, s: Lit, l: Lit, joined: Lit) -> Result<(), AllocError>
     requires { IsTrue (is_clause_over cnf.old.vars (s ∷ l ∷ joined ∷ [])) }
     ensures { OnOk result
-        (cnf.new ≡ with_vars_and_clauses cnf.old cnf.old.vars
+        (cnf.new ≡ with_var_count_and_clauses cnf.old cnf.old.vars
         (clauses_from_lists (disjoint_or_clauses s l joined))) }
 {
-    cnf.add_clause_from_lits(&[l.negated(), joined])?;
-    cnf.add_clause_from_lits(&[s.negated(), joined])?;
-    cnf.add_clause_from_lits(&[joined.negated(), s, l])?;
-    cnf.add_clause_from_lits(&[s.negated(), l.negated()])?;
+    cnf.add_clause_unless_tautology(&[l.negated(), joined])?;
+    cnf.add_clause_unless_tautology(&[s.negated(), joined])?;
+    cnf.add_clause_unless_tautology(&[joined.negated(), s, l])?;
+    cnf.add_clause_unless_tautology(&[s.negated(), l.negated()])?;
     Ok(())
 }
 
@@ -49,7 +49,7 @@ fn join_all(cnf: &mut Cnf, queue: Vec<Lit>) -> Result<(), AllocError>
         join(cnf, &mut queue, s, l)?;
         first += 2;
     }
-    cnf.add_clause_from_lits(&queue[first..])?;
+    cnf.add_clause_unless_tautology(&queue[first..])?;
     Ok(())
 }
 

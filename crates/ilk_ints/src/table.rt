@@ -4,9 +4,9 @@ ghost use Rattle.ilk_cnf.specs.Formula.{is_clause_over, with_var_count};
 ghost use Rattle.ilk_cnf.specs.Literal.{positive_lit};
 ghost use Rattle.ilk_cnf.specs.Part.{with_part};
 ghost use Rattle.ilk_cnf.specs.Truth.{is_true};
-ghost use Rattle.ilk_ints.specs.Bits.{bit_count, bits_at, lowest_bits_of};
+ghost use Rattle.ilk_ints.specs.Bits.{bit_count, assigned_bits_from_var, lowest_bits_of};
 ghost use Rattle.ilk_ints.specs.Number.{value_lit_part};
-ghost use Rattle.ilk_ints.specs.Named.{value_lits_from, value_lits_part, one_hot_bits, one_hot_var_bits, value_var_count, bound_var_count, value_bound_var_count, bound_count, bound_lits_from, bound_lits_part, bound_bits, bound_vars_bits};
+ghost use Rattle.ilk_ints.specs.Named.{value_lits_part_from, value_lits_part, one_hot_bits, one_hot_var_bits, value_var_count, bound_var_count, value_bound_var_count, bound_count, bound_lits_part_from, bound_lits_part, bound_bits, bound_vars_bits};
 
 use crate::bounded::{
     Bounded, add_value_lit_clauses, add_vars_to_cnf, bit_count, one_bit_value_lit,
@@ -44,12 +44,12 @@ fn add_values(alloc: Global, cnf: &mut Cnf, used: &mut u64, n: Bounded) -> Resul
     requires within { n.first + bit_count n.range ≤ used.old + 1 }
     requires there { used.old + n.range ≤ cnf.old.vars }
     ensures lits { IfOk result
-        (λ lits. lits ≡ (value_lits_from n.first n.range 0 n.range used.old).lits) }
+        (λ lits. lits ≡ (value_lits_part_from n.first n.range 0 n.range used.old).lits) }
     ensures vars { OnOk result (cnf.new.vars ≡ cnf.old.vars) }
     ensures made { OnOk result
         (with_var_count cnf.new used.new
         ≡ with_part (with_var_count cnf.old used.old)
-        (value_lits_from n.first n.range 0 n.range used.old).part) }
+        (value_lits_part_from n.first n.range 0 n.range used.old).part) }
 {
     let mut lits = Lits::new(alloc);
     for value in 0..n.range {
@@ -81,12 +81,14 @@ pub fn add_value_lits(
     // If the integer is w, the new variables have exactly one assignment, and the literals say w.
     ensures law { OnOk result
         ((a : List Bool) (w : ℕ) → length a ≡ used.old → w < n.range →
-        bits_at a n.first (bit_count n.range) ≡ lowest_bits_of (bit_count n.range) w →
+        assigned_bits_from_var a n.first (bit_count n.range)
+        ≡ lowest_bits_of (bit_count n.range) w →
         PartExtensionsAreExactly a (value_lits_part n.first n.range used.old).part
         (EqualsGivenValues (one_hot_var_bits n.range w))) }
     ensures exact { OnOk result
         ((a c : List Bool) (w : ℕ) → length a ≡ used.old → w < n.range →
-        bits_at a n.first (bit_count n.range) ≡ lowest_bits_of (bit_count n.range) w →
+        assigned_bits_from_var a n.first (bit_count n.range)
+        ≡ lowest_bits_of (bit_count n.range) w →
         map (is_true (a ++ (one_hot_var_bits n.range w ++ c)))
         (value_lits_part n.first n.range used.old).lits
         ≡ one_hot_bits w 0 n.range) }
@@ -143,7 +145,7 @@ fn bounds_vars(range: u8) -> u64
 
 /// Adds the variables for the literals of an integer's values and bounds to `cnf`, and no clause.
 /// The integer is from 0 to `range` - 1. On error, `cnf` may have grown.
-pub fn reserve_value_bound_lits(cnf: &mut Cnf, range: u8) -> Result<(), AllocError>
+pub fn reserve_value_and_bound_vars(cnf: &mut Cnf, range: u8) -> Result<(), AllocError>
     ensures { OnOk result
         (cnf.new ≡ with_var_count cnf.old (cnf.old.vars + value_bound_var_count range)) }
 {
@@ -165,15 +167,15 @@ fn add_bounds(
     requires from_1 { 0 < n.first }
     requires within { n.first + bit_count n.range ≤ used.old + 1 }
     requires lits { IsTrue (is_clause_over used.old (below ∷ equals.now)) }
-    requires there { (bound_lits_from n.first n.range below 1 equals.now used.old).part.vars
+    requires there { (bound_lits_part_from n.first n.range below 1 equals.now used.old).part.vars
         ≤ cnf.old.vars }
     ensures lits { IfOk result
-        (λ lits. lits ≡ (bound_lits_from n.first n.range below 1 equals.now used.old).lits) }
+        (λ lits. lits ≡ (bound_lits_part_from n.first n.range below 1 equals.now used.old).lits) }
     ensures vars { OnOk result (cnf.new.vars ≡ cnf.old.vars) }
     ensures made { OnOk result
         (with_var_count cnf.new used.new
         ≡ with_part (with_var_count cnf.old used.old)
-        (bound_lits_from n.first n.range below 1 equals.now used.old).part) }
+        (bound_lits_part_from n.first n.range below 1 equals.now used.old).part) }
 {
     let _ = bit_count(n.range);
     let mut lits = Lits::new(alloc);
@@ -245,13 +247,15 @@ pub fn add_bound_lits(
     // If the integer is w, and the literals of its values say so.
     ensures law { OnOk result
         ((a : List Bool) (w : ℕ) → length a ≡ used.old → w < n.range →
-        bits_at a n.first (bit_count n.range) ≡ lowest_bits_of (bit_count n.range) w →
+        assigned_bits_from_var a n.first (bit_count n.range)
+        ≡ lowest_bits_of (bit_count n.range) w →
         map (is_true a) values.now ≡ one_hot_bits w 0 n.range →
         PartExtensionsAreExactly a (bound_lits_part n.first n.range values.now used.old).part
         (EqualsGivenValues (bound_vars_bits n.range w 1 (bound_count n.range)))) }
     ensures exact { OnOk result
         ((a c : List Bool) (w : ℕ) → length a ≡ used.old → w < n.range →
-        bits_at a n.first (bit_count n.range) ≡ lowest_bits_of (bit_count n.range) w →
+        assigned_bits_from_var a n.first (bit_count n.range)
+        ≡ lowest_bits_of (bit_count n.range) w →
         map (is_true a) values.now ≡ one_hot_bits w 0 n.range →
         map (is_true (a ++ (bound_vars_bits n.range w 1 (bound_count n.range) ++ c)))
         (bound_lits_part n.first n.range values.now used.old).lits

@@ -23,7 +23,7 @@ use Rattle.ilk_model.specs.Holding.{holds_section, is_holding_state, is_unreleas
 use Rattle.ilk_layout.specs.Image.{image_of}
 use Rattle.ilk_layout.specs.Conditions.{is_released_count, is_seen_count}
 use Rattle.ilk_layout.proofs.ConditionValues.{mode-holds, rel-holds, seen-holds}
-use Rattle.ilk_invs.specs.Held.{section_held_by, route_holds_sections, section_unreleased_on_path, route_locked_or_occupied, rel_below, seen_below}
+use Rattle.ilk_invs.specs.Held.{section_held_by, route_holds_sections, section_on_unreleased_path, route_locked_or_occupied, rel_below, seen_below}
 use Rattle.ilk_invs.proofs.PartLaws.{any-if, some_of-holds}
 use Rattle.ilk_invs.proofs.Tests.{counted-below, found-at, list_any-flat_map}
 
@@ -94,9 +94,9 @@ module _ (p : PlantLists) (s : State) (shape : HasShape p s) where
       neither Locked = refl
       neither Occupied = refl
 
-  pub section_unreleased_on_path-holds : (r : ℕ) (route : Route) (now : RouteState) (x : ℕ) → slice_get p.routes r ≡ Some route → slice_get s.routes r ≡ Some now → tree_holds (image_of p s) (section_unreleased_on_path r route x) ≡
+  pub section_on_unreleased_path-holds : (r : ℕ) (route : Route) (now : RouteState) (x : ℕ) → slice_get p.routes r ≡ Some route → slice_get s.routes r ≡ Some now → tree_holds (image_of p s) (section_on_unreleased_path r route x) ≡
       is_unreleased_on_path route now x
-  section_unreleased_on_path-holds r route now x known at =
+  section_on_unreleased_path-holds r route now x known at =
       let few : now.rel ≤ length route.path = (seen_and_released_fit_path-counts route now (shape.counts r route now known at)).1 in
       let counts = range_with_len 0 (length route.path + 1) in
       some_of-holds (image_of p s) (flat_map (λ c. if rest c then is_released_count r c ∷ [] else []) counts)
@@ -117,5 +117,5 @@ module _ (p : PlantLists) (s : State) (shape : HasShape p s) where
       by_test true e = rw e (route_holds_sections-holds r now at ∙ sym (and-true (is_holding_state now)))
       by_test false e =
           let one = route_holds_sections-holds r now at in
-          let two = section_unreleased_on_path-holds r route now x known at in
-          rw e (ap (λ b. b && (tree_holds (image_of p s) (section_unreleased_on_path r route x) && true)) one ∙ ap (λ b. is_holding_state now && b) (and-true (tree_holds (image_of p s) (section_unreleased_on_path r route x)) ∙ two))
+          let two = section_on_unreleased_path-holds r route now x known at in
+          rw e (ap (λ b. b && (tree_holds (image_of p s) (section_on_unreleased_path r route x) && true)) one ∙ ap (λ b. is_holding_state now && b) (and-true (tree_holds (image_of p s) (section_on_unreleased_path r route x)) ∙ two))

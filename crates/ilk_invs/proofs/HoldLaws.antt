@@ -6,7 +6,7 @@ use Rattle.std.proofs.lemmas.Bool.{and_from, and_parts, cases_eq, eq-eqb, eqb-tr
 use Rattle.std.proofs.lemmas.List.Folds.{list_all-append, list_all-map}
 use Rattle.std.proofs.lemmas.Option.{same_Some}
 use Rattle.ilk_base.proofs.Truth.{same_truth, if-passes, passes-if}
-use Rattle.ilk_base.specs.Each.{all_below}
+use Rattle.ilk_base.specs.Each.{is_true_for_all_below}
 use Rattle.ilk_base.proofs.Lists.{item_at, take-at, taken-before}
 use Rattle.ilk_base.proofs.ListTests.{list_all-flat_map}
 use Rattle.ilk_base.proofs.Ranges.{below_or_past, range-at, range_within}
@@ -21,19 +21,19 @@ use Rattle.ilk_plant.specs.declared.state.RouteState.{RouteState}
 use Rattle.ilk_plant.specs.declared.state.State.{State}
 use Rattle.ilk_plant.specs.declared.table.Route.{Route}
 use Rattle.ilk_routes.specs.Claims.{sections_outside_path}
-use Rattle.ilk_model.specs.Families.{keeps_v2_sections_held_once}
+use Rattle.ilk_model.specs.Families.{meets_v2_sections_held_once}
 use Rattle.ilk_model.specs.Holding.{holds_section, is_holding_state, is_unreleased_on_path, route_holds}
 use Rattle.ilk_model.proofs.Kept.{kept-on_path}
 use Rattle.ilk_layout.specs.Image.{image_of}
 use Rattle.ilk_invs.specs.declared.hold_family.TheConstants.{MAX_ORDERED_HOLDERS}
-use Rattle.ilk_invs.specs.HoldFamilies.{at_most_one_by_halves, at_most_one_in_order, at_most_one_holder, possible_holders, may_hold, none_before_if_holding, none_holding, not_held_by_both_groups, v2_sections_held_once_tree}
+use Rattle.ilk_invs.specs.HoldFamilies.{at_most_one_by_halves, at_most_one_in_order, at_most_one_holder, possible_holders, is_possible_holder, none_before_if_holding, none_holding, not_held_by_both_groups, v2_sections_held_once_tree}
 use Rattle.ilk_invs.proofs.PartLaws.{each_of-holds, state_of_route}
 use Rattle.ilk_invs.proofs.Sections.{sections_of_route}
 use Rattle.ilk_invs.proofs.Tests.{dropped-at}
 use Rattle.ilk_invs.proofs.HoldingLaws.{at-dropped, before-first, dropped-known, filter-place, holder-known, none_before_if_holding-holds, none_holding-holds, not-both, not-true-false, not-where-never, passing-once, taken-known}
 
 module _ (p : PlantLists) (plant : IsPlant p) (s : State) (shape : HasShape p s) where
-  may-hold : (x r : ℕ) → r < length p.routes → route_holds p s r x ≡ true → may_hold p x r ≡ true
+  may-hold : (x r : ℕ) → r < length p.routes → route_holds p s r x ≡ true → is_possible_holder p x r ≡ true
   may-hold x r within h =
       let route = item_at p.routes r within in
       let now = state_of_route p s shape r route.0 route.1 in
@@ -223,26 +223,26 @@ module _ (p : PlantLists) (plant : IsPlant p) (s : State) (shape : HasShape p s)
           ∙ and_from (list_all (tree_holds (image_of p s)) (at_most_one_by_halves n p x (take (length routes / 2) routes))) (list_all (tree_holds (image_of p s)) (at_most_one_by_halves n p x (drop (length routes / 2) routes))) here there)
 
   apart_test : ℕ → ℕ → Bool
-  apart_test r q = r == q || all_below (length p.sections) (λ x. not (route_holds p s r x && route_holds p s q x))
+  apart_test r q = r == q || is_true_for_all_below (length p.sections) (λ x. not (route_holds p s r x && route_holds p s q x))
 
-  pub v2-law : tree_holds (image_of p s) (v2_sections_held_once_tree p) ≡ keeps_v2_sections_held_once p s
+  pub v2-law : tree_holds (image_of p s) (v2_sections_held_once_tree p) ≡ meets_v2_sections_held_once p s
   unfolding apart_test
   v2-law =
       each_of-holds (image_of p s) (flat_map (at_most_one_holder p) (range_with_len 0 (length p.sections)))
       ∙ list_all-flat_map (tree_holds (image_of p s)) (at_most_one_holder p) (range_with_len 0 (length p.sections))
-      ∙ same_truth (list_all (λ x. list_all (tree_holds (image_of p s)) (at_most_one_holder p x)) (range_with_len 0 (length p.sections))) (keeps_v2_sections_held_once p s) forth back
+      ∙ same_truth (list_all (λ x. list_all (tree_holds (image_of p s)) (at_most_one_holder p x)) (range_with_len 0 (length p.sections))) (meets_v2_sections_held_once p s) forth back
     where
-      forth : list_all (λ x. list_all (tree_holds (image_of p s)) (at_most_one_holder p x)) (range_with_len 0 (length p.sections)) ≡ true → keeps_v2_sections_held_once p s ≡ true
+      forth : list_all (λ x. list_all (tree_holds (image_of p s)) (at_most_one_holder p x)) (range_with_len 0 (length p.sections)) ≡ true → meets_v2_sections_held_once p s ≡ true
       forth h =
-          all-pass (λ r. all_below (length p.routes) (apart_test r)) (range_with_len 0 (length p.routes)) (λ i r first.
+          all-pass (λ r. is_true_for_all_below (length p.routes) (apart_test r)) (range_with_len 0 (length p.routes)) (λ i r first.
           all-pass (apart_test r) (range_with_len 0 (length p.routes)) (λ k q second.
           of_two r q (range_within (length p.routes) i r first).1 (range_within (length p.routes) k q second).1))
         where
           never : (x r q : ℕ) → (r ≡ q → ⊥) → x < length p.sections → r < length p.routes → q < length p.routes → route_holds p s r x ≡ true → route_holds p s q x ≡ true → ⊥
           never x r q apart inside one_known two_known one two =
               let all = list_all-slice_get (λ x. list_all (tree_holds (image_of p s)) (at_most_one_holder p x)) (range_with_len 0 (length p.sections)) x x h (range-at (length p.sections) x inside) in
-              let first = filter-place (may_hold p x) (range_with_len 0 (length p.routes)) r r (range-at (length p.routes) r one_known) (may-hold x r one_known one) in
-              let second = filter-place (may_hold p x) (range_with_len 0 (length p.routes)) q q (range-at (length p.routes) q two_known) (may-hold x q two_known two) in
+              let first = filter-place (is_possible_holder p x) (range_with_len 0 (length p.routes)) r r (range-at (length p.routes) r one_known) (may-hold x r one_known one) in
+              let second = filter-place (is_possible_holder p x) (range_with_len 0 (length p.routes)) q q (range-at (length p.routes) q two_known) (may-hold x q two_known two) in
               elim (below_or_past first.0 second.0) [
                 | inl less ↦ no-two (length (possible_holders p x)) x (possible_holders p x) (holder-known p plant s shape x) all first.0 second.0 r q less first.1 second.1 one two
                 | inr past ↦
@@ -260,14 +260,14 @@ module _ (p : PlantLists) (plant : IsPlant p) (s : State) (shape : HasShape p s)
           of_two : (r q : ℕ) → r < length p.routes → q < length p.routes → apart_test r q ≡ true
           of_two r q one_known two_known =
               elim (cases_eq r q) [
-                | inl same ↦ or_left (r == q) (all_below (length p.sections) (λ x. not (route_holds p s r x && route_holds p s q x))) (eq-eqb r q same)
+                | inl same ↦ or_left (r == q) (is_true_for_all_below (length p.sections) (λ x. not (route_holds p s r x && route_holds p s q x))) (eq-eqb r q same)
                 | inr apart ↦
-                    or_right (r == q) (all_below (length p.sections) (λ x. not (route_holds p s r x && route_holds p s q x)))
+                    or_right (r == q) (is_true_for_all_below (length p.sections) (λ x. not (route_holds p s r x && route_holds p s q x)))
                     (all-pass (λ x. not (route_holds p s r x && route_holds p s q x)) (range_with_len 0 (length p.sections)) (λ i x found.
                     both x r q apart (range_within (length p.sections) i x found).1 one_known two_known (route_holds p s r x) (route_holds p s q x) refl refl))
               ]
 
-      back : keeps_v2_sections_held_once p s ≡ true → list_all (λ x. list_all (tree_holds (image_of p s)) (at_most_one_holder p x)) (range_with_len 0 (length p.sections)) ≡ true
+      back : meets_v2_sections_held_once p s ≡ true → list_all (λ x. list_all (tree_holds (image_of p s)) (at_most_one_holder p x)) (range_with_len 0 (length p.sections)) ≡ true
       back h =
           all-pass (λ x. list_all (tree_holds (image_of p s)) (at_most_one_holder p x)) (range_with_len 0 (length p.sections)) (λ i x found.
           by-halves (length (possible_holders p x)) x (possible_holders p x) (holder-known p plant s shape x) (λ j k r q less at also one two.
@@ -277,10 +277,10 @@ module _ (p : PlantLists) (plant : IsPlant p) (s : State) (shape : HasShape p s)
           never x j k r q inside less at also one two =
               let r_known = holder-known p plant s shape x j r at in
               let q_known = holder-known p plant s shape x k q also in
-              let apart : r ≡ q → ⊥ = (λ same. let places : j ≡ k = passing-once (may_hold p x) 0 (length p.routes) j k q (at ∙ ap Some same) also in omega (arith, less, places)) in
-              let row = list_all-slice_get (λ r. all_below (length p.routes) (apart_test r)) (range_with_len 0 (length p.routes)) r r h (range-at (length p.routes) r r_known) in
+              let apart : r ≡ q → ⊥ = (λ same. let places : j ≡ k = passing-once (is_possible_holder p x) 0 (length p.routes) j k q (at ∙ ap Some same) also in omega (arith, less, places)) in
+              let row = list_all-slice_get (λ r. is_true_for_all_below (length p.routes) (apart_test r)) (range_with_len 0 (length p.routes)) r r h (range-at (length p.routes) r r_known) in
               let pair = list_all-slice_get (apart_test r) (range_with_len 0 (length p.routes)) q q row (range-at (length p.routes) q q_known) in
-              elim (or_cases (r == q) (all_below (length p.sections) (λ x. not (route_holds p s r x && route_holds p s q x))) pair) [
+              elim (or_cases (r == q) (is_true_for_all_below (length p.sections) (λ x. not (route_holds p s r x && route_holds p s q x))) pair) [
                 | inl same ↦ apart (eqb-true r q same)
                 | inr each ↦
                     not-true-false (route_holds p s q x)

@@ -20,13 +20,13 @@ use Rattle.ilk_plant.specs.declared.state.RouteState.{RouteState}
 use Rattle.ilk_plant.specs.declared.state.State.{State}
 use Rattle.ilk_plant.specs.declared.table.Route.{Route}
 use Rattle.ilk_routes.specs.Claims.{sections_outside_path}
-use Rattle.ilk_model.specs.Families.{has_required_locks, keeps_v3_locks_match_routes, path_section_lock}
+use Rattle.ilk_model.specs.Families.{has_required_locks, meets_v3_locks_match_routes, path_section_lock}
 use Rattle.ilk_model.specs.Holding.{all_path_indices_pass_test, is_holding_state, route_holds}
 use Rattle.ilk_layout.specs.Image.{image_of}
 use Rattle.ilk_layout.specs.Conditions.{lock_is}
 use Rattle.ilk_layout.proofs.ConditionValues.{lock-holds}
 use Rattle.ilk_invs.specs.Held.{section_held_by, route_holds_sections, rel_below, seen_below}
-use Rattle.ilk_invs.specs.HoldFamilies.{possible_holders, path_lock_matches_seen, held_sections_have_locks, may_hold, none_before_if_holding, none_holding, route_holding, v3_locks_match_routes_tree}
+use Rattle.ilk_invs.specs.HoldFamilies.{possible_holders, path_lock_matches_seen, held_sections_have_locks, is_possible_holder, none_before_if_holding, none_holding, route_holding, v3_locks_match_routes_tree}
 use Rattle.ilk_invs.specs.Parts.{each_of, conditions_of_each_path_index, conditions_of_each_route}
 use Rattle.ilk_invs.proofs.HeldLaws.{below-next, section_held_by-holds, route_holds_sections-holds, rel_below-holds, seen_below-holds}
 use Rattle.ilk_invs.proofs.PartLaws.{each-place, each-route, each_of-holds, state_of_route, where-holds}
@@ -160,7 +160,7 @@ module _ (p : PlantLists) (plant : IsPlant p) (s : State) (shape : HasShape p s)
       ∙ ap (λ v. v && list_all (tree_holds (image_of p s)) (map (λ x. lock_is p x LockedLock) (sections_outside_path route))) places
       ∙ ap (λ v. all_path_indices_pass_test route (λ i x. not (nat_le now.rel i) || has_lock_state s x (path_section_lock now i)) && v) beside)
 
-  pub v3-law : tree_holds (image_of p s) (v3_locks_match_routes_tree p) ≡ keeps_v3_locks_match_routes p s
+  pub v3-law : tree_holds (image_of p s) (v3_locks_match_routes_tree p) ≡ meets_v3_locks_match_routes p s
   v3-law =
       each_of-holds (image_of p s) (conditions_of_each_route p (λ r route. held_sections_have_locks p r route ∷ []))
       ∙ each-route p s shape (image_of p s) (λ r route. held_sections_have_locks p r route ∷ []) (λ route now. if is_holding_state now then has_required_locks s route now else true) held_sections_have_locks-holds
@@ -192,7 +192,7 @@ module _ (p : PlantLists) (plant : IsPlant p) (s : State) (shape : HasShape p s)
       where-holds (image_of p s) (each_of (route_holding p x r)) (none_holding p x before) (route_holds p s r x) (list_all (λ q. not (route_holds p s q x)) before) (route_holding-holds x r within) (none_holding-holds x before known)
 
   pub holder-known : (x i r : ℕ) → slice_get (possible_holders p x) i ≡ Some r → r < length p.routes
-  holder-known x i r at = let less = passing_within (may_hold p x) 0 (length p.routes) i r at in omega (arith, less)
+  holder-known x i r at = let less = passing_within (is_possible_holder p x) 0 (length p.routes) i r at in omega (arith, less)
 
   pub taken-known : (routes : List ℕ) (n : ℕ) → ((i q : ℕ) → slice_get routes i ≡ Some q → q < length p.routes) → (i q : ℕ) → slice_get (take n routes) i ≡ Some q → q < length p.routes
   taken-known routes n known i q at = known i q (taken-before n routes i q at).1

@@ -30,7 +30,7 @@ use Rattle.ilk_layout.specs.Conditions.{is_board_aspect, mode_is, no_train_at}
 use Rattle.ilk_layout.proofs.ConditionValues.{board-holds, mode-holds, occupancy-holds}
 use Rattle.ilk_invs.specs.Held.{seen_below}
 use Rattle.ilk_invs.specs.Parts.{each_of, conditions_of_each_path_index, conditions_of_each_route, some_of}
-use Rattle.ilk_invs.specs.TrainFamilies.{body_at, head_at, route_set_for_head_at, route_set_and_clear_past, none_seen_past}
+use Rattle.ilk_invs.specs.TrainFamilies.{body_at, head_at, route_set_for_head_at, route_set_and_clear_past, no_section_seen_past}
 use Rattle.ilk_invs.proofs.HeldLaws.{below-next, seen_below-holds}
 use Rattle.ilk_invs.proofs.PartLaws.{any-if, each_of-holds, some-place, some-route, vacant-all}
 use Rattle.ilk_invs.proofs.Tests.{dropped-at, list_any-never}
@@ -60,8 +60,8 @@ module _ (p : PlantLists) (plant : IsPlant p) (s : State) (shape : HasShape p s)
       let crash = occupancy-holds p s shape x Crash within in
       rw (vacant, one, two, three, four, crash) (down-values (occupancy_or_crash p s x))
 
-  none_seen_past-holds : (r : ℕ) (route : Route) (now : RouteState) (i : ℕ) → slice_get p.routes r ≡ Some route → slice_get s.routes r ≡ Some now → list_all (tree_holds (image_of p s)) (none_seen_past r route i) ≡ nat_le now.seen (i + 1)
-  none_seen_past-holds r route now i known at = elim (cases_lt (i + 1) (length route.path)) [
+  no_section_seen_past-holds : (r : ℕ) (route : Route) (now : RouteState) (i : ℕ) → slice_get p.routes r ≡ Some route → slice_get s.routes r ≡ Some now → list_all (tree_holds (image_of p s)) (no_section_seen_past r route i) ≡ nat_le now.seen (i + 1)
+  no_section_seen_past-holds r route now i known at = elim (cases_lt (i + 1) (length route.path)) [
     | inl before ↦
         (let goes_on : nat_lt (i + 1) (length route.path) ≡ true = grind (arith, nat_tests) in
         let two : i + 2 ≡ i + 1 + 1 = omega arith in
@@ -85,20 +85,20 @@ module _ (p : PlantLists) (plant : IsPlant p) (s : State) (shape : HasShape p s)
       let occupied = mode-holds p s shape r now Occupied at in
       let locked = mode-holds p s shape r now Locked at in
       let closed = board-holds p s shape route.source Closed of.source in
-      let seen = none_seen_past-holds r route now i known at in
+      let seen = no_section_seen_past-holds r route now i known at in
       let vacant = vacant-all p s shape calm (drop (i + 1) route.path) (λ k x found. all-at (λ x. x < length p.sections) route.path ((i + 1) + k) x of.path (dropped-at (i + 1) route.path k x found)) in
-      each_of-holds (image_of p s) (some_of (mode_is r Occupied ∷ each_of (mode_is r Locked ∷ is_board_aspect p route.source Closed ∷ []) ∷ []) ∷ (none_seen_past r route i ++ map (no_train_at p) (drop (i + 1) route.path)))
+      each_of-holds (image_of p s) (some_of (mode_is r Occupied ∷ each_of (mode_is r Locked ∷ is_board_aspect p route.source Closed ∷ []) ∷ []) ∷ (no_section_seen_past r route i ++ map (no_train_at p) (drop (i + 1) route.path)))
       ∙ ap
       (λ v.
       tree_holds (image_of p s)
       (some_of
       (mode_is r Occupied
       ∷ each_of (mode_is r Locked ∷ is_board_aspect p route.source Closed ∷ []) ∷ [])) && v)
-      (list_all-append (tree_holds (image_of p s)) (none_seen_past r route i)
+      (list_all-append (tree_holds (image_of p s)) (no_section_seen_past r route i)
       (map (no_train_at p) (drop (i + 1) route.path)))
       ∙ joined (tree_holds (image_of p s) (mode_is r Occupied)) (tree_holds (image_of p s) (mode_is r Locked))
       (tree_holds (image_of p s) (is_board_aspect p route.source Closed))
-      (list_all (tree_holds (image_of p s)) (none_seen_past r route i))
+      (list_all (tree_holds (image_of p s)) (no_section_seen_past r route i))
       (list_all (tree_holds (image_of p s)) (map (no_train_at p) (drop (i + 1) route.path))) _ _ _ _ _
       occupied locked closed seen vacant
     where

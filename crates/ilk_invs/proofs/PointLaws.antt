@@ -14,20 +14,20 @@ use Rattle.ilk_plant.specs.declared.state.RouteState.{RouteState}
 use Rattle.ilk_plant.specs.declared.state.State.{State}
 use Rattle.ilk_plant.specs.declared.table.Listed.{Listed}
 use Rattle.ilk_plant.specs.declared.table.Route.{Route}
-use Rattle.ilk_routes.specs.Lies.{is_detected_as_listed}
+use Rattle.ilk_routes.specs.Lies.{is_point_detected_as_listed}
 use Rattle.ilk_routes.specs.Modes.{same_mode}
-use Rattle.ilk_model.specs.Commanded.{is_commanded_as_listed}
-use Rattle.ilk_model.specs.Families.{is_commanded_if_allocating, keeps_v6_route_points_set, is_set_if_locked_or_occupied}
+use Rattle.ilk_model.specs.Commanded.{is_point_commanded_as_listed}
+use Rattle.ilk_model.specs.Families.{is_point_commanded_if_allocating, meets_v6_points_match_modes, is_point_set_if_locked_or_occupied}
 use Rattle.ilk_model.specs.Holding.{is_unreleased_on_path, is_locked_or_occupied}
 use Rattle.ilk_model.proofs.Kept.{kept-on_path}
 use Rattle.ilk_layout.specs.Image.{image_of}
 use Rattle.ilk_layout.specs.Conditions.{is_listed_point_commanded, is_listed_point_detected, mode_is}
 use Rattle.ilk_layout.proofs.Listed.{is_listed_point_commanded-holds, is_listed_point_detected-holds}
 use Rattle.ilk_layout.proofs.ConditionValues.{mode-holds}
-use Rattle.ilk_invs.specs.Held.{section_unreleased_on_path, route_locked_or_occupied}
+use Rattle.ilk_invs.specs.Held.{section_on_unreleased_path, route_locked_or_occupied}
 use Rattle.ilk_invs.specs.Parts.{conditions_of_each_route}
-use Rattle.ilk_invs.specs.PointFamily.{listed_points_on_path, point_matches_route_mode, v6_route_points_set_tree}
-use Rattle.ilk_invs.proofs.HeldLaws.{section_unreleased_on_path-holds, route_locked_or_occupied-holds}
+use Rattle.ilk_invs.specs.PointFamily.{listed_points_on_path, point_matches_route_mode, v6_points_match_modes_tree}
+use Rattle.ilk_invs.proofs.HeldLaws.{section_on_unreleased_path-holds, route_locked_or_occupied-holds}
 use Rattle.ilk_invs.proofs.PartLaws.{each-route, each_of-holds}
 use Rattle.ilk_invs.proofs.Tests.{list_all-filter}
 
@@ -39,19 +39,19 @@ module _ (p : PlantLists) (s : State) (shape : HasShape p s) where
       slice_get p.routes r ≡ Some route → slice_get s.routes r ≡ Some now →
       tree_holds (image_of p s) (point_matches_route_mode p r route listed)
       ≡
-      ((not (same_mode now.mode Allocating) || is_commanded_as_listed p s listed)
+      ((not (same_mode now.mode Allocating) || is_point_commanded_as_listed p s listed)
       &&
       (not (is_locked_or_occupied now && is_unreleased_on_path route now listed.point)
-      || (is_commanded_as_listed p s listed && is_detected_as_listed p s listed)))
+      || (is_point_commanded_as_listed p s listed && is_point_detected_as_listed p s listed)))
   point_matches_route_mode-holds r route now listed known at =
       let mode = mode-holds p s shape r now Allocating at in
       let either_mode = route_locked_or_occupied-holds p s shape r now at in
-      let kept = section_unreleased_on_path-holds p s shape r route now listed.point known at in
+      let kept = section_on_unreleased_path-holds p s shape r route now listed.point known at in
       let commanded = is_listed_point_commanded-holds p s shape listed in
       let lies = is_listed_point_detected-holds p s shape listed in
       simplified (tree_holds (image_of p s) (mode_is r Allocating))
       (tree_holds (image_of p s) (route_locked_or_occupied r))
-      (tree_holds (image_of p s) (section_unreleased_on_path r route listed.point))
+      (tree_holds (image_of p s) (section_on_unreleased_path r route listed.point))
       (tree_holds (image_of p s) (is_listed_point_commanded p listed))
       (tree_holds (image_of p s) (is_listed_point_detected p listed))
       ∙ ap
@@ -59,7 +59,7 @@ module _ (p : PlantLists) (s : State) (shape : HasShape p s) where
       &&
       (not
       (tree_holds (image_of p s) (route_locked_or_occupied r)
-      && tree_holds (image_of p s) (section_unreleased_on_path r route listed.point))
+      && tree_holds (image_of p s) (section_on_unreleased_path r route listed.point))
       ||
       (tree_holds (image_of p s) (is_listed_point_commanded p listed)
       && tree_holds (image_of p s) (is_listed_point_detected p listed)))) mode
@@ -68,7 +68,7 @@ module _ (p : PlantLists) (s : State) (shape : HasShape p s) where
       (not (same_mode now.mode Allocating)
       || tree_holds (image_of p s) (is_listed_point_commanded p listed))
       &&
-      (not (b && tree_holds (image_of p s) (section_unreleased_on_path r route listed.point))
+      (not (b && tree_holds (image_of p s) (section_on_unreleased_path r route listed.point))
       ||
       (tree_holds (image_of p s) (is_listed_point_commanded p listed)
       && tree_holds (image_of p s) (is_listed_point_detected p listed)))) either_mode
@@ -82,7 +82,7 @@ module _ (p : PlantLists) (s : State) (shape : HasShape p s) where
       (tree_holds (image_of p s) (is_listed_point_commanded p listed)
       && tree_holds (image_of p s) (is_listed_point_detected p listed)))) kept
       ∙ ap (λ b. (not (same_mode now.mode Allocating) || b) && (not (is_locked_or_occupied now && is_unreleased_on_path route now listed.point) || (b && tree_holds (image_of p s) (is_listed_point_detected p listed)))) commanded
-      ∙ ap (λ b. (not (same_mode now.mode Allocating) || is_commanded_as_listed p s listed) && (not (is_locked_or_occupied now && is_unreleased_on_path route now listed.point) || (is_commanded_as_listed p s listed && b))) lies
+      ∙ ap (λ b. (not (same_mode now.mode Allocating) || is_point_commanded_as_listed p s listed) && (not (is_locked_or_occupied now && is_unreleased_on_path route now listed.point) || (is_point_commanded_as_listed p s listed && b))) lies
     where
       simplified : (a m k c l : Bool) → ((not a || (c || false)) && ((not (m && (k && true)) || ((c && (l && true)) || false)) && true)) ≡ ((not a || c) && (not (m && k) || (c && l)))
       simplified true true true true true = refl
@@ -101,7 +101,7 @@ module _ (p : PlantLists) (s : State) (shape : HasShape p s) where
   point-of : (r : ℕ) (route : Route) (now : RouteState) (listed : Listed) →
       slice_get p.routes r ≡ Some route → slice_get s.routes r ≡ Some now →
       (not (contains_section listed.point route.path) || tree_holds (image_of p s) (point_matches_route_mode p r route listed))
-      ≡ (is_commanded_if_allocating p s route now listed && is_set_if_locked_or_occupied p s route now listed)
+      ≡ (is_point_commanded_if_allocating p s route now listed && is_point_set_if_locked_or_occupied p s route now listed)
   point-of r route now listed known at = by_path (contains_section listed.point route.path) refl
     where
       on_path : (a m k c l : Bool) → ((not a || c) && (not (m && k) || (c && l))) ≡ ((if a && true then c else true) && (if m && k then c && l else true))
@@ -119,18 +119,18 @@ module _ (p : PlantLists) (s : State) (shape : HasShape p s) where
       off_path false false c l = refl
 
       by_path : (b : Bool) → contains_section listed.point route.path ≡ b → (not (contains_section listed.point route.path) || tree_holds (image_of p s) (point_matches_route_mode p r route listed))
-          ≡ (is_commanded_if_allocating p s route now listed && is_set_if_locked_or_occupied p s route now listed)
+          ≡ (is_point_commanded_if_allocating p s route now listed && is_point_set_if_locked_or_occupied p s route now listed)
       by_path true e =
-          rw e (point_matches_route_mode-holds r route now listed known at ∙ on_path (same_mode now.mode Allocating) (is_locked_or_occupied now) (is_unreleased_on_path route now listed.point) (is_commanded_as_listed p s listed)
-          (is_detected_as_listed p s listed))
+          rw e (point_matches_route_mode-holds r route now listed known at ∙ on_path (same_mode now.mode Allocating) (is_locked_or_occupied now) (is_unreleased_on_path route now listed.point) (is_point_commanded_as_listed p s listed)
+          (is_point_detected_as_listed p s listed))
       by_path false e =
           let none = not-kept route now listed.point e in
-          rw (e, none) (off_path (same_mode now.mode Allocating) (is_locked_or_occupied now) (is_commanded_as_listed p s listed) (is_commanded_as_listed p s listed && is_detected_as_listed p s listed))
+          rw (e, none) (off_path (same_mode now.mode Allocating) (is_locked_or_occupied now) (is_point_commanded_as_listed p s listed) (is_point_commanded_as_listed p s listed && is_point_detected_as_listed p s listed))
 
   v6-of : (r : ℕ) (route : Route) (now : RouteState) → slice_get p.routes r ≡ Some route →
       slice_get s.routes r ≡ Some now →
       list_all (tree_holds (image_of p s)) (map (point_matches_route_mode p r route) (listed_points_on_path route))
-      ≡ list_all (λ listed. is_commanded_if_allocating p s route now listed && is_set_if_locked_or_occupied p s route now listed)
+      ≡ list_all (λ listed. is_point_commanded_if_allocating p s route now listed && is_point_set_if_locked_or_occupied p s route now listed)
       route.points
   v6-of r route now known at =
       list_all-map (tree_holds (image_of p s)) (point_matches_route_mode p r route) (listed_points_on_path route)
@@ -138,11 +138,11 @@ module _ (p : PlantLists) (s : State) (shape : HasShape p s) where
       ∙ list_all-alike
       (λ listed. not (contains_section listed.point route.path)
       || tree_holds (image_of p s) (point_matches_route_mode p r route listed))
-      (λ listed. is_commanded_if_allocating p s route now listed && is_set_if_locked_or_occupied p s route now listed) route.points
+      (λ listed. is_point_commanded_if_allocating p s route now listed && is_point_set_if_locked_or_occupied p s route now listed) route.points
       (λ i listed found. point-of r route now listed known at)
 
-  pub v6-law : tree_holds (image_of p s) (v6_route_points_set_tree p) ≡ keeps_v6_route_points_set p s
+  pub v6-law : tree_holds (image_of p s) (v6_points_match_modes_tree p) ≡ meets_v6_points_match_modes p s
   v6-law =
       each_of-holds (image_of p s) (conditions_of_each_route p (λ r route. map (point_matches_route_mode p r route) (listed_points_on_path route)))
       ∙ each-route p s shape (image_of p s) (λ r route. map (point_matches_route_mode p r route) (listed_points_on_path route))
-      (λ route now. list_all (λ listed. is_commanded_if_allocating p s route now listed && is_set_if_locked_or_occupied p s route now listed) route.points) v6-of
+      (λ route now. list_all (λ listed. is_point_commanded_if_allocating p s route now listed && is_point_set_if_locked_or_occupied p s route now listed) route.points) v6-of

@@ -20,7 +20,7 @@ use Rattle.ilk_plant.specs.declared.table.Route.{Route}
 use Rattle.ilk_plant.proofs.Shapes.{seen_and_released_fit_path-counts}
 use Rattle.ilk_routes.specs.Boards.{has_aspect}
 use Rattle.ilk_routes.specs.Modes.{same_mode}
-use Rattle.ilk_model.specs.Families.{keeps_v1_consistent_counts, keeps_v4_allocating_paths_vacant, keeps_v5_open_needs_locked, keeps_v9_protecting_boards_closed}
+use Rattle.ilk_model.specs.Families.{meets_v1_consistent_counts, meets_v4_allocating_paths_vacant, meets_v5_open_needs_locked, meets_v9_protecting_boards_closed}
 use Rattle.ilk_model.specs.Hazard.{hazard}
 use Rattle.ilk_model.specs.Holding.{is_vacant, any_route_passes_test}
 use Rattle.ilk_layout.specs.Image.{image_of}
@@ -116,7 +116,7 @@ module _ (p : PlantLists) (plant : IsPlant p) (s : State) (shape : HasShape p s)
           ∙ ap (λ v. (m2 || (a2 || false)) && ((m2 || (b2 || false)) && v)) four
           ∙ by_mode m2 a2 b2 c
 
-  pub v1-law : tree_holds (image_of p s) (v1_consistent_counts_tree p) ≡ keeps_v1_consistent_counts p s
+  pub v1-law : tree_holds (image_of p s) (v1_consistent_counts_tree p) ≡ meets_v1_consistent_counts p s
   v1-law =
       each_of-holds (image_of p s) (conditions_of_each_route p (λ r route. counts_are_consistent r route ∷ []))
       ∙ each-route p s shape (image_of p s) (λ r route. counts_are_consistent r route ∷ []) (λ route now. if same_mode now.mode Occupied then nat_lt now.rel now.seen && nat_le now.seen (length route.path) else now.seen == 0 && now.rel == 0) v1-of
@@ -142,7 +142,7 @@ module _ (p : PlantLists) (plant : IsPlant p) (s : State) (shape : HasShape p s)
       by_mode true = refl
       by_mode false = all-pass (λ m. true) route.protecting_boards (λ i m found. refl)
 
-  pub v9-law : tree_holds (image_of p s) (v9_protecting_boards_closed_tree p) ≡ keeps_v9_protecting_boards_closed p s
+  pub v9-law : tree_holds (image_of p s) (v9_protecting_boards_closed_tree p) ≡ meets_v9_protecting_boards_closed p s
   v9-law =
       each_of-holds (image_of p s) (conditions_of_each_route p (λ r route. map (λ m. implication (mode_is r Locked) (is_board_aspect p m Closed)) route.protecting_boards))
       ∙ each-route p s shape (image_of p s)
@@ -166,7 +166,7 @@ module _ (p : PlantLists) (plant : IsPlant p) (s : State) (shape : HasShape p s)
       (mode-holds p s shape r now Allocating at)
       (each_of-holds (image_of p s) (path_vacant p route) ∙ path_vacant-holds calm r route known)
 
-  pub v4-law : hazard p s ≡ None → tree_holds (image_of p s) (v4_allocating_paths_vacant_tree p) ≡ keeps_v4_allocating_paths_vacant p s
+  pub v4-law : hazard p s ≡ None → tree_holds (image_of p s) (v4_allocating_paths_vacant_tree p) ≡ meets_v4_allocating_paths_vacant p s
   v4-law calm =
       each_of-holds (image_of p s) (conditions_of_each_route p (λ r route. implication (mode_is r Allocating) (each_of (path_vacant p route)) ∷ []))
       ∙ each-route p s shape (image_of p s) (λ r route. implication (mode_is r Allocating) (each_of (path_vacant p route)) ∷ []) (λ route now. if same_mode now.mode Allocating then list_all (is_vacant s) route.path else true) (v4-of calm)
@@ -210,7 +210,7 @@ module _ (p : PlantLists) (plant : IsPlant p) (s : State) (shape : HasShape p s)
       by_aspect true b = refl
       by_aspect false b = refl
 
-  pub v5-law : hazard p s ≡ None → tree_holds (image_of p s) (v5_open_needs_locked_tree p) ≡ keeps_v5_open_needs_locked p s
+  pub v5-law : hazard p s ≡ None → tree_holds (image_of p s) (v5_open_needs_locked_tree p) ≡ meets_v5_open_needs_locked p s
   v5-law calm =
       each_of-holds (image_of p s) (map (open_only_for_route p) (range_with_len 0 (length p.boards)))
       ∙ list_all-map (tree_holds (image_of p s)) (open_only_for_route p) (range_with_len 0 (length p.boards))

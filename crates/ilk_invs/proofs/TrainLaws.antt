@@ -24,7 +24,7 @@ use Rattle.ilk_plant.specs.declared.state.RouteState.{RouteState}
 use Rattle.ilk_plant.specs.declared.state.State.{State}
 use Rattle.ilk_plant.specs.declared.state.Train.{Train}
 use Rattle.ilk_plant.specs.declared.table.Route.{Route}
-use Rattle.ilk_model.specs.Families.{is_unreleased_on_some_route, head_is_led_by_route, keeps_v7_heads_have_routes, keeps_v8_bodies_have_routes}
+use Rattle.ilk_model.specs.Families.{is_unreleased_on_some_route, head_is_led_by_route, meets_v7_heads_have_routes, meets_v8_bodies_have_routes}
 use Rattle.ilk_model.specs.Hazard.{hazard}
 use Rattle.ilk_model.specs.Holding.{is_unreleased_on_path, is_locked_or_occupied, continues_without_board, route_runs_in_direction}
 use Rattle.ilk_layout.specs.Image.{image_of}
@@ -32,10 +32,10 @@ use Rattle.ilk_layout.specs.Occupancy.{occupancy_or_crash}
 use Rattle.ilk_layout.specs.declared.values.Occupancy.TheVariants.{Taken}
 use Rattle.ilk_layout.proofs.Calm.{body-of, occupancy-in, taken-in}
 use Rattle.ilk_layout.proofs.Plants.{body-known}
-use Rattle.ilk_invs.specs.Held.{section_unreleased_on_path, route_locked_or_occupied}
+use Rattle.ilk_invs.specs.Held.{section_on_unreleased_path, route_locked_or_occupied}
 use Rattle.ilk_invs.specs.Parts.{each_of, conditions_of_each_route, some_of}
 use Rattle.ilk_invs.specs.TrainFamilies.{body_at, head_at, route_retains_at, body_has_route_set_at, route_set_for_head_at, head_has_route_set_at, v7_heads_have_routes_tree, v8_bodies_have_routes_tree}
-use Rattle.ilk_invs.proofs.HeldLaws.{section_unreleased_on_path-holds, route_locked_or_occupied-holds}
+use Rattle.ilk_invs.proofs.HeldLaws.{section_on_unreleased_path-holds, route_locked_or_occupied-holds}
 use Rattle.ilk_invs.proofs.PartLaws.{any-if, each_of-holds, some-route, some_of-holds}
 use Rattle.ilk_invs.proofs.PointLaws.{not-kept}
 use Rattle.ilk_invs.proofs.LedLaws.{body_at-holds, head_at-holds, led-holds}
@@ -47,10 +47,10 @@ module _ (p : PlantLists) (plant : IsPlant p) (s : State) (shape : HasShape p s)
       list_any (tree_holds (image_of p s)) (route_retains_at p d x r route)
       ≡ (route_runs_in_direction p d route && is_locked_or_occupied now && is_unreleased_on_path route now x)
   route_retains_at-holds d x r route now known at =
-      any-if (image_of p s) (each_of (route_locked_or_occupied r ∷ section_unreleased_on_path r route x ∷ [])) (route_runs_in_direction p d route && contains_section x route.path)
-      ∙ ap (λ v. (route_runs_in_direction p d route && contains_section x route.path) && (v && (tree_holds (image_of p s) (section_unreleased_on_path r route x) && true))) (route_locked_or_occupied-holds p s shape r now at)
-      ∙ ap (λ v. (route_runs_in_direction p d route && contains_section x route.path) && (is_locked_or_occupied now && v)) (and-true (tree_holds (image_of p s) (section_unreleased_on_path r route x)) ∙
-      section_unreleased_on_path-holds p s shape r route now x known at)
+      any-if (image_of p s) (each_of (route_locked_or_occupied r ∷ section_on_unreleased_path r route x ∷ [])) (route_runs_in_direction p d route && contains_section x route.path)
+      ∙ ap (λ v. (route_runs_in_direction p d route && contains_section x route.path) && (v && (tree_holds (image_of p s) (section_on_unreleased_path r route x) && true))) (route_locked_or_occupied-holds p s shape r now at)
+      ∙ ap (λ v. (route_runs_in_direction p d route && contains_section x route.path) && (is_locked_or_occupied now && v)) (and-true (tree_holds (image_of p s) (section_on_unreleased_path r route x)) ∙
+      section_on_unreleased_path-holds p s shape r route now x known at)
       ∙ by_path (contains_section x route.path) refl
     where
       with_path : (a b c : Bool) → ((a && true) && (b && c)) ≡ (a && b && c)
@@ -129,12 +129,12 @@ module _ (p : PlantLists) (plant : IsPlant p) (s : State) (shape : HasShape p s)
   kept_test : Dir → ℕ → Bool
   kept_test d x = if continues_without_board p d x then not (has_train_in d (occupancy_or_crash p s x)) || is_unreleased_on_some_route p s d x else true
 
-  pub v7-law : IsAcyclic p → tree_holds (image_of p s) (v7_heads_have_routes_tree p) ≡ keeps_v7_heads_have_routes p s
+  pub v7-law : IsAcyclic p → tree_holds (image_of p s) (v7_heads_have_routes_tree p) ≡ meets_v7_heads_have_routes p s
   unfolding led_test
   v7-law never =
       each_of-holds (image_of p s) (flat_map (λ x. head_has_route_set_at p Up x ++ head_has_route_set_at p Down x) (range_with_len 0 (length p.sections)))
       ∙ all-sections (head_has_route_set_at p) led_test head_has_route_set_at-holds
-      ∙ same_truth (list_all (λ x. led_test Up x && led_test Down x) (range_with_len 0 (length p.sections))) (keeps_v7_heads_have_routes p s) forth back
+      ∙ same_truth (list_all (λ x. led_test Up x && led_test Down x) (range_with_len 0 (length p.sections))) (meets_v7_heads_have_routes p s) forth back
     where
       of_train : Train → Bool
       of_train train = is_some_and (last_or None train.body) (λ x. if continues_without_board p train.dir x then head_is_led_by_route p s train.dir x else true)
@@ -172,12 +172,12 @@ module _ (p : PlantLists) (plant : IsPlant p) (s : State) (shape : HasShape p s)
           ap (λ o. is_some_and o (λ x. if continues_without_board p t.dir x then head_is_led_by_route p s t.dir x else true)) (sym last) ∙ list_all-slice_get of_train s.trains train.0 t h train.3 in
           if-passes (continues_without_board p d x) (head_is_led_by_route p s d x) (ap (λ e. if continues_without_board p e x then head_is_led_by_route p s e x else true) same.0 ∙ passes) plain)))
 
-  pub v8-law : IsAcyclic p → tree_holds (image_of p s) (v8_bodies_have_routes_tree p) ≡ keeps_v8_bodies_have_routes p s
+  pub v8-law : IsAcyclic p → tree_holds (image_of p s) (v8_bodies_have_routes_tree p) ≡ meets_v8_bodies_have_routes p s
   unfolding kept_test
   v8-law never =
       each_of-holds (image_of p s) (flat_map (λ x. body_has_route_set_at p Up x ++ body_has_route_set_at p Down x) (range_with_len 0 (length p.sections)))
       ∙ all-sections (body_has_route_set_at p) kept_test body_has_route_set_at-holds
-      ∙ same_truth (list_all (λ x. kept_test Up x && kept_test Down x) (range_with_len 0 (length p.sections))) (keeps_v8_bodies_have_routes p s) forth back
+      ∙ same_truth (list_all (λ x. kept_test Up x && kept_test Down x) (range_with_len 0 (length p.sections))) (meets_v8_bodies_have_routes p s) forth back
     where
       of_train : Train → Bool
       of_train train = list_all (λ x. if continues_without_board p train.dir x then is_unreleased_on_some_route p s train.dir x else true) train.body

@@ -16,7 +16,7 @@ use Rattle.ilk_routes.specs.Claims.{sections_outside_path}
 use Rattle.ilk_layout.specs.Variables.{ranges_of_plant}
 use Rattle.ilk_layout.specs.Conditions.{mode_is, no_train_at, is_released_count, is_seen_count}
 use Rattle.ilk_layout.proofs.Valid.{mode_is-valid, no_train_at-valid, is_released_count-valid, is_seen_count-valid}
-use Rattle.ilk_invs.specs.Held.{section_held_by, route_holds_sections, section_unreleased_on_path, route_locked_or_occupied, rel_below, seen_below}
+use Rattle.ilk_invs.specs.Held.{section_held_by, route_holds_sections, section_on_unreleased_path, route_locked_or_occupied, rel_below, seen_below}
 use Rattle.ilk_invs.specs.Parts.{conditions_for_optional_value, each_of, conditions_of_each_path_index, conditions_of_each_route, some_of, implication}
 use Rattle.ilk_invs.specs.RouteFamilies.{path_vacant}
 
@@ -85,8 +85,8 @@ module _ (p : PlantLists) (plant : IsPlant p) where
       some_of-valid (map (is_released_count r) (range_with_len 0 k)) (map-valid (is_released_count r) (range_with_len 0 k) (λ i c at.
       let below = (range_within k i c at).1 in is_released_count-valid p r c route known (omega (arith, below, few))))
 
-  section_unreleased_on_path-valid : (r : ℕ) (route : Route) (x : ℕ) → slice_get p.routes r ≡ Some route → tree_valid (ranges_of_plant p) (section_unreleased_on_path r route x) ≡ true
-  section_unreleased_on_path-valid r route x known =
+  section_on_unreleased_path-valid : (r : ℕ) (route : Route) (x : ℕ) → slice_get p.routes r ≡ Some route → tree_valid (ranges_of_plant p) (section_on_unreleased_path r route x) ≡ true
+  section_on_unreleased_path-valid r route x known =
       some_of-valid
       (flat_map (λ c. if contains_section x (drop c route.path) then is_released_count r c ∷ [] else [])
       (range_with_len 0 (length route.path + 1))) (flat_map-valid
@@ -106,19 +106,19 @@ module _ (p : PlantLists) (plant : IsPlant p) where
   route_holds_sections-valid r within =
       some_of-valid (mode_is r Free ∷ mode_is r Marked ∷ []) (two-valid (mode_is r Free) (mode_is r Marked) (mode_is-valid p r Free within) (mode_is-valid p r Marked within))
 
-  pub is_kept-valid : (r : ℕ) (route : Route) (x : ℕ) → slice_get p.routes r ≡ Some route → tree_valid (ranges_of_plant p) (each_of (route_locked_or_occupied r ∷ section_unreleased_on_path r route x ∷ [])) ≡ true
+  pub is_kept-valid : (r : ℕ) (route : Route) (x : ℕ) → slice_get p.routes r ≡ Some route → tree_valid (ranges_of_plant p) (each_of (route_locked_or_occupied r ∷ section_on_unreleased_path r route x ∷ [])) ≡ true
   is_kept-valid r route x known =
-      each_of-valid (route_locked_or_occupied r ∷ section_unreleased_on_path r route x ∷ []) (two-valid (route_locked_or_occupied r) (section_unreleased_on_path r route x) (route_locked_or_occupied-valid r (slice_get_within p.routes r route known))
-      (section_unreleased_on_path-valid r route x known))
+      each_of-valid (route_locked_or_occupied r ∷ section_on_unreleased_path r route x ∷ []) (two-valid (route_locked_or_occupied r) (section_on_unreleased_path r route x) (route_locked_or_occupied-valid r (slice_get_within p.routes r route known))
+      (section_on_unreleased_path-valid r route x known))
 
   pub section_held_by-valid : (r : ℕ) (route : Route) (x : ℕ) → slice_get p.routes r ≡ Some route → tree_valid (ranges_of_plant p) (section_held_by r route x) ≡ true
   section_held_by-valid r route x known = by_test (contains_section x (sections_outside_path route))
     where
-      by_test : (b : Bool) → tree_valid (ranges_of_plant p) (if b then route_holds_sections r else each_of (route_holds_sections r ∷ section_unreleased_on_path r route x ∷ [])) ≡ true
+      by_test : (b : Bool) → tree_valid (ranges_of_plant p) (if b then route_holds_sections r else each_of (route_holds_sections r ∷ section_on_unreleased_path r route x ∷ [])) ≡ true
       by_test true = route_holds_sections-valid r (slice_get_within p.routes r route known)
       by_test false =
-          each_of-valid (route_holds_sections r ∷ section_unreleased_on_path r route x ∷ []) (two-valid (route_holds_sections r) (section_unreleased_on_path r route x) (route_holds_sections-valid r (slice_get_within
-          p.routes r route known)) (section_unreleased_on_path-valid r route x known))
+          each_of-valid (route_holds_sections r ∷ section_on_unreleased_path r route x ∷ []) (two-valid (route_holds_sections r) (section_on_unreleased_path r route x) (route_holds_sections-valid r (slice_get_within
+          p.routes r route known)) (section_on_unreleased_path-valid r route x known))
 
   pub path_known : (r : ℕ) (route : Route) (i x : ℕ) → slice_get p.routes r ≡ Some route → slice_get route.path i ≡ Some x → x < length p.sections
   path_known r route i x known at = all-at (λ x. x < length p.sections) route.path i x (plant.routes_known r route known).path at

@@ -15,11 +15,11 @@ use Rattle.ilk_layout.specs.Variables.{ranges_of_plant}
 use Rattle.ilk_layout.specs.Conditions.{is_board_aspect, is_listed_point_commanded, is_listed_point_detected, lock_is, mode_is, is_released_count, is_seen_count}
 use Rattle.ilk_layout.proofs.Listed.{is_listed_point_commanded-valid}
 use Rattle.ilk_layout.proofs.Valid.{is_board_aspect-valid, is_listed_point_detected-valid, lock_is-valid, mode_is-valid, is_released_count-valid, is_seen_count-valid}
-use Rattle.ilk_invs.specs.Held.{section_held_by, route_holds_sections, section_unreleased_on_path, route_locked_or_occupied, rel_below, seen_below}
+use Rattle.ilk_invs.specs.Held.{section_held_by, route_holds_sections, section_on_unreleased_path, route_locked_or_occupied, rel_below, seen_below}
 use Rattle.ilk_invs.specs.declared.hold_family.TheConstants.{MAX_ORDERED_HOLDERS}
 use Rattle.ilk_invs.specs.HoldFamilies.{at_most_one_by_halves, at_most_one_in_order, at_most_one_holder, possible_holders, path_lock_matches_seen, held_sections_have_locks, none_before_if_holding, none_holding, not_held_by_both_groups, route_holding, v2_sections_held_once_tree, v3_locks_match_routes_tree}
 use Rattle.ilk_invs.specs.Parts.{each_of, conditions_of_each_path_index, conditions_of_each_route, some_of, implication}
-use Rattle.ilk_invs.specs.PointFamily.{listed_points_on_path, point_matches_route_mode, v6_route_points_set_tree}
+use Rattle.ilk_invs.specs.PointFamily.{listed_points_on_path, point_matches_route_mode, v6_points_match_modes_tree}
 use Rattle.ilk_invs.specs.RouteFamilies.{counts_are_consistent, open_only_for_route, path_vacant, v1_consistent_counts_tree, v4_allocating_paths_vacant_tree, v5_open_needs_locked_tree}
 use Rattle.ilk_routes.proofs.Shape.{beside-known}
 use Rattle.ilk_invs.proofs.ValidParts.{conditions_for_optional_value-valid, each_of-valid, flat_map-valid, section_held_by-valid, if-valid, route_holds_sections-valid, is_kept-valid, joined-valid, map-valid, more-valid, one-valid, path_known, path_vacant-valid, places-valid, rel_below-valid, routes-valid, seen_below-valid, some_of-valid, three-valid, two-valid, implication-valid}
@@ -170,7 +170,7 @@ module _ (p : PlantLists) (plant : IsPlant p) where
       (mode_is-valid p r Locked (slice_get_within p.routes r route known))
       (path_vacant-valid p plant r route known)))))))))
 
-  pub v6-valid : tree_valid (ranges_of_plant p) (v6_route_points_set_tree p) ≡ true
+  pub v6-valid : tree_valid (ranges_of_plant p) (v6_points_match_modes_tree p) ≡ true
   v6-valid =
       each_of-valid p plant (conditions_of_each_route p (λ r route. map (point_matches_route_mode p r route) (listed_points_on_path route))) (routes-valid p plant (λ r route. map (point_matches_route_mode p r route)
       (listed_points_on_path route)) (λ r route known.
@@ -183,11 +183,11 @@ module _ (p : PlantLists) (plant : IsPlant p) where
           (is_listed_point_detected-valid p listed)) in
           each_of-valid p plant
           (implication (mode_is r Allocating) (is_listed_point_commanded p listed)
-          ∷ implication (each_of (route_locked_or_occupied r ∷ section_unreleased_on_path r route listed.point ∷ []))
+          ∷ implication (each_of (route_locked_or_occupied r ∷ section_on_unreleased_path r route listed.point ∷ []))
           (each_of (is_listed_point_commanded p listed ∷ is_listed_point_detected p listed ∷ [])) ∷ [])
           (two-valid p plant (implication (mode_is r Allocating) (is_listed_point_commanded p listed))
-          (implication (each_of (route_locked_or_occupied r ∷ section_unreleased_on_path r route listed.point ∷ []))
+          (implication (each_of (route_locked_or_occupied r ∷ section_on_unreleased_path r route listed.point ∷ []))
           (each_of (is_listed_point_commanded p listed ∷ is_listed_point_detected p listed ∷ [])))
           (implication-valid p plant (mode_is r Allocating) (is_listed_point_commanded p listed) (mode_is-valid p r Allocating (slice_get_within p.routes r route known)) commanded)
-          (implication-valid p plant (each_of (route_locked_or_occupied r ∷ section_unreleased_on_path r route listed.point ∷ [])) (each_of (is_listed_point_commanded p listed ∷ is_listed_point_detected p listed ∷ []))
+          (implication-valid p plant (each_of (route_locked_or_occupied r ∷ section_on_unreleased_path r route listed.point ∷ [])) (each_of (is_listed_point_commanded p listed ∷ is_listed_point_detected p listed ∷ []))
           (is_kept-valid p plant r route listed.point known) set))

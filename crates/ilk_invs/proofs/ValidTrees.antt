@@ -19,12 +19,12 @@ use Rattle.ilk_layout.specs.declared.values.Occupancy.TheVariants.{Vacant, Taken
 use Rattle.ilk_layout.specs.Conditions.{is_board_aspect, mode_is, no_train_at, occupancy_is, train_at}
 use Rattle.ilk_layout.proofs.Valid.{is_board_aspect-valid, mode_is-valid, no_train_at-valid, occupancy_is-valid}
 use Rattle.ilk_invs.specs.FamilyTrees.{family_tree, family_trees}
-use Rattle.ilk_invs.specs.Held.{section_unreleased_on_path, route_locked_or_occupied, seen_below}
+use Rattle.ilk_invs.specs.Held.{section_on_unreleased_path, route_locked_or_occupied, seen_below}
 use Rattle.ilk_invs.specs.HoldFamilies.{v2_sections_held_once_tree, v3_locks_match_routes_tree}
 use Rattle.ilk_invs.specs.Parts.{each_of, conditions_of_each_path_index, conditions_of_each_route, some_of, implication}
-use Rattle.ilk_invs.specs.PointFamily.{v6_route_points_set_tree}
+use Rattle.ilk_invs.specs.PointFamily.{v6_points_match_modes_tree}
 use Rattle.ilk_invs.specs.RouteFamilies.{v1_consistent_counts_tree, v4_allocating_paths_vacant_tree, v5_open_needs_locked_tree, v9_protecting_boards_closed_tree}
-use Rattle.ilk_invs.specs.TrainFamilies.{body_at, head_at, route_retains_at, body_has_route_set_at, route_set_for_head_at, route_set_and_clear_past, head_has_route_set_at, none_seen_past, v7_heads_have_routes_tree, v8_bodies_have_routes_tree, vacant_or_up}
+use Rattle.ilk_invs.specs.TrainFamilies.{body_at, head_at, route_retains_at, body_has_route_set_at, route_set_for_head_at, route_set_and_clear_past, head_has_route_set_at, no_section_seen_past, v7_heads_have_routes_tree, v8_bodies_have_routes_tree, vacant_or_up}
 use Rattle.ilk_invs.proofs.Tests.{dropped-at}
 use Rattle.ilk_invs.proofs.ValidParts.{each_of-valid, flat_map-valid, if-valid, is_kept-valid, joined-valid, map-valid, more-valid, one-valid, path_known, places-valid, routes-valid, seen_below-valid, some_of-valid, two-valid, implication-valid}
 use Rattle.ilk_invs.proofs.ValidRouteTrees.{v1-valid, v2-valid, v3-valid, v4-valid, v5-valid, v6-valid}
@@ -48,8 +48,8 @@ module _ (p : PlantLists) (plant : IsPlant p) where
       (two-valid p plant (negation (vacant_or_up p x)) (negation (occupancy_is p x Crash))
       (vacant_or_up-valid x within) (occupancy_is-valid p x Crash within))
 
-  none_seen_past-valid : (r : ℕ) (route : Route) (i : ℕ) → slice_get p.routes r ≡ Some route → i < length route.path → list_all (tree_valid (ranges_of_plant p)) (none_seen_past r route i) ≡ true
-  none_seen_past-valid r route i known less =
+  no_section_seen_past-valid : (r : ℕ) (route : Route) (i : ℕ) → slice_get p.routes r ≡ Some route → i < length route.path → list_all (tree_valid (ranges_of_plant p)) (no_section_seen_past r route i) ≡ true
+  no_section_seen_past-valid r route i known less =
       if-valid p plant (nat_lt (i + 1) (length route.path)) (seen_below r (i + 2) ∷ []) (one-valid p plant (seen_below r (i + 2)) (seen_below-valid p plant r (i + 2) route known (omega (arith, less))))
 
   route_set_and_clear_past-valid : (r : ℕ) (route : Route) (i x : ℕ) → slice_get p.routes r ≡ Some route → slice_get route.path i ≡ Some x → tree_valid (ranges_of_plant p) (route_set_and_clear_past p r route i) ≡ true
@@ -63,9 +63,9 @@ module _ (p : PlantLists) (plant : IsPlant p) where
       (mode_is r Occupied ∷ each_of (mode_is r Locked ∷ is_board_aspect p route.source Closed ∷ []) ∷ [])
       (two-valid p plant (mode_is r Occupied) (each_of (mode_is r Locked ∷ is_board_aspect p route.source Closed ∷ []))
       (mode_is-valid p r Occupied within) closed) in
-      each_of-valid p plant (some_of (mode_is r Occupied ∷ each_of (mode_is r Locked ∷ is_board_aspect p route.source Closed ∷ []) ∷ []) ∷ (none_seen_past r route i ++ map (no_train_at p) (drop (i + 1) route.path)))
-      (more-valid p plant (some_of (mode_is r Occupied ∷ each_of (mode_is r Locked ∷ is_board_aspect p route.source Closed ∷ []) ∷ [])) (none_seen_past r route i ++ map (no_train_at p) (drop (i + 1) route.path)) may
-      (joined-valid p plant (none_seen_past r route i) (map (no_train_at p) (drop (i + 1) route.path)) (none_seen_past-valid r route i known less)
+      each_of-valid p plant (some_of (mode_is r Occupied ∷ each_of (mode_is r Locked ∷ is_board_aspect p route.source Closed ∷ []) ∷ []) ∷ (no_section_seen_past r route i ++ map (no_train_at p) (drop (i + 1) route.path)))
+      (more-valid p plant (some_of (mode_is r Occupied ∷ each_of (mode_is r Locked ∷ is_board_aspect p route.source Closed ∷ []) ∷ [])) (no_section_seen_past r route i ++ map (no_train_at p) (drop (i + 1) route.path)) may
+      (joined-valid p plant (no_section_seen_past r route i) (map (no_train_at p) (drop (i + 1) route.path)) (no_section_seen_past-valid r route i known less)
       (map-valid p plant (no_train_at p) (drop (i + 1) route.path) (λ k y there. no_train_at-valid p y (path_known p plant r route ((i + 1) + k) y known (dropped-at (i + 1) route.path k y there))))))
 
   instances-valid : (f : Dir → ℕ → List Tree) →
@@ -95,8 +95,8 @@ module _ (p : PlantLists) (plant : IsPlant p) where
       (some_of-valid p plant (negation (body_at p d x) ∷ conditions_of_each_route p (route_retains_at p d x)) (more-valid p plant (negation (body_at p d x)) (conditions_of_each_route p (route_retains_at p d x)) (body_at-valid d x within)
       (routes-valid p plant (route_retains_at p d x) (λ r route known.
       if-valid p plant (route_runs_in_direction p d route && contains_section x route.path)
-      (each_of (route_locked_or_occupied r ∷ section_unreleased_on_path r route x ∷ []) ∷ [])
-      (one-valid p plant (each_of (route_locked_or_occupied r ∷ section_unreleased_on_path r route x ∷ []))
+      (each_of (route_locked_or_occupied r ∷ section_on_unreleased_path r route x ∷ []) ∷ [])
+      (one-valid p plant (each_of (route_locked_or_occupied r ∷ section_on_unreleased_path r route x ∷ []))
       (is_kept-valid p plant r route x known))))))))
 
   v9-valid : tree_valid (ranges_of_plant p) (v9_protecting_boards_closed_tree p) ≡ true
@@ -117,19 +117,19 @@ module _ (p : PlantLists) (plant : IsPlant p) where
   pub families-valid : list_all (tree_valid (ranges_of_plant p)) (family_trees p) ≡ true
   families-valid =
       more-valid p plant (v1_consistent_counts_tree p)
-      (v2_sections_held_once_tree p ∷ v3_locks_match_routes_tree p ∷ v4_allocating_paths_vacant_tree p ∷ v5_open_needs_locked_tree p ∷ v6_route_points_set_tree p ∷ v7_heads_have_routes_tree p ∷ v8_bodies_have_routes_tree p ∷
+      (v2_sections_held_once_tree p ∷ v3_locks_match_routes_tree p ∷ v4_allocating_paths_vacant_tree p ∷ v5_open_needs_locked_tree p ∷ v6_points_match_modes_tree p ∷ v7_heads_have_routes_tree p ∷ v8_bodies_have_routes_tree p ∷
       v9_protecting_boards_closed_tree p ∷ [])
       (v1-valid p plant)
       (more-valid p plant (v2_sections_held_once_tree p)
-      (v3_locks_match_routes_tree p ∷ v4_allocating_paths_vacant_tree p ∷ v5_open_needs_locked_tree p ∷ v6_route_points_set_tree p ∷ v7_heads_have_routes_tree p ∷ v8_bodies_have_routes_tree p ∷ v9_protecting_boards_closed_tree p ∷ [])
+      (v3_locks_match_routes_tree p ∷ v4_allocating_paths_vacant_tree p ∷ v5_open_needs_locked_tree p ∷ v6_points_match_modes_tree p ∷ v7_heads_have_routes_tree p ∷ v8_bodies_have_routes_tree p ∷ v9_protecting_boards_closed_tree p ∷ [])
       (v2-valid p plant)
       (more-valid p plant (v3_locks_match_routes_tree p)
-      (v4_allocating_paths_vacant_tree p ∷ v5_open_needs_locked_tree p ∷ v6_route_points_set_tree p ∷ v7_heads_have_routes_tree p ∷ v8_bodies_have_routes_tree p ∷ v9_protecting_boards_closed_tree p ∷ []) (v3-valid p plant)
-      (more-valid p plant (v4_allocating_paths_vacant_tree p) (v5_open_needs_locked_tree p ∷ v6_route_points_set_tree p ∷ v7_heads_have_routes_tree p ∷ v8_bodies_have_routes_tree p ∷ v9_protecting_boards_closed_tree p ∷ [])
+      (v4_allocating_paths_vacant_tree p ∷ v5_open_needs_locked_tree p ∷ v6_points_match_modes_tree p ∷ v7_heads_have_routes_tree p ∷ v8_bodies_have_routes_tree p ∷ v9_protecting_boards_closed_tree p ∷ []) (v3-valid p plant)
+      (more-valid p plant (v4_allocating_paths_vacant_tree p) (v5_open_needs_locked_tree p ∷ v6_points_match_modes_tree p ∷ v7_heads_have_routes_tree p ∷ v8_bodies_have_routes_tree p ∷ v9_protecting_boards_closed_tree p ∷ [])
       (v4-valid p plant)
-      (more-valid p plant (v5_open_needs_locked_tree p) (v6_route_points_set_tree p ∷ v7_heads_have_routes_tree p ∷ v8_bodies_have_routes_tree p ∷ v9_protecting_boards_closed_tree p ∷ [])
+      (more-valid p plant (v5_open_needs_locked_tree p) (v6_points_match_modes_tree p ∷ v7_heads_have_routes_tree p ∷ v8_bodies_have_routes_tree p ∷ v9_protecting_boards_closed_tree p ∷ [])
       (v5-valid p plant)
-      (more-valid p plant (v6_route_points_set_tree p) (v7_heads_have_routes_tree p ∷ v8_bodies_have_routes_tree p ∷ v9_protecting_boards_closed_tree p ∷ []) (v6-valid p plant)
+      (more-valid p plant (v6_points_match_modes_tree p) (v7_heads_have_routes_tree p ∷ v8_bodies_have_routes_tree p ∷ v9_protecting_boards_closed_tree p ∷ []) (v6-valid p plant)
       (more-valid p plant (v7_heads_have_routes_tree p) (v8_bodies_have_routes_tree p ∷ v9_protecting_boards_closed_tree p ∷ []) v7-valid
       (more-valid p plant (v8_bodies_have_routes_tree p) (v9_protecting_boards_closed_tree p ∷ []) v8-valid
       (one-valid p plant (v9_protecting_boards_closed_tree p) v9-valid))))))))

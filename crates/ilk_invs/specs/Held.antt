@@ -28,12 +28,12 @@ route_holds_sections r = negation (some_of (mode_is r Free ∷ mode_is r Marked 
 
 -- The condition that section `x` is on the path of route `r` and not released: `x` is path[i] for
 -- some i from `rel` on.
-abbrev pub section_unreleased_on_path : ℕ → Route → ℕ → Tree
-section_unreleased_on_path r route x =
+abbrev pub section_on_unreleased_path : ℕ → Route → ℕ → Tree
+section_on_unreleased_path r route x =
     some_of (flat_map (λ c. if contains_section x (drop c route.path) then is_released_count r c ∷ [] else []) (range_with_len 0 (length route.path + 1)))
 
 -- The condition that route `r` holds section `x`: it holds sections, and `x` is in its overlap or
 -- protecting points, or on its path and not released.
 abbrev pub section_held_by : ℕ → Route → ℕ → Tree
 section_held_by r route x =
-    if contains_section x (sections_outside_path route) then route_holds_sections r else each_of (route_holds_sections r ∷ section_unreleased_on_path r route x ∷ [])
+    if contains_section x (sections_outside_path route) then route_holds_sections r else each_of (route_holds_sections r ∷ section_on_unreleased_path r route x ∷ [])

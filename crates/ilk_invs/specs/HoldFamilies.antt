@@ -16,12 +16,12 @@ use Rattle.ilk_invs.specs.Held.{section_held_by, route_holds_sections, rel_below
 use Rattle.ilk_invs.specs.Parts.{conditions_for_optional_value, each_of, conditions_of_each_path_index, conditions_of_each_route, some_of, implication}
 
 -- Returns whether route `r` may hold section `x`: `x` is in its path, overlap or protecting points.
-abbrev pub may_hold : PlantLists → ℕ → ℕ → Bool
-may_hold p x r = is_some_and (slice_get p.routes r) (λ route. contains_section x (sections_locked_for route))
+abbrev pub is_possible_holder : PlantLists → ℕ → ℕ → Bool
+is_possible_holder p x r = is_some_and (slice_get p.routes r) (λ route. contains_section x (sections_locked_for route))
 
 -- The numbers of the routes that may hold section `x`, in order.
 abbrev pub possible_holders : PlantLists → ℕ → List ℕ
-possible_holders p x = filter (may_hold p x) (range_with_len 0 (length p.routes))
+possible_holders p x = filter (is_possible_holder p x) (range_with_len 0 (length p.routes))
 
 -- The condition that route `r` holds section `x`, or none if there is no route `r`.
 abbrev pub route_holding : PlantLists → ℕ → ℕ → List Tree

@@ -7,7 +7,7 @@ use Rattle.ilk_plant.specs.declared.state.Mode.TheVariants.{Allocating}
 use Rattle.ilk_plant.specs.declared.table.Listed.{Listed}
 use Rattle.ilk_plant.specs.declared.table.Route.{Route}
 use Rattle.ilk_layout.specs.Conditions.{is_listed_point_commanded, is_listed_point_detected, mode_is}
-use Rattle.ilk_invs.specs.Held.{section_unreleased_on_path, route_locked_or_occupied}
+use Rattle.ilk_invs.specs.Held.{section_on_unreleased_path, route_locked_or_occupied}
 use Rattle.ilk_invs.specs.Parts.{each_of, conditions_of_each_route, implication}
 
 -- The points that a route lists and that are on its path.
@@ -20,10 +20,10 @@ listed_points_on_path route = filter (λ listed. contains_section listed.point r
 abbrev pub point_matches_route_mode : PlantLists → ℕ → Route → Listed → Tree
 point_matches_route_mode p r route listed =
     each_of (implication (mode_is r Allocating) (is_listed_point_commanded p listed)
-    ∷ implication (each_of (route_locked_or_occupied r ∷ section_unreleased_on_path r route listed.point ∷ [])) (each_of (is_listed_point_commanded p listed ∷ is_listed_point_detected p listed ∷ []))
+    ∷ implication (each_of (route_locked_or_occupied r ∷ section_on_unreleased_path r route listed.point ∷ [])) (each_of (is_listed_point_commanded p listed ∷ is_listed_point_detected p listed ∷ []))
     ∷ [])
 
 -- Family V6: the listed points on each route's path are commanded and detected as the route's mode
 -- requires.
-abbrev pub v6_route_points_set_tree : PlantLists → Tree
-v6_route_points_set_tree p = each_of (conditions_of_each_route p (λ r route. map (point_matches_route_mode p r route) (listed_points_on_path route)))
+abbrev pub v6_points_match_modes_tree : PlantLists → Tree
+v6_points_match_modes_tree p = each_of (conditions_of_each_route p (λ r route. map (point_matches_route_mode p r route) (listed_points_on_path route)))

@@ -8,7 +8,7 @@ ghost use Rattle.ilk_invs.specs.Laws.{TreeMeansFamily};
 use crate::hold_family::v2_sections_held_once_form;
 use crate::kept_family::v8_bodies_have_routes_form;
 use crate::lock_family::v3_locks_match_routes_form;
-use crate::point_family::v6_route_points_set_form;
+use crate::point_family::v6_points_match_modes_form;
 use crate::route_families::{
     v1_consistent_counts_form, v4_allocating_paths_vacant_form, v5_open_needs_locked_form,
     v9_protecting_boards_closed_form,
@@ -29,7 +29,7 @@ fn form_of(alloc: Global, plant: &Plant, j: u8) -> Result<Form, AllocError>
         3 => v3_locks_match_routes_form(alloc, plant),
         4 => v4_allocating_paths_vacant_form(alloc, plant),
         5 => v5_open_needs_locked_form(alloc, plant),
-        6 => v6_route_points_set_form(alloc, plant),
+        6 => v6_points_match_modes_form(alloc, plant),
         7 => v7_heads_have_routes_form(alloc, plant),
         8 => v8_bodies_have_routes_form(alloc, plant),
         _ => v9_protecting_boards_closed_form(alloc, plant),

@@ -85,7 +85,7 @@ fn push_if_kept(
 
 /// Returns the condition that section `x` is on the path of `route`, which is number `r`, and not
 /// released.
-pub(crate) fn section_unreleased_on_path(
+pub(crate) fn section_on_unreleased_path(
     alloc: Global,
     plant: &Plant,
     r: u32,
@@ -95,7 +95,7 @@ pub(crate) fn section_unreleased_on_path(
     requires known { r < length plant.now.routes }
     requires route { IsValidRouteOf plant.now route.now }
     ensures { IfOk result (λ form. tree_of form ≡
-        definitions.section_unreleased_on_path r route.now x) }
+        definitions.section_on_unreleased_path r route.now x) }
 {
     let path = route.path.as_slice();
     let mut forms = Vec::new(alloc);
@@ -143,6 +143,6 @@ pub(crate) fn section_held_by(
     }
     let mut forms = Vec::new(alloc);
     forms.push(holding)?;
-    forms.push(section_unreleased_on_path(alloc, plant, r, route, x)?)?;
+    forms.push(section_on_unreleased_path(alloc, plant, r, route, x)?)?;
     Ok(Form::And(forms))
 }

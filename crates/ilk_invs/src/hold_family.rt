@@ -16,9 +16,9 @@ use std::alloc::{AllocError, Global};
 pub(crate) const MAX_ORDERED_HOLDERS: usize = 16;
 
 #[tactic(auto, using(crate::proofs::Sections::sections_of_route))]
-fn may_hold(plant: &Plant, x: u32, r: u32) -> bool
+fn is_possible_holder(plant: &Plant, x: u32, r: u32) -> bool
     requires { r < length plant.now.routes }
-    ensures { result ≡ definitions.may_hold plant.now x r }
+    ensures { result ≡ definitions.is_possible_holder plant.now x r }
 {
     let route = plant.route(r);
     contains_section(&route.path, x) || is_in_overlap_or_protecting(route, x)
@@ -32,7 +32,7 @@ fn possible_holders(alloc: Global, plant: &Plant, x: u32) -> Result<Row<u32>, Al
 {
     let mut routes = Row::new(alloc);
     for r in 0..plant.routes() {
-        routes.push_if(may_hold(plant, x, r), r)?;
+        routes.push_if(is_possible_holder(plant, x, r), r)?;
     }
     Ok(routes)
 }

@@ -7,7 +7,7 @@ ghost use Rattle.ilk_invs.specs.Held as held;
 ghost use Rattle.ilk_invs.specs.Parts as parts;
 ghost use Rattle.ilk_invs.specs.PointFamily as definitions;
 
-use crate::held::{route_locked_or_occupied, section_unreleased_on_path};
+use crate::held::{route_locked_or_occupied, section_on_unreleased_path};
 use crate::parts::implication;
 use ilk_ir::Form;
 use ilk_layout::{is_listed_point_commanded, is_listed_point_detected, mode_is};
@@ -27,13 +27,13 @@ pub(crate) fn is_set_and_unreleased(
     requires route { IsValidRouteOf plant.now route.now }
     ensures { IfOk result
         (λ form. tree_of form
-        ≡ parts.each_of (held.route_locked_or_occupied r ∷ held.section_unreleased_on_path r
+        ≡ parts.each_of (held.route_locked_or_occupied r ∷ held.section_on_unreleased_path r
         route.now x
         ∷ [])) }
 {
     let mut forms = Vec::new(alloc);
     forms.push(route_locked_or_occupied(alloc, plant, r)?)?;
-    forms.push(section_unreleased_on_path(alloc, plant, r, route, x)?)?;
+    forms.push(section_on_unreleased_path(alloc, plant, r, route, x)?)?;
     Ok(Form::And(forms))
 }
 
@@ -118,8 +118,9 @@ fn push_points_set(
 /// Returns the form of family V6: the listed points on a path are commanded to their positions if
 /// the route is Allocating. If it is Locked or Occupied, those not released are also detected
 /// there.
-pub(crate) fn v6_route_points_set_form(alloc: Global, plant: &Plant) -> Result<Form, AllocError>
-    ensures { IfOk result (λ form. tree_of form ≡ definitions.v6_route_points_set_tree plant.now) }
+pub(crate) fn v6_points_match_modes_form(alloc: Global, plant: &Plant) -> Result<Form, AllocError>
+    ensures { IfOk result (λ form. tree_of form
+        ≡ definitions.v6_points_match_modes_tree plant.now) }
 {
     let mut forms = Vec::new(alloc);
     for r in 0..plant.routes() {

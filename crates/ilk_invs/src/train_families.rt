@@ -120,7 +120,7 @@ fn push_none_seen_past(
     requires place { i < length route.now.path }
     ensures { OnOk result
         (map tree_of forms.new.items
-        ≡ map tree_of forms.old.items ++ definitions.none_seen_past r route.now i) }
+        ≡ map tree_of forms.old.items ++ definitions.no_section_seen_past r route.now i) }
 {
     if i + 1 < route.path.as_slice().len() {
         forms.push(seen_below(alloc, plant, r, i as u8 + 2)?)?;

@@ -8,12 +8,12 @@ pub record SourceState : Type 0 where
   pub plan : FaultScheduleWithCounts
 
 -- The number of bytes that a read moves to a buffer of length `n`, or `None` if it fails.
-abbrev pub read_count : SourceState → ℕ → Option ℕ
-read_count s n = if fails_next s.plan then None else Some (min n (length s.rest))
+abbrev pub byte_count_of_read : SourceState → ℕ → Option ℕ
+byte_count_of_read s n = if fails_next s.plan then None else Some (min n (length s.rest))
 
 -- The source after a read with a buffer of length `n`.
-abbrev pub after_read : SourceState → ℕ → SourceState
-after_read s n =
+abbrev pub after_read_attempt : SourceState → ℕ → SourceState
+after_read_attempt s n =
     if fails_next s.plan
     then record s { plan = after_fault s.plan }
     else record { rest = drop n s.rest; plan = after_success s.plan }
@@ -34,11 +34,11 @@ abbrev pub write_fails : SinkState → List ℕ → Bool
 write_fails s piece = fails_next s.plan || (room_left s == 0 && nat_lt 0 (length piece))
 
 -- The number of bytes of `piece` that a write takes, or `None` if it fails.
-abbrev pub write_count : SinkState → List ℕ → Option ℕ
-write_count s piece = if write_fails s piece then None else Some (min (length piece) (room_left s))
+abbrev pub byte_count_of_write : SinkState → List ℕ → Option ℕ
+byte_count_of_write s piece = if write_fails s piece then None else Some (min (length piece) (room_left s))
 
-abbrev pub after_write : SinkState → List ℕ → SinkState
-after_write s piece =
+abbrev pub after_write_attempt : SinkState → List ℕ → SinkState
+after_write_attempt s piece =
     if write_fails s piece
     then record s { plan = after_fault s.plan }
     else record s { taken = s.taken ++ take (room_left s) piece; plan = after_success s.plan }

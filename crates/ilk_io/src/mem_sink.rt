@@ -2,7 +2,7 @@ ghost use Rattle.std.specs.Prelude.{◌≡◌, ◌<◌, ◌≤◌, [], Some, len
 ghost use Rattle.ilk_io.specs.Faults.{CountedOneFault};
 ghost use Rattle.ilk_io.specs.Sink.{Appends};
 ghost use Rattle.std.specs.Result.{result_ok};
-ghost use Rattle.ilk_io.specs.Memory.{write_count, after_write};
+ghost use Rattle.ilk_io.specs.Memory.{byte_count_of_write, after_write_attempt};
 
 use crate::plan::FaultPlanWithCounts;
 use crate::{Failed, Sink};
@@ -71,8 +71,8 @@ impl Sink for MemSink {
         ensures kept { OnErr result (self.new.taken ≡ self.old.taken) }
         ensures failed { OnErr result (CountedOneFault self.old.plan.faults self.new.plan.faults) }
         ensures unraised { OnOk result (self.new.plan.faults ≡ self.old.plan.faults) }
-        ensures count { result_ok result ≡ write_count self.old piece.now }
-        ensures after { self.new ≡ after_write self.old piece.now }
+        ensures count { result_ok result ≡ byte_count_of_write self.old piece.now }
+        ensures after { self.new ≡ after_write_attempt self.old piece.now }
     {
         let count = piece.len().min(self.room - self.bytes.len());
         let is_full = count == 0 && !piece.is_empty();

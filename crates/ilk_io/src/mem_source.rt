@@ -2,7 +2,7 @@ ghost use Rattle.std.specs.Prelude.{◌≡◌, ◌<◌, ◌≤◌, Some, length,
 ghost use Rattle.ilk_io.specs.Faults.{CountedOneFault};
 ghost use Rattle.ilk_io.specs.Source.{Consumes, IsAtEnd};
 ghost use Rattle.std.specs.Result.{result_ok};
-ghost use Rattle.ilk_io.specs.Memory.{read_count, after_read};
+ghost use Rattle.ilk_io.specs.Memory.{byte_count_of_read, after_read_attempt};
 
 use crate::plan::FaultPlanWithCounts;
 use crate::unread::UnreadBytes;
@@ -54,8 +54,8 @@ impl Source for MemSource {
         ensures kept { OnErr result (self.new.rest ≡ self.old.rest) }
         ensures failed { OnErr result (CountedOneFault self.old.plan.faults self.new.plan.faults) }
         ensures unraised { OnOk result (self.new.plan.faults ≡ self.old.plan.faults) }
-        ensures count { result_ok result ≡ read_count self.old (length into.old) }
-        ensures after { self.new ≡ after_read self.old (length into.old) }
+        ensures count { result_ok result ≡ byte_count_of_read self.old (length into.old) }
+        ensures after { self.new ≡ after_read_attempt self.old (length into.old) }
     {
         if self.plan.fails_next() {
             self.plan.count_fault();

@@ -21,8 +21,8 @@ trees_from_list [] = none
 trees_from_list (t ∷ ts) = more t (trees_from_list ts)
 
 -- Returns whether variable `v` exists and has value `c`.
-abbrev pub var_has_value : List ℕ → ℕ → ℕ → Bool
-var_has_value values v c = is_some_and (slice_get values v) (λ x. x == c)
+abbrev pub is_value_of_var : List ℕ → ℕ → ℕ → Bool
+is_value_of_var values v c = is_some_and (slice_get values v) (λ x. x == c)
 
 -- Returns whether the tree holds for these values. `all_of` an empty list holds; `any_of` an empty
 -- list doesn't.
@@ -30,7 +30,7 @@ abbrev mutual
   pub tree_holds : List ℕ → Tree → Bool
   tree_holds values yes = true
   tree_holds values no = false
-  tree_holds values (is v c) = var_has_value values v c
+  tree_holds values (is v c) = is_value_of_var values v c
   tree_holds values (all_of ts) = each_holds values ts
   tree_holds values (any_of ts) = some_holds values ts
   tree_holds values (negation t) = not (tree_holds values t)

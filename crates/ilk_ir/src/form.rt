@@ -1,5 +1,5 @@
 ghost use Rattle.std.specs.Prelude.{◌≡◌};
-ghost use Rattle.ilk_ir.specs.Tree.{tree_holds, var_has_value};
+ghost use Rattle.ilk_ir.specs.Tree.{tree_holds, is_value_of_var};
 ghost use Rattle.ilk_ir.specs.Form.{tree_of};
 
 use ilk_base::Row;
@@ -35,8 +35,8 @@ pub fn holds(form: &Form, values: &Values) -> bool
     holds_of(form, values.as_slice())
 }
 
-fn var_has_value(values: &[u8], v: u32, c: u8) -> bool
-    ensures { result ≡ var_has_value values.now v c }
+fn is_value_of_var(values: &[u8], v: u32, c: u8) -> bool
+    ensures { result ≡ is_value_of_var values.now v c }
 {
     match values.get(v as usize) {
         Some(value) => *value == c,
@@ -50,7 +50,7 @@ fn holds_of(form: &Form, values: &[u8]) -> bool
     match form {
         Form::Yes => true,
         Form::No => false,
-        Form::Is(v, c) => var_has_value(values, *v, *c),
+        Form::Is(v, c) => is_value_of_var(values, *v, *c),
         Form::And(forms) => {
             for f in forms {
                 if !holds_of(f, values) {

@@ -8,8 +8,8 @@ use Rattle.ilk_plant.proofs.InLists.{section-at}
 use Rattle.ilk_motion.specs.Body.{is_last_section}
 use Rattle.ilk_model.specs.Hazard.{are_adjacent_in_body}
 use Rattle.ilk_model.proofs.Straying.{pair-has}
-use Rattle.ilk_layout.specs.Occupancy.{is_first}
-use Rattle.ilk_layout.specs.Standing.{equals_before_or_after, section_before_index}
+use Rattle.ilk_layout.specs.Occupancy.{is_first_section}
+use Rattle.ilk_layout.specs.Standing.{is_section_before_or_after, section_before_index}
 
 pub once-rest : (y : ℕ) (rest : List ℕ) → EachOnce (y ∷ rest) → EachOnce rest
 once-rest y rest once i j x at also = let next : suc i ≡ suc j = once (suc i) (suc j) x at also in omega arith
@@ -25,7 +25,7 @@ not-later y rest once =
     let no : (y == y) ≡ false = later-differs y rest there.0 y once there.1 in
     absurd (false≢true (sym no ∙ eq-eqb y y refl)))
 
-pub first-at : (body : List ℕ) (i x : ℕ) → EachOnce body → slice_get body i ≡ Some x → is_first x body ≡ (i == 0)
+pub first-at : (body : List ℕ) (i x : ℕ) → EachOnce body → slice_get body i ≡ Some x → is_first_section x body ≡ (i == 0)
 first-at [] i x once at = cc
 first-at (y ∷ rest) zero x once at = let same : y ≡ x = cc in eq-eqb y x same
 first-at (y ∷ rest) (suc i) x once at = later-differs y rest i x once at ∙ (let no : (suc i == 0) ≡ false = grind (arith, nat_tests) in sym no)
@@ -57,7 +57,7 @@ before-suc body i =
     let less : suc i - 1 ≡ i = omega arith in
     rw (no, less) refl
 
-pub pair-at : (body : List ℕ) (i x z : ℕ) → EachOnce body → slice_get body i ≡ Some x → are_adjacent_in_body x z body ≡ equals_before_or_after z (section_before_index body i) (slice_get body (i + 1))
+pub pair-at : (body : List ℕ) (i x z : ℕ) → EachOnce body → slice_get body i ≡ Some x → are_adjacent_in_body x z body ≡ is_section_before_or_after z (section_before_index body i) (slice_get body (i + 1))
 pair-at [] i x z once at = cc
 pair-at (a ∷ []) zero x z once at = refl
 pair-at (a ∷ []) (suc i) x z once at = cc
@@ -76,7 +76,7 @@ pair-at (a ∷ b ∷ rest) (suc zero) x z once at =
     let here : b ≡ x = cc in
     let mine : (b == x) ≡ true = eq-eqb b x here in
     let other : (a == x) ≡ false = later-differs a (b ∷ rest) zero x once at in
-    let later : are_adjacent_in_body x z (b ∷ rest) ≡ equals_before_or_after z None (slice_get rest 0) = pair-at (b ∷ rest) zero x z (once-rest a (b ∷ rest) once) at in
+    let later : are_adjacent_in_body x z (b ∷ rest) ≡ is_section_before_or_after z None (slice_get rest 0) = pair-at (b ∷ rest) zero x z (once-rest a (b ∷ rest) once) at in
     rw (mine, other) (front (a == z) (are_adjacent_in_body x z (b ∷ rest)) ∙ ap (λ u. (a == z) || u) later)
   where
     front : (u v : Bool) → ((false || (u && true)) || v) ≡ (u || v)
@@ -87,11 +87,11 @@ pair-at (a ∷ b ∷ rest) (suc (suc i)) x z once at =
     let two : (b == x) ≡ false = later-differs b rest i x (once-rest a (b ∷ rest) once) at in
     let back : section_before_index (a ∷ b ∷ rest) (suc (suc i)) ≡ section_before_index (b ∷ rest) (suc i) = before-suc (a ∷ b ∷ rest) (suc i) ∙ sym (before-suc (b ∷ rest) i) in
     let next : suc (suc i) + 1 ≡ suc (suc i + 1) = omega arith in
-    let later : are_adjacent_in_body x z (b ∷ rest) ≡ equals_before_or_after z (section_before_index (b ∷ rest) (suc i)) (slice_get (b ∷ rest) (suc i + 1)) = pair-at (b ∷ rest) (suc i) x z (once-rest a (b ∷ rest) once) at in
+    let later : are_adjacent_in_body x z (b ∷ rest) ≡ is_section_before_or_after z (section_before_index (b ∷ rest) (suc i)) (slice_get (b ∷ rest) (suc i + 1)) = pair-at (b ∷ rest) (suc i) x z (once-rest a (b ∷ rest) once) at in
     let first : are_adjacent_in_body x z (a ∷ b ∷ rest) ≡ are_adjacent_in_body x z (b ∷ rest) = rw (one, two) (none (a == z) (are_adjacent_in_body x z (b ∷ rest))) in
     first ∙ later
-    ∙ ap (λ o. equals_before_or_after z o (slice_get (b ∷ rest) (suc i + 1))) (sym back)
-    ∙ ap (λ k. equals_before_or_after z (section_before_index (a ∷ b ∷ rest) (suc (suc i))) (slice_get (a ∷ b ∷ rest) k)) (sym next)
+    ∙ ap (λ o. is_section_before_or_after z o (slice_get (b ∷ rest) (suc i + 1))) (sym back)
+    ∙ ap (λ k. is_section_before_or_after z (section_before_index (a ∷ b ∷ rest) (suc (suc i))) (slice_get (a ∷ b ∷ rest) k)) (sym next)
   where
     none : (u v : Bool) → ((false || (u && false)) || v) ≡ v
     none true v = refl

@@ -14,7 +14,7 @@ use Rattle.ilk_plant.specs.NetworkRules.{opposite_direction}
 use Rattle.ilk_plant.specs.Plant.{IsPlant, PlantLists, next_to, point_count, point_number}
 use Rattle.ilk_plant.specs.Shape.{HasShape, has_nonempty_connected_body, is_connected_chain}
 use Rattle.ilk_plant.specs.Sound.{IsAcyclic}
-use Rattle.ilk_plant.specs.State.{detected_position}
+use Rattle.ilk_plant.specs.State.{detected_position_in_state}
 use Rattle.ilk_plant.specs.declared.network.Dir.{Dir}
 use Rattle.ilk_plant.specs.declared.network.Dir.TheVariants.{Up, Down}
 use Rattle.ilk_plant.specs.declared.network.Section.{Section}
@@ -26,7 +26,7 @@ use Rattle.ilk_plant.specs.declared.state.Train.{Train}
 use Rattle.ilk_plant.proofs.Sides.{back-opposite}
 use Rattle.ilk_plant.proofs.InLists.{section-from, section-at, only-one}
 use Rattle.ilk_motion.specs.Ahead.{section_led_to, detected_leg}
-use Rattle.ilk_routes.specs.Lies.{is_detected_moving}
+use Rattle.ilk_routes.specs.Lies.{is_lie_moving}
 use Rattle.ilk_model.specs.Hazard.{are_adjacent_in_body, hazard, is_section_hazardous, has_two_trains, is_wrong_under_train, is_wrong_under_body}
 use Rattle.ilk_layout.specs.Occupancy.{occupancy_or_crash}
 use Rattle.ilk_layout.specs.Wellformed.{section_ahead, mutual_section_ahead}
@@ -136,7 +136,7 @@ module _ (p : PlantLists) (plant : IsPlant p) (never : IsAcyclic p) (s : State) 
       by_hazard true h = (let bad : Crash ≡ Taken d tail head = rw h at e in cc)
       by_hazard false h = by_found (find (has_x x) s.trains) refl h
 
-  pub lie-known : (x stem plus minus : ℕ) (faces : Dir) → slice_get p.sections x ≡ Some (Point stem plus minus faces) → (l : Lie) × (detected_position p s x ≡ Some l)
+  pub lie-known : (x stem plus minus : ℕ) (faces : Dir) → slice_get p.sections x ≡ Some (Point stem plus minus faces) → (l : Lie) × (detected_position_in_state p s x ≡ Some l)
   lie-known x stem plus minus faces at =
       let n = count_by is_point (take x p.sections) in
       let less : n < point_count p = count_by-take-lt is_point p.sections x (Point stem plus minus faces) at refl in
@@ -144,14 +144,16 @@ module _ (p : PlantLists) (plant : IsPlant p) (never : IsAcyclic p) (s : State) 
       let point = item_at s.points n (omega arith) in
       (point.0.at, rw (at, point.1) refl)
 
-  not_strays : (i : ℕ) (t : Train) (x stem plus minus : ℕ) (faces : Dir) → slice_get s.trains i ≡ Some t → slice_get p.sections x ≡ Some (Point stem plus minus faces) → is_wrong_under_body x plus minus (detected_position p s x) t.body ≡ false
+  not_strays : (i : ℕ) (t : Train) (x stem plus minus : ℕ) (faces : Dir) → slice_get s.trains i ≡ Some t → slice_get p.sections x ≡ Some (Point stem plus minus faces) → is_wrong_under_body x plus minus (detected_position_in_state p s x) t.body
+      ≡ false
   not_strays i t x stem plus minus faces at section =
       let right = not_wrong x (slice_get_within p.sections x (Point stem plus minus faces) section) in
-      let none : list_any (λ (train : Train). is_wrong_under_body x plus minus (detected_position p s x) train.body) s.trains ≡ false = rw section at right in
-      list_any-none (λ (train : Train). is_wrong_under_body x plus minus (detected_position p s x) train.body) s.trains i t none at
+      let none : list_any (λ (train : Train). is_wrong_under_body x plus minus (detected_position_in_state p s x) train.body) s.trains ≡ false = rw section at right in
+      list_any-none (λ (train : Train). is_wrong_under_body x plus minus (detected_position_in_state p s x) train.body) s.trains i t none at
 
   -- Each of two neighbours in a body leads to the other.
-  pub led-on : (i : ℕ) (t : Train) (x y : ℕ) (d : Dir) → slice_get s.trains i ≡ Some t → x < length p.sections → contains_section y (next_to p x d) ≡ true → are_adjacent_in_body x y t.body ≡ true → section_ahead p (detected_position p s) x d ≡ Some y
+  pub led-on : (i : ℕ) (t : Train) (x y : ℕ) (d : Dir) → slice_get s.trains i ≡ Some t → x < length p.sections → contains_section y (next_to p x d) ≡ true → are_adjacent_in_body x y t.body ≡ true
+      → section_ahead p (detected_position_in_state p s) x d ≡ Some y
   led-on i t x y d at within beside_it pair = by_section (slice_get p.sections x) refl d beside_it
     where
       of_option : (o : Option ℕ) → contains_section y (option_to_list o) ≡ true → o ≡ Some y
@@ -172,7 +174,7 @@ module _ (p : PlantLists) (plant : IsPlant p) (never : IsAcyclic p) (s : State) 
           ]
 
       facing : (stem plus minus : ℕ) (faces d : Dir) (lie : Option Lie) →
-          slice_get p.sections x ≡ Some (Point stem plus minus faces) → detected_position p s x ≡ lie →
+          slice_get p.sections x ≡ Some (Point stem plus minus faces) → detected_position_in_state p s x ≡ lie →
           contains_section y (neighbours_on (Point stem plus minus faces) d) ≡ true →
           section_led_to (Point stem plus minus faces) d lie ≡ Some y
       facing stem plus minus Up Up lie e f h =
@@ -186,33 +188,33 @@ module _ (p : PlantLists) (plant : IsPlant p) (never : IsAcyclic p) (s : State) 
       facing stem plus minus Up Down lie e f h = ap Some (only-one y stem h)
       facing stem plus minus Down Up lie e f h = ap Some (only-one y stem h)
 
-      by_section : (o : Option Section) → slice_get p.sections x ≡ o → (d : Dir) → contains_section y (next_to p x d) ≡ true → section_ahead p (detected_position p s) x d ≡ Some y
+      by_section : (o : Option Section) → slice_get p.sections x ≡ o → (d : Dir) → contains_section y (next_to p x d) ≡ true → section_ahead p (detected_position_in_state p s) x d ≡ Some y
       by_section None e d h = absurd (let there = item_at p.sections x within in none-some there.0 (sym e ∙ there.1))
       by_section (Some (Linear down up b c)) e Down h = rw e (of_option down (rw e at h))
       by_section (Some (Linear down up b c)) e Up h = rw e (of_option up (rw e at h))
-      by_section (Some (Point stem plus minus faces)) e d h = ap (option_and_then (λ section. section_led_to section d (detected_position p s x))) e ∙ (facing stem plus minus faces d (detected_position p s x) e refl (rw e at h))
+      by_section (Some (Point stem plus minus faces)) e d h = ap (option_and_then (λ section. section_led_to section d (detected_position_in_state p s x))) e ∙ (facing stem plus minus faces d (detected_position_in_state p s x) e refl (rw e at h))
 
-  pub joined-in : (i k x y : ℕ) (t : Train) → slice_get s.trains i ≡ Some t → slice_get t.body k ≡ Some x → slice_get t.body (suc k) ≡ Some y → mutual_section_ahead p (detected_position p s) x t.dir ≡ Some y
+  pub joined-in : (i k x y : ℕ) (t : Train) → slice_get s.trains i ≡ Some t → slice_get t.body k ≡ Some x → slice_get t.body (suc k) ≡ Some y → mutual_section_ahead p (detected_position_in_state p s) x t.dir ≡ Some y
   joined-in i k x y t at here next =
       let body = body-of i t at in
       let beside_it = body-neighbours_on p t k x y body here next in
       let pairs = pair-of t.body k x y here next in
-      joined-from p (detected_position p s) x y t.dir
+      joined-from p (detected_position_in_state p s) x y t.dir
       (led-on i t x y t.dir at (body-known p t k x plant body here) beside_it pairs.0)
       (led-on i t y x (opposite_direction t.dir) at (body-known p t (suc k) y plant body next)
       (back-opposite p plant x y t.dir beside_it) pairs.1)
 
-  pub not_moving : (i k x : ℕ) (t : Train) → slice_get s.trains i ≡ Some t → slice_get t.body k ≡ Some x → not (is_some_and (detected_position p s x) is_detected_moving) ≡ true
-  not_moving i k x t at here = by_lie (detected_position p s x) refl
+  pub not_moving : (i k x : ℕ) (t : Train) → slice_get s.trains i ≡ Some t → slice_get t.body k ≡ Some x → not (is_some_and (detected_position_in_state p s x) is_lie_moving) ≡ true
+  not_moving i k x t at here = by_lie (detected_position_in_state p s x) refl
     where
-      by_section : (section : Section) → slice_get p.sections x ≡ Some section → is_point section ≡ true → detected_position p s x ≡ Some Moving → ⊥
+      by_section : (section : Section) → slice_get p.sections x ≡ Some section → is_point section ≡ true → detected_position_in_state p s x ≡ Some Moving → ⊥
       by_section (Linear down up b c) e is f = false≢true is
       by_section (Point stem plus minus faces) e is f =
           let none = not_strays i t x stem plus minus faces at e in
           let moves : contains_section x t.body ≡ false = rw f at none in
           false≢true (sym moves ∙ section-from t.body k x here)
 
-      by_lie : (o : Option Lie) → detected_position p s x ≡ o → not (is_some_and o is_detected_moving) ≡ true
+      by_lie : (o : Option Lie) → detected_position_in_state p s x ≡ o → not (is_some_and o is_lie_moving) ≡ true
       by_lie None f = refl
       by_lie (Some Plus) f = refl
       by_lie (Some Minus) f = refl

@@ -1,7 +1,7 @@
 -- Chains of numbers from a first to a last, for any forward step with its backward step.
 use Rattle.std.proofs.Common.{◌≡◌, ℕ, zero, suc, ◌+◌, ◌<◌, Option, Some, None, List, [], ◌∷◌, length, slice_get, ◌⊎◌, inl, inr, refl, sym, ◌∙◌, ap, subst, arith}
 use Rattle.std.proofs.lemmas.Option.{none-some, same_Some}
-use Rattle.ilk_layout.specs.Decoded.{follow_steps, optional_first_then_followers}
+use Rattle.ilk_layout.specs.Decoded.{iterates_until_none, optional_first_then_followers}
 
 -- Holds if `x` leads to the first of the rest, each number to the next, and the last to none.
 abbrev pub IsChain : (ℕ → Option ℕ) → ℕ → List ℕ → Type 0
@@ -13,15 +13,16 @@ abbrev pub IsWalk : (ℕ → Option ℕ) → ℕ → List ℕ → Type 0
 IsWalk f x [] = Unit {0}
 IsWalk f x (y ∷ rest) = (f x ≡ Some y) × IsWalk f y rest
 
-follow_steps-ends : (f : ℕ → Option ℕ) (k x : ℕ) → IsChain f x (follow_steps k f x) ⊎ ((walk : List ℕ) × IsWalk f x walk × (length walk ≡ k))
-follow_steps-ends f zero x = inr ([], tt, refl)
-follow_steps-ends f (suc k) x = by_next (follow_steps-ends f k) (f x) refl
+iterates_until_none-ends : (f : ℕ → Option ℕ) (k x : ℕ) → IsChain f x (iterates_until_none k f x) ⊎ ((walk : List ℕ) × IsWalk f x walk × (length walk ≡ k))
+iterates_until_none-ends f zero x = inr ([], tt, refl)
+iterates_until_none-ends f (suc k) x = by_next (iterates_until_none-ends f k) (f x) refl
   where
-    by_next : ((y : ℕ) → IsChain f y (follow_steps k f y) ⊎ ((walk : List ℕ) × IsWalk f y walk × (length walk ≡ k))) → (o : Option ℕ) → f x ≡ o → IsChain f x (follow_steps (suc k) f x) ⊎ ((walk : List ℕ) × IsWalk f x walk × (length walk ≡ suc k))
-    by_next ih None e = inl (let P : Option ℕ → Type 0 = λ o. IsChain f x (optional_first_then_followers (follow_steps k f) o) in subst P (sym e) e)
+    by_next : ((y : ℕ) → IsChain f y (iterates_until_none k f y) ⊎ ((walk : List ℕ) × IsWalk f y walk × (length walk ≡ k))) → (o : Option ℕ) → f x ≡ o → IsChain f x (iterates_until_none (suc k) f x)
+        ⊎ ((walk : List ℕ) × IsWalk f x walk × (length walk ≡ suc k))
+    by_next ih None e = inl (let P : Option ℕ → Type 0 = λ o. IsChain f x (optional_first_then_followers (iterates_until_none k f) o) in subst P (sym e) e)
     by_next ih (Some y) e =
         elim (ih y) [
-          | inl chain ↦ inl (let P : Option ℕ → Type 0 = λ o. IsChain f x (optional_first_then_followers (follow_steps k f) o) in subst P (sym e) (e, chain))
+          | inl chain ↦ inl (let P : Option ℕ → Type 0 = λ o. IsChain f x (optional_first_then_followers (iterates_until_none k f) o) in subst P (sym e) (e, chain))
           | inr more ↦ inr (y ∷ more.0, (e, more.1), ap suc more.2)
         ]
 
@@ -66,9 +67,9 @@ pub record GoesBack (n : ℕ) (On : ℕ → Type 0) (f b : ℕ → Option ℕ) :
   pub short_back : (x : ℕ) (walk : List ℕ) → On x → IsWalk b x walk → length walk < n
 
 module _ (n : ℕ) (On : ℕ → Type 0) (f b : ℕ → Option ℕ) (g : GoesBack n On f b) where
-  pub chased : (x : ℕ) → On x → IsChain f x (follow_steps n f x)
+  pub chased : (x : ℕ) → On x → IsChain f x (iterates_until_none n f x)
   chased x on =
-      elim (follow_steps-ends f n x) [
+      elim (iterates_until_none-ends f n x) [
         | inl chain ↦ chain
         | inr more ↦ (let short = g.short_forth x more.0 on more.1 in let long = more.2 in absurd (omega arith))
       ]
@@ -98,24 +99,24 @@ module _ (n : ℕ) (On : ℕ → Type 0) (f b : ℕ → Option ℕ) (g : GoesBac
       one_first a c r s ona onc ca cc_ fa fc i j w.0 w.1 (v.1 ∙ ap Some same)
 
   -- `x` is in the chain of a first number, or there is a walk of `k` steps back.
-  searched : (k x : ℕ) → On x → ((a : ℕ) × (i : ℕ) × On a × (b a ≡ None) × (slice_get (a ∷ follow_steps n f a) i ≡ Some x)) ⊎ ((walk : List ℕ) × IsWalk b x walk × (length walk ≡ k))
+  searched : (k x : ℕ) → On x → ((a : ℕ) × (i : ℕ) × On a × (b a ≡ None) × (slice_get (a ∷ iterates_until_none n f a) i ≡ Some x)) ⊎ ((walk : List ℕ) × IsWalk b x walk × (length walk ≡ k))
   searched zero x on = inr ([], tt, refl)
   searched (suc k) x on = by_before (searched k) (b x) refl
     where
       by_before :
           ((y : ℕ) → On y →
-          ((a : ℕ) × (i : ℕ) × On a × (b a ≡ None) × (slice_get (a ∷ follow_steps n f a) i ≡ Some y))
+          ((a : ℕ) × (i : ℕ) × On a × (b a ≡ None) × (slice_get (a ∷ iterates_until_none n f a) i ≡ Some y))
           ⊎ ((walk : List ℕ) × IsWalk b y walk × (length walk ≡ k))) → (o : Option ℕ) → b x ≡ o →
-          ((a : ℕ) × (i : ℕ) × On a × (b a ≡ None) × (slice_get (a ∷ follow_steps n f a) i ≡ Some x))
+          ((a : ℕ) × (i : ℕ) × On a × (b a ≡ None) × (slice_get (a ∷ iterates_until_none n f a) i ≡ Some x))
           ⊎ ((walk : List ℕ) × IsWalk b x walk × (length walk ≡ suc k))
       by_before ih None e = inl (x, zero, on, e, refl)
       by_before ih (Some y) e =
           elim (ih y (g.on_back x y on e)) [
-            | inl found ↦ inl (found.0, suc found.1, found.2, found.3, chain-after f found.0 (follow_steps n f found.0) found.1 y x (chased found.0 found.2) found.4 (g.forth x y on e))
+            | inl found ↦ inl (found.0, suc found.1, found.2, found.3, chain-after f found.0 (iterates_until_none n f found.0) found.1 y x (chased found.0 found.2) found.4 (g.forth x y on e))
             | inr more ↦ inr (y ∷ more.0, (e, more.1), ap suc more.2)
           ]
 
-  pub first_of : (x : ℕ) → On x → (a : ℕ) × (i : ℕ) × On a × (b a ≡ None) × (slice_get (a ∷ follow_steps n f a) i ≡ Some x)
+  pub first_of : (x : ℕ) → On x → (a : ℕ) × (i : ℕ) × On a × (b a ≡ None) × (slice_get (a ∷ iterates_until_none n f a) i ≡ Some x)
   first_of x on =
       elim (searched n x on) [
         | inl found ↦ found

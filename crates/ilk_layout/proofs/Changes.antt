@@ -9,7 +9,7 @@ use Rattle.ilk_base.proofs.Lists.{same_by_slice_get, slice_get-set_other, slice_
 use Rattle.ilk_base.proofs.Ranges.{below_or_past, range-at}
 use Rattle.ilk_plant.specs.Plant.{PlantLists}
 use Rattle.ilk_plant.specs.Shape.{HasShape}
-use Rattle.ilk_plant.specs.State.{detected_position}
+use Rattle.ilk_plant.specs.State.{detected_position_in_state}
 use Rattle.ilk_plant.specs.declared.network.Section.{Section}
 use Rattle.ilk_plant.specs.declared.network.Section.TheVariants.{Linear, Point}
 use Rattle.ilk_plant.specs.declared.state.Aspect.{Aspect}
@@ -25,7 +25,7 @@ use Rattle.ilk_layout.specs.declared.values.Occupancy.TheVariants.{Crash}
 use Rattle.ilk_layout.proofs.Writes.{board-written, image_with, occupancy-written}
 
 -- An occupancy depends only on the trains and on the position of its point.
-pub occupancy-kept : (p : PlantLists) (s t : State) (x : ℕ) → t.trains ≡ s.trains → detected_position p t x ≡ detected_position p s x → occupancy_or_crash p t x ≡ occupancy_or_crash p s x
+pub occupancy-kept : (p : PlantLists) (s t : State) (x : ℕ) → t.trains ≡ s.trains → detected_position_in_state p t x ≡ detected_position_in_state p s x → occupancy_or_crash p t x ≡ occupancy_or_crash p s x
 occupancy-kept p s t x trains lies i =
     cond (nat_lt 1 (count_by (has_x x) (trains i)) || wrong-same i) Crash (occupancy_by_train_if_any x (find (has_x x) (trains i)))
   where

@@ -6,7 +6,7 @@ use Rattle.std.proofs.lemmas.Option.{slice_get-map}
 use Rattle.ilk_base.specs.Option.{is_some_and}
 use Rattle.ilk_base.proofs.Lists.{item_at}
 use Rattle.ilk_base.proofs.Ranges.{range-at}
-use Rattle.ilk_ir.specs.Tree.{var_has_value, tree_holds}
+use Rattle.ilk_ir.specs.Tree.{is_value_of_var, tree_holds}
 use Rattle.ilk_plant.specs.Plant.{PlantLists}
 use Rattle.ilk_plant.specs.Shape.{HasShape}
 use Rattle.ilk_plant.specs.State.{has_lock_state, is_occupied, same_lock_state}
@@ -29,10 +29,10 @@ use Rattle.ilk_plant.specs.declared.state.Train.{Train}
 use Rattle.ilk_model.specs.Hazard.{hazard, is_section_hazardous}
 use Rattle.ilk_motion.specs.Body.{is_last_section}
 use Rattle.ilk_routes.specs.Boards.{has_aspect, same_aspect}
-use Rattle.ilk_routes.specs.Lies.{is_detected_moving, lie_from_position, is_lie_at_position}
+use Rattle.ilk_routes.specs.Lies.{is_lie_moving, lie_from_position, is_lie_at_position}
 use Rattle.ilk_routes.specs.Modes.{has_mode, same_mode}
 use Rattle.ilk_layout.specs.Image.{image_of, occupancy_values}
-use Rattle.ilk_layout.specs.Occupancy.{is_first, occupancy_or_crash, occupancy_by_train}
+use Rattle.ilk_layout.specs.Occupancy.{is_first_section, occupancy_or_crash, occupancy_by_train}
 use Rattle.ilk_layout.specs.Values.{aspect_value, lock_value, detected_value, mode_value, occupancy_value, commanded_value}
 use Rattle.ilk_layout.specs.Variables.{occupancy_var}
 use Rattle.ilk_layout.specs.declared.values.Occupancy.{Occupancy}
@@ -94,7 +94,7 @@ lies-test LiesMinus Minus = refl
 lies-test Moving Plus = refl
 lies-test Moving Minus = refl
 
-pub moving-test : (a : Lie) → (detected_value a == detected_value Moving) ≡ is_detected_moving a
+pub moving-test : (a : Lie) → (detected_value a == detected_value Moving) ≡ is_lie_moving a
 moving-test LiesPlus = refl
 moving-test LiesMinus = refl
 moving-test Moving = refl
@@ -102,7 +102,7 @@ moving-test Moving = refl
 pub image-is : (p : PlantLists) (s : State) → image_of p s ≡ image_with s (occupancy_values p s)
 image-is p s = refl
 
-has-value : (p : PlantLists) (s : State) (v c x : ℕ) → slice_get (image_with s (occupancy_values p s)) v ≡ Some x → var_has_value (image_of p s) v c ≡ (x == c)
+has-value : (p : PlantLists) (s : State) (v c x : ℕ) → slice_get (image_with s (occupancy_values p s)) v ≡ Some x → is_value_of_var (image_of p s) v c ≡ (x == c)
 has-value p s v c x at =
     ap (λ values. is_some_and (slice_get values v) (λ y. y == c)) (image-is p s) ∙ ap (λ o. is_some_and o (λ y. y == c)) at
 
@@ -155,7 +155,7 @@ module _ (p : PlantLists) (s : State) (shape : HasShape p s) where
       has-value p s (occupancy_var p x) (occupancy_value o) (occupancy_value (occupancy_or_crash p s x)) (occupancy-read x within)
 
 taken-value : (x : ℕ) (t : Train) → (occupancy_value (occupancy_by_train x t) == 0) ≡ false
-taken-value x t = by_value t.dir (is_first x t.body) (is_last_section x t.body)
+taken-value x t = by_value t.dir (is_first_section x t.body) (is_last_section x t.body)
   where
     by_value : (d : Dir) (tail head : Bool) → (occupancy_value (Taken d tail head) == 0) ≡ false
     by_value Up false false = refl

@@ -9,8 +9,8 @@ use Rattle.ilk_plant.specs.declared.network.Position.TheVariants.{Plus, Minus}
 use Rattle.ilk_plant.specs.declared.state.State.{State}
 use Rattle.ilk_plant.specs.declared.table.Listed.{Listed}
 use Rattle.ilk_plant.proofs.PointNumbers.{point_number-below}
-use Rattle.ilk_routes.specs.Lies.{lie_from_position, is_detected_as_listed}
-use Rattle.ilk_model.specs.Commanded.{is_commanded_as_listed, same_position}
+use Rattle.ilk_routes.specs.Lies.{lie_from_position, is_point_detected_as_listed}
+use Rattle.ilk_model.specs.Commanded.{is_point_commanded_as_listed, same_position}
 use Rattle.ilk_layout.specs.Image.{image_of}
 use Rattle.ilk_layout.specs.Values.{commanded_value}
 use Rattle.ilk_layout.specs.Variables.{ranges_of_plant}
@@ -25,20 +25,20 @@ position-test Minus Plus = refl
 position-test Minus Minus = refl
 
 module _ (p : PlantLists) (s : State) (shape : HasShape p s) where
-  pub is_listed_point_detected-holds : (listed : Listed) → tree_holds (image_of p s) (is_listed_point_detected p listed) ≡ is_detected_as_listed p s listed
+  pub is_listed_point_detected-holds : (listed : Listed) → tree_holds (image_of p s) (is_listed_point_detected p listed) ≡ is_point_detected_as_listed p s listed
   is_listed_point_detected-holds listed = by_number (point_number p listed.point) refl
     where
-      by_number : (o : Option ℕ) → point_number p listed.point ≡ o → tree_holds (image_of p s) (is_listed_point_detected p listed) ≡ is_detected_as_listed p s listed
+      by_number : (o : Option ℕ) → point_number p listed.point ≡ o → tree_holds (image_of p s) (is_listed_point_detected p listed) ≡ is_point_detected_as_listed p s listed
       by_number None e = rw e refl
       by_number (Some n) e =
           let below : n < length s.points = (let known = point_number-below p listed.point in let less = rw e at known in let count = shape.points in omega (arith, less)) in
           let point = item_at s.points n below in
           rw (e, point.1) (at-holds p s shape n point.0 (lie_from_position listed.at) point.1 ∙ lies-test point.0.at listed.at)
 
-  pub is_listed_point_commanded-holds : (listed : Listed) → tree_holds (image_of p s) (is_listed_point_commanded p listed) ≡ is_commanded_as_listed p s listed
+  pub is_listed_point_commanded-holds : (listed : Listed) → tree_holds (image_of p s) (is_listed_point_commanded p listed) ≡ is_point_commanded_as_listed p s listed
   is_listed_point_commanded-holds listed = by_number (point_number p listed.point) refl
     where
-      by_number : (o : Option ℕ) → point_number p listed.point ≡ o → tree_holds (image_of p s) (is_listed_point_commanded p listed) ≡ is_commanded_as_listed p s listed
+      by_number : (o : Option ℕ) → point_number p listed.point ≡ o → tree_holds (image_of p s) (is_listed_point_commanded p listed) ≡ is_point_commanded_as_listed p s listed
       by_number None e = rw e refl
       by_number (Some n) e =
           let below : n < length s.points = (let known = point_number-below p listed.point in let less = rw e at known in let count = shape.points in omega (arith, less)) in

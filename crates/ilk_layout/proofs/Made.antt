@@ -15,7 +15,7 @@ use Rattle.ilk_plant.specs.Once.{numbers_differ}
 use Rattle.ilk_plant.specs.Plant.{IsPlant, PlantLists}
 use Rattle.ilk_plant.specs.Shape.{HasShape, has_nonempty_connected_body}
 use Rattle.ilk_plant.specs.Sound.{IsAcyclic}
-use Rattle.ilk_plant.specs.State.{detected_position}
+use Rattle.ilk_plant.specs.State.{detected_position_in_state}
 use Rattle.ilk_plant.specs.declared.network.Dir.{Dir}
 use Rattle.ilk_plant.specs.declared.network.Dir.TheVariants.{Up, Down}
 use Rattle.ilk_plant.specs.declared.network.Section.{Section}
@@ -28,9 +28,9 @@ use Rattle.ilk_plant.proofs.Once.{numbers_differ-places}
 use Rattle.ilk_plant.proofs.InLists.{section-at}
 use Rattle.ilk_motion.specs.Ahead.{section_led_to}
 use Rattle.ilk_model.specs.Hazard.{are_adjacent_in_body, hazard, is_section_hazardous, has_two_trains, is_wrong_under_train, is_wrong_under_body}
-use Rattle.ilk_layout.specs.Decoded.{previous_body_section, section_behind_in_body, follow_steps, next_body_section, section_ahead_in_body, train_from_tail, trains_from_occupancies}
+use Rattle.ilk_layout.specs.Decoded.{previous_body_section, section_behind_in_body, iterates_until_none, next_body_section, section_ahead_in_body, train_from_tail, trains_from_occupancies}
 use Rattle.ilk_layout.specs.Occupancy.{occupancy_or_crash}
-use Rattle.ilk_layout.specs.Wellformed.{section_ahead, train_in_dir_continues_behind, mutual_section_ahead, occupancy_is_consistent}
+use Rattle.ilk_layout.specs.Wellformed.{section_ahead, has_train_continuing_behind, mutual_section_ahead, occupancy_is_consistent}
 use Rattle.ilk_layout.specs.declared.values.Occupancy.{Occupancy}
 use Rattle.ilk_layout.specs.declared.values.Occupancy.TheVariants.{Vacant, Taken, Crash}
 use Rattle.ilk_layout.proofs.Calm.{no-hazard, occupancy-in, pair-places}
@@ -81,7 +81,7 @@ module _ (p : PlantLists) (plant : IsPlant p) (never : IsAcyclic p) (lie : ℕ �
   on = next_body_section p lie occupancy
 
   abbrev rest-of : ℕ → List ℕ
-  rest-of x = follow_steps (length p.sections) (next_body_section p lie occupancy) x
+  rest-of x = iterates_until_none (length p.sections) (next_body_section p lie occupancy) x
 
   whole : (x : ℕ) (d : Dir) (t h : Bool) → x < length p.sections → occupancy x ≡ Some (Taken d t h) → IsChain (next_body_section p lie occupancy) x (rest-of x)
   whole x d t h within is = chased (length p.sections) (IsTaken p occupancy) (next_body_section p lie occupancy) _ (tracks p plant never lie occupancy fits) x (record { dir = d; tail = t; head = h; within = within; is = is })
@@ -120,7 +120,7 @@ module _ (p : PlantLists) (plant : IsPlant p) (never : IsAcyclic p) (lie : ℕ �
       head-bit false u known there false e = refl
       head-bit false u known there true e =
           let last = chain-last (next_body_section p lie occupancy) a rest k y c at (eqb-true (k + 1) (length (a ∷ rest)) e) in
-          let next = some-and (mutual_section_ahead p lie y d) (λ z. is_some_and (occupancy z) (train_in_dir_continues_behind d)) (demands p plant never lie occupancy fits y d u false known there).1 in
+          let next = some-and (mutual_section_ahead p lie y d) (λ z. is_some_and (occupancy z) (has_train_continuing_behind d)) (demands p plant never lie occupancy fits y d u false known there).1 in
           absurd (none-some next.0 (sym last ∙ ap (section_ahead_in_body p lie y) there ∙ next.1))
       head-bit true u known there false e =
           let within_body = slice_get_within (a ∷ rest) k y at in
@@ -132,7 +132,7 @@ module _ (p : PlantLists) (plant : IsPlant p) (never : IsAcyclic p) (lie : ℕ �
           let is_on = next_body_section-is p lie occupancy y next.0 led in
           (same_taken (sym there ∙ is_on.2)).2
 
-  module _ (s : State) (lies : (x : ℕ) → detected_position p s x ≡ lie x) (trains : s.trains ≡ trains_from_occupancies p lie occupancy) (others : HasShape p (record s { trains = [] })) where
+  module _ (s : State) (lies : (x : ℕ) → detected_position_in_state p s x ≡ lie x) (trains : s.trains ≡ trains_from_occupancies p lie occupancy) (others : HasShape p (record s { trains = [] })) where
     made-at : (i : ℕ) (u : Train) → slice_get s.trains i ≡ Some u →
         (a : ℕ) × (d : Dir) × (h : Bool) × (a < length p.sections) × (occupancy a ≡ Some (Taken d true h)) ×
         (record { dir = d; body = a ∷ rest-of a } ≡ u) ×
@@ -219,10 +219,10 @@ module _ (p : PlantLists) (plant : IsPlant p) (never : IsAcyclic p) (lie : ℕ �
         by_section None e = rw e refl
         by_section (Some (Linear down up b c)) e = rw e refl
         by_section (Some (Point stem plus minus faces)) e =
-            let right : list_any (λ (train : Train). is_wrong_under_body x plus minus (detected_position p s x) train.body) s.trains
+            let right : list_any (λ (train : Train). is_wrong_under_body x plus minus (detected_position_in_state p s x) train.body) s.trains
             ≡ false =
-            none-pass (λ (train : Train). is_wrong_under_body x plus minus (detected_position p s x) train.body) s.trains
-            (λ i u at. made-right i u x stem plus minus faces at e (detected_position p s x) (sym (lies x))) in
+            none-pass (λ (train : Train). is_wrong_under_body x plus minus (detected_position_in_state p s x) train.body) s.trains
+            (λ i u at. made-right i u x stem plus minus faces at e (detected_position_in_state p s x) (sym (lies x))) in
             rw e right
 
     pub made-calm : hazard p s ≡ None

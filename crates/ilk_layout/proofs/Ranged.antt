@@ -14,7 +14,7 @@ use Rattle.ilk_ir.specs.System.{in_ranges}
 use Rattle.ilk_plant.specs.Plant.{IsPlant, PlantLists, point_count}
 use Rattle.ilk_plant.specs.Shape.{HasShape, seen_and_released_fit_path}
 use Rattle.ilk_plant.specs.Sound.{IsAcyclic}
-use Rattle.ilk_plant.specs.State.{detected_position}
+use Rattle.ilk_plant.specs.State.{detected_position_in_state}
 use Rattle.ilk_plant.specs.declared.network.Dir.TheVariants.{Up, Down}
 use Rattle.ilk_plant.specs.declared.network.Position.{Position}
 use Rattle.ilk_plant.specs.declared.network.Position.TheVariants.{Plus, Minus}
@@ -150,7 +150,7 @@ module _ (p : PlantLists) (plant : IsPlant p) (never : IsAcyclic p) where
   image-wellformed s calm =
       all-pass (λ x. occupancy_is_consistent p (detected_in_values p (image_of p s)) (occupancy_in_values p (image_of p s)) x (occupancy_in_values p (image_of p s) x)) (range_with_len 0 (length p.sections)) (λ i x at. (
       let place = range_within (length p.sections) i x at in
-      let lies : detected_position p s ≡ detected_in_values p (image_of p s) = λ j y. sym (lie-read p s (occupancy_values p s) calm.shape y) j in
+      let lies : detected_position_in_state p s ≡ detected_in_values p (image_of p s) = λ j y. sym (lie-read p s (occupancy_values p s) calm.shape y) j in
       let P : (ℕ → Option Lie) → Type 0 = λ lie. occupancy_is_consistent p lie (occupancy_in_values p (image_of p s)) x (occupancy_in_values p (image_of p s) x) ≡ true in
       subst P lies (told-fits p plant never s calm.shape calm.no_hazard (occupancy_in_values p (image_of p s)) (occupancy-read p s calm.shape) x place.1)))
 
@@ -169,7 +169,7 @@ module _ (p : PlantLists) (plant : IsPlant p) (never : IsAcyclic p) where
       let whole : image_with s e ≡ values =
       (λ i. rs.1 i ++ (qs.1 i ++ (bs.1 i ++ (ls.1 i ++ e)))) ∙ sym (one.2 ∙ ap (λ u. one.0 ++ u) (two.2 ∙ ap (λ u. two.0 ++ u) (three.2 ∙ ap (λ u. three.0 ++ u) four.2))) in
       let others : HasShape p (record s { trains = [] }) = record { routes = rs.2; points = qs.2; boards = bs.2; locks = ls.2; counts = rs.3; bodies = refl } in
-      let lies : (x : ℕ) → detected_position p s x ≡ detected_in_values p values x = λ x. sym (lie-read p (record s { trains = [] }) e others x) ∙ ap (λ v. detected_in_values p v x) whole in
+      let lies : (x : ℕ) → detected_position_in_state p s x ≡ detected_in_values p values x = λ x. sym (lie-read p (record s { trains = [] }) e others x) ∙ ap (λ v. detected_in_values p v x) whole in
       let each : (x : ℕ) → x < length p.sections →
       occupancy_is_consistent p (detected_in_values p values) (occupancy_in_values p values) x (occupancy_in_values p values x) ≡ true =
       λ x within. list_all-slice_get

@@ -13,7 +13,7 @@ use Rattle.ilk_plant.specs.Network.{is_point}
 use Rattle.ilk_plant.specs.Plant.{IsPlant, PlantLists, point_count, point_number}
 use Rattle.ilk_plant.specs.Shape.{HasShape}
 use Rattle.ilk_plant.specs.Sound.{IsAcyclic}
-use Rattle.ilk_plant.specs.State.{detected_position}
+use Rattle.ilk_plant.specs.State.{detected_position_in_state}
 use Rattle.ilk_plant.specs.declared.network.Dir.TheVariants.{Up, Down}
 use Rattle.ilk_plant.specs.declared.network.Position.{Position}
 use Rattle.ilk_plant.specs.declared.network.Position.TheVariants.{Plus, Minus}
@@ -164,7 +164,7 @@ number-below p x n e =
     let is = cond_some (is_point section.0) (count_by is_point (take x p.sections)) n section.2 in
     subst (λ k. k < point_count p) is.1 (count_by-take-lt is_point p.sections x section.0 section.1 is.0)
 
-pub lie-read : (p : PlantLists) (s : State) (e : List ℕ) → HasShape p s → (x : ℕ) → detected_in_values p (image_with s e) x ≡ detected_position p s x
+pub lie-read : (p : PlantLists) (s : State) (e : List ℕ) → HasShape p s → (x : ℕ) → detected_in_values p (image_with s e) x ≡ detected_position_in_state p s x
 lie-read p s e shape x = by_number (point_number p x) refl
   where
     by_number : (o : Option ℕ) → point_number p x ≡ o → (o >>= λ n. slice_get (image_with s e) (detected_var p n) >>= λ value. detected_from_value value) ≡ (o >>= λ n. slice_get s.points n >>= λ point. Some point.at)
@@ -185,7 +185,7 @@ occupancy-read p s shape x within =
 
 pub trains-read : (p : PlantLists) → IsPlant p → IsAcyclic p → (s : State) → IsWellFormedAndSafe p s → IsPermutation s.trains (trains_from_values p (image_of p s))
 trains-read p plant never s calm =
-    let lies : detected_position p s ≡ detected_in_values p (image_of p s) = λ i x. sym (lie-read p s (occupancy_values p s) calm.shape x) i in
+    let lies : detected_position_in_state p s ≡ detected_in_values p (image_of p s) = λ i x. sym (lie-read p s (occupancy_values p s) calm.shape x) i in
     let P : (ℕ → Option Lie) → Type 0 = λ lie. IsPermutation s.trains (trains_from_occupancies p lie (occupancy_in_values p (image_of p s))) in
     subst P lies (trains-told p plant never s calm.shape calm.no_hazard (occupancy_in_values p (image_of p s)) (occupancy-read p s calm.shape))
 

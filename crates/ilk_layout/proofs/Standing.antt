@@ -18,7 +18,7 @@ use Rattle.ilk_plant.specs.declared.state.Train.{Train}
 use Rattle.ilk_plant.proofs.InLists.{section-at}
 use Rattle.ilk_model.proofs.SharedSections.{has_more}
 use Rattle.ilk_layout.specs.Occupancy.{occupancy_or_crash}
-use Rattle.ilk_layout.specs.Standing.{occupancy_after_adding_at_index, occupancy_after_adding_on_sections, AreOccupanciesAfterAdding}
+use Rattle.ilk_layout.specs.Standing.{occupancy_after_adding_at_index, section_occupancy_after_adding, AreOccupanciesAfterAdding}
 use Rattle.ilk_layout.specs.declared.values.Occupancy.{Occupancy}
 use Rattle.ilk_layout.specs.declared.values.Occupancy.TheVariants.{Vacant}
 use Rattle.ilk_layout.proofs.Bodies.{first-at, last-at}
@@ -43,14 +43,14 @@ not-yet body i x once at =
 pub begun : (p : PlantLists) (s : State) (train : Train) (before : List Occupancy) → AreOccupanciesAfterAdding p s train (take 0 train.body) before before
 begun p s train before x = same train.body (slice_get before x)
   where
-    same : (body : List ℕ) (o : Option Occupancy) → o ≡ option_map (occupancy_after_adding_on_sections p s train (take 0 body) x) o
+    same : (body : List ℕ) (o : Option Occupancy) → o ≡ option_map (section_occupancy_after_adding p s train (take 0 body) x) o
     same [] None = refl
     same (y ∷ body) None = refl
     same [] (Some u) = refl
     same (y ∷ body) (Some u) = refl
 
-gone_same : (p : PlantLists) (s : State) (train : Train) (g h : List ℕ) (y : ℕ) → contains_section y g ≡ contains_section y h → (o : Option Occupancy) → option_map (occupancy_after_adding_on_sections p s train
-    g y) o ≡ option_map (occupancy_after_adding_on_sections p s train h y) o
+gone_same : (p : PlantLists) (s : State) (train : Train) (g h : List ℕ) (y : ℕ) → contains_section y g ≡ contains_section y h → (o : Option Occupancy) → option_map (section_occupancy_after_adding p s train
+    g y) o ≡ option_map (section_occupancy_after_adding p s train h y) o
 gone_same p s train g h y same None = refl
 gone_same p s train g h y same (Some u) = rw same refl
 
@@ -62,7 +62,7 @@ pub gone_on :
 gone_on p s train i x u before now once at here with_front y =
     elim (cases_eq x y) [
       | inl same ↦
-          (let P : ℕ → Type 0 = λ v. slice_get (set now x (occupancy_after_adding_at_index p s train x i u)) v ≡ option_map (occupancy_after_adding_on_sections p s train (take (i + 1) train.body) v) (slice_get before v) in
+          (let P : ℕ → Type 0 = λ v. slice_get (set now x (occupancy_after_adding_at_index p s train x i u)) v ≡ option_map (section_occupancy_after_adding p s train (take (i + 1) train.body) v) (slice_get before v) in
           subst P same (slice_get-set_same now x (occupancy_after_adding_at_index p s train x i u) (slice_get_within now x u here) ∙ mine (slice_get before x) (sym here ∙ with_front x)))
       | inr other ↦
           slice_get-set_other now x y (occupancy_after_adding_at_index p s train x i u) other ∙ with_front y
@@ -83,7 +83,7 @@ gone_on p s train i x u before now once at here with_front y =
         or_true true = refl
         or_true false = refl
 
-    mine : (o : Option Occupancy) → Some u ≡ option_map (occupancy_after_adding_on_sections p s train (take i train.body) x) o → Some (occupancy_after_adding_at_index p s train x i u) ≡ option_map (occupancy_after_adding_on_sections p s
+    mine : (o : Option Occupancy) → Some u ≡ option_map (section_occupancy_after_adding p s train (take i train.body) x) o → Some (occupancy_after_adding_at_index p s train x i u) ≡ option_map (section_occupancy_after_adding p s
         train (take (i + 1) train.body) x) o
     mine None e = cc
     mine (Some w) e =
@@ -105,12 +105,12 @@ train_added p s ts t before now is added = same_by_slice_get now (map (occupancy
 
     at : (x : ℕ) → slice_get now x ≡ slice_get (map (occupancy_or_crash p (with_trains s (ts ++ t ∷ []))) (range_with_len 0 (length p.sections))) x
     at x =
-        added x ∙ ap (λ l. option_map (occupancy_after_adding_on_sections p s t t.body x) (slice_get l x)) is
-        ∙ ap (option_map (occupancy_after_adding_on_sections p s t t.body x)) (slice_get-map (occupancy_or_crash p (with_trains s ts)) (range_with_len 0 (length p.sections)) x)
+        added x ∙ ap (λ l. option_map (section_occupancy_after_adding p s t t.body x) (slice_get l x)) is
+        ∙ ap (option_map (section_occupancy_after_adding p s t t.body x)) (slice_get-map (occupancy_or_crash p (with_trains s ts)) (range_with_len 0 (length p.sections)) x)
         ∙ elim (below_or_past x (length p.sections)) [
           | inl below ↦ (let number = range-at (length p.sections) x below in
               ap
-              (λ o. option_map (occupancy_after_adding_on_sections p s t t.body x)
+              (λ o. option_map (section_occupancy_after_adding p s t t.body x)
               (option_map (occupancy_or_crash p (with_trains s ts)) o)) number
               ∙ ap Some (sym (occupancy-more p s ts t x))
               ∙ sym
@@ -119,7 +119,7 @@ train_added p s ts t before now is added = same_by_slice_get now (map (occupancy
               ∙ ap (option_map (occupancy_or_crash p (with_trains s (ts ++ t ∷ [])))) number))
           | inr past ↦ (let none : slice_get (range_with_len 0 (length p.sections)) x ≡ None = slice_get_past (range_with_len 0 (length p.sections)) x (let long = length-range_with_len 0 (length p.sections) in omega arith) in
               ap
-              (λ o. option_map (occupancy_after_adding_on_sections p s t t.body x)
+              (λ o. option_map (section_occupancy_after_adding p s t t.body x)
               (option_map (occupancy_or_crash p (with_trains s ts)) o)) none
               ∙ sym
               (slice_get-map (occupancy_or_crash p (with_trains s (ts ++ t ∷ [])))

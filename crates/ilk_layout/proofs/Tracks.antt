@@ -12,9 +12,9 @@ use Rattle.ilk_plant.specs.Sound.{IsAcyclic}
 use Rattle.ilk_plant.specs.declared.network.Dir.{Dir}
 use Rattle.ilk_plant.specs.declared.state.Lie.{Lie}
 use Rattle.ilk_plant.proofs.Alike.{one_direction}
-use Rattle.ilk_routes.specs.Lies.{is_detected_moving}
+use Rattle.ilk_routes.specs.Lies.{is_lie_moving}
 use Rattle.ilk_layout.specs.Decoded.{previous_body_section, section_behind_in_body, next_body_section, section_ahead_in_body}
-use Rattle.ilk_layout.specs.Wellformed.{train_in_dir_continues_ahead, train_in_dir_continues_behind, mutual_section_ahead, occupancy_is_consistent}
+use Rattle.ilk_layout.specs.Wellformed.{has_train_continuing_ahead, has_train_continuing_behind, mutual_section_ahead, occupancy_is_consistent}
 use Rattle.ilk_layout.specs.declared.values.Occupancy.{Occupancy}
 use Rattle.ilk_layout.specs.declared.values.Occupancy.TheVariants.{Vacant, Taken, Crash}
 use Rattle.ilk_layout.proofs.Chains.{GoesBack, IsWalk}
@@ -30,7 +30,7 @@ pub record IsTaken (p : PlantLists) (occupancy : ℕ → Option Occupancy) (x : 
 pub same_taken : {d e : Dir} {t u h k : Bool} → Some (Taken d t h) ≡ Some (Taken e u k) → (d ≡ e) × (t ≡ u) × (h ≡ k)
 same_taken e = (cc, cc, cc)
 
-more-behind : (d : Dir) (o : Occupancy) → train_in_dir_continues_behind d o ≡ true → (head : Bool) × (o ≡ Taken d false head)
+more-behind : (d : Dir) (o : Occupancy) → has_train_continuing_behind d o ≡ true → (head : Bool) × (o ≡ Taken d false head)
 more-behind d Vacant h = cc
 more-behind d Crash h = cc
 more-behind d (Taken e tail head) h =
@@ -39,7 +39,7 @@ more-behind d (Taken e tail head) h =
     let no_tail : tail ≡ false = not-true tail parts.1 in
     (head, ap (λ v. Taken v tail head) same ∙ ap (λ t. Taken d t head) no_tail)
 
-more-ahead : (d : Dir) (o : Occupancy) → train_in_dir_continues_ahead d o ≡ true → (tail : Bool) × (o ≡ Taken d tail false)
+more-ahead : (d : Dir) (o : Occupancy) → has_train_continuing_ahead d o ≡ true → (tail : Bool) × (o ≡ Taken d tail false)
 more-ahead d Vacant h = cc
 more-ahead d Crash h = cc
 more-ahead d (Taken e tail head) h =
@@ -72,12 +72,12 @@ module _ (p : PlantLists) (lie : ℕ → Option Lie) (occupancy : ℕ → Option
 module _ (p : PlantLists) (plant : IsPlant p) (never : IsAcyclic p) (lie : ℕ → Option Lie) (occupancy : ℕ → Option Occupancy) (fits : (x : ℕ) → x < length p.sections → occupancy_is_consistent p lie occupancy x (occupancy x) ≡ true) where
   pub demands : (x : ℕ) (d : Dir) (tail head : Bool) → x < length p.sections →
       occupancy x ≡ Some (Taken d tail head) →
-      (not (is_some_and (lie x) is_detected_moving) ≡ true) ×
-      ((head || is_some_and (mutual_section_ahead p lie x d) (λ y. is_some_and (occupancy y) (train_in_dir_continues_behind d)))
+      (not (is_some_and (lie x) is_lie_moving) ≡ true) ×
+      ((head || is_some_and (mutual_section_ahead p lie x d) (λ y. is_some_and (occupancy y) (has_train_continuing_behind d)))
       ≡ true) ×
       ((tail
       || is_some_and (mutual_section_ahead p lie x (opposite_direction d))
-      (λ y. is_some_and (occupancy y) (train_in_dir_continues_ahead d))) ≡ true)
+      (λ y. is_some_and (occupancy y) (has_train_continuing_ahead d))) ≡ true)
   demands x d tail head within is =
       let P : Option Occupancy → Type 0 = λ o. occupancy_is_consistent p lie occupancy x o ≡ true in
       let all = subst P is (fits x within) in
@@ -92,8 +92,8 @@ module _ (p : PlantLists) (plant : IsPlant p) (never : IsAcyclic p) (lie : ℕ �
   step-forth x y within e =
       let at : (d : Dir) × (tail : Bool) × (occupancy x ≡ Some (Taken d tail false)) × (mutual_section_ahead p lie x d ≡ Some y) = next_body_section-is p lie occupancy x y e in
       let d = at.0 in
-      let next = some-and (mutual_section_ahead p lie x d) (λ z. is_some_and (occupancy z) (train_in_dir_continues_behind d)) (demands x d at.1 false within at.2).1 in
-      let o = some-and (occupancy next.0) (train_in_dir_continues_behind d) next.2 in
+      let next = some-and (mutual_section_ahead p lie x d) (λ z. is_some_and (occupancy z) (has_train_continuing_behind d)) (demands x d at.1 false within at.2).1 in
+      let o = some-and (occupancy next.0) (has_train_continuing_behind d) next.2 in
       let behind = more-behind d o.0 o.2 in
       let same : next.0 ≡ y = same_Some next.0 y (sym next.1 ∙ at.3) in
       let beside = ahead-neighbours_on p lie x y d (joined-parts p lie x y d at.3).0 in
@@ -107,8 +107,8 @@ module _ (p : PlantLists) (plant : IsPlant p) (never : IsAcyclic p) (lie : ℕ �
   step-back x y within e =
       let at : (d : Dir) × (head : Bool) × (occupancy x ≡ Some (Taken d false head)) × (mutual_section_ahead p lie x (opposite_direction d) ≡ Some y) = previous_body_section-is p lie occupancy x y e in
       let d = at.0 in
-      let before = some-and (mutual_section_ahead p lie x (opposite_direction d)) (λ z. is_some_and (occupancy z) (train_in_dir_continues_ahead d)) (demands x d false at.1 within at.2).2 in
-      let o = some-and (occupancy before.0) (train_in_dir_continues_ahead d) before.2 in
+      let before = some-and (mutual_section_ahead p lie x (opposite_direction d)) (λ z. is_some_and (occupancy z) (has_train_continuing_ahead d)) (demands x d false at.1 within at.2).2 in
+      let o = some-and (occupancy before.0) (has_train_continuing_ahead d) before.2 in
       let ahead = more-ahead d o.0 o.2 in
       let same : before.0 ≡ y = same_Some before.0 y (sym before.1 ∙ at.3) in
       let beside = ahead-neighbours_on p lie x y (opposite_direction d) (joined-parts p lie x y (opposite_direction d) at.3).0 in

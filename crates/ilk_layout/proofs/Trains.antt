@@ -9,7 +9,7 @@ use Rattle.std.proofs.lemmas.List.Sums.{sum_by-append, sum_by-cons}
 use Rattle.ilk_base.proofs.Once.{EachOnce}
 use Rattle.ilk_plant.specs.Network.{contains_section}
 use Rattle.ilk_plant.specs.Plant.{PlantLists}
-use Rattle.ilk_plant.specs.State.{detected_position}
+use Rattle.ilk_plant.specs.State.{detected_position_in_state}
 use Rattle.ilk_plant.specs.declared.network.Section.{Section}
 use Rattle.ilk_plant.specs.declared.network.Section.TheVariants.{Linear, Point}
 use Rattle.ilk_plant.specs.declared.state.Lie.{Lie}
@@ -20,7 +20,7 @@ use Rattle.ilk_plant.proofs.InLists.{section-from}
 use Rattle.ilk_model.specs.Hazard.{is_section_hazardous, is_wrong_under_train, is_wrong_under_body}
 use Rattle.ilk_model.proofs.Straying.{is_wrong_under_body-has}
 use Rattle.ilk_layout.specs.Occupancy.{occupancy_or_crash, occupancy_by_train, occupancy_by_train_if_any}
-use Rattle.ilk_layout.specs.Standing.{is_vacant_occupancy, is_point_wrong_between, is_point_wrong_under, section_before_index, occupancy_after_adding_on_sections}
+use Rattle.ilk_layout.specs.Standing.{is_vacant_occupancy, is_point_wrong_between, is_point_wrong_under, section_before_index, section_occupancy_after_adding}
 use Rattle.ilk_layout.specs.declared.values.Occupancy.TheVariants.{Crash}
 use Rattle.ilk_layout.proofs.Bodies.{pair-at}
 
@@ -30,12 +30,12 @@ wrong-has p s x body h = by_section (slice_get p.sections x) refl
     by_section : (o : Option Section) → slice_get p.sections x ≡ o → contains_section x body ≡ true
     by_section None e = absurd (false≢true (rw e at h))
     by_section (Some (Linear down up b c)) e = absurd (false≢true (rw e at h))
-    by_section (Some (Point stem plus minus faces)) e = is_wrong_under_body-has x plus minus (detected_position p s x) body (rw e at h)
+    by_section (Some (Point stem plus minus faces)) e = is_wrong_under_body-has x plus minus (detected_position_in_state p s x) body (rw e at h)
 
 pub wrong-at : (p : PlantLists) (s : State) (body : List ℕ) (i x : ℕ) → EachOnce body → slice_get body i ≡ Some x → is_point_wrong_under p s x body ≡ is_point_wrong_between p s x (section_before_index body i) (slice_get body (i + 1))
-wrong-at p s body i x once at = by_section (slice_get p.sections x) refl (detected_position p s x) refl
+wrong-at p s body i x once at = by_section (slice_get p.sections x) refl (detected_position_in_state p s x) refl
   where
-    by_section : (o : Option Section) → slice_get p.sections x ≡ o → (l : Option Lie) → detected_position p s x ≡ l → is_point_wrong_under p s x body ≡ is_point_wrong_between p s x (section_before_index body i) (slice_get body (i + 1))
+    by_section : (o : Option Section) → slice_get p.sections x ≡ o → (l : Option Lie) → detected_position_in_state p s x ≡ l → is_point_wrong_under p s x body ≡ is_point_wrong_between p s x (section_before_index body i) (slice_get body (i + 1))
     by_section None e l f = rw e refl
     by_section (Some (Linear down up b c)) e l f = rw e refl
     by_section (Some (Point stem plus minus faces)) e None f = rw (e, f) refl
@@ -57,11 +57,11 @@ wrong-more p s ts t x = by_section (slice_get p.sections x) refl
     by_section (Some (Linear down up b c)) e = rw e refl
     by_section (Some (Point stem plus minus faces)) e =
         rw e
-        (list_any-append (λ (train : Train). is_wrong_under_body x plus minus (detected_position p s x) train.body) ts (t ∷ [])
+        (list_any-append (λ (train : Train). is_wrong_under_body x plus minus (detected_position_in_state p s x) train.body) ts (t ∷ [])
         ∙ ap
-        (λ b. list_any (λ (train : Train). is_wrong_under_body x plus minus (detected_position p s x) train.body) ts
+        (λ b. list_any (λ (train : Train). is_wrong_under_body x plus minus (detected_position_in_state p s x) train.body) ts
         || b)
-        (or-false (is_wrong_under_body x plus minus (detected_position p s x) t.body)))
+        (or-false (is_wrong_under_body x plus minus (detected_position_in_state p s x) t.body)))
 
 pub wrong-none : (p : PlantLists) (s : State) (ts : List Train) (x : ℕ) → list_any (has_x x) ts ≡ false → is_wrong_under_train p (with_trains s ts) x ≡ false
 wrong-none p s ts x none = by_section (slice_get p.sections x) refl
@@ -79,7 +79,7 @@ wrong-none p s ts x none = by_section (slice_get p.sections x) refl
     by_section : (o : Option Section) → slice_get p.sections x ≡ o → is_wrong_under_train p (with_trains s ts) x ≡ false
     by_section None e = rw e refl
     by_section (Some (Linear down up b c)) e = rw e refl
-    by_section (Some (Point stem plus minus faces)) e = rw e (each ts plus minus (detected_position p s x) none)
+    by_section (Some (Point stem plus minus faces)) e = rw e (each ts plus minus (detected_position_in_state p s x) none)
 
 count-more : (p : Train → Bool) (ts : List Train) (t : Train) → count_by p (ts ++ t ∷ []) ≡ count_by p ts + cond (p t) 1 0
 count-more p ts t = sum_by-append (λ u. cond (p u) 1 0) ts (t ∷ []) ∙ (let one : sum_by (λ u. cond (p u) 1 0) (t ∷ []) ≡ cond (p t) 1 0 = sum_by-cons (λ u. cond (p u) 1 0) t [] ∙ omega arith in ap (λ n. count_by p ts + n) one)
@@ -119,7 +119,7 @@ find-other-more : (p : Train → Bool) (ts : List Train) (t : Train) → p t ≡
 find-other-more p [] t away = rw away refl
 find-other-more p (u ∷ ts) t away = ap (cond (p u) (Some u)) (find-other-more p ts t away)
 
-pub occupancy-more : (p : PlantLists) (s : State) (ts : List Train) (t : Train) (x : ℕ) → occupancy_or_crash p (with_trains s (ts ++ t ∷ [])) x ≡ occupancy_after_adding_on_sections p s t t.body x (occupancy_or_crash p (with_trains s ts) x)
+pub occupancy-more : (p : PlantLists) (s : State) (ts : List Train) (t : Train) (x : ℕ) → occupancy_or_crash p (with_trains s (ts ++ t ∷ [])) x ≡ section_occupancy_after_adding p s t t.body x (occupancy_or_crash p (with_trains s ts) x)
 occupancy-more p s ts t x =
     elim (cases_Bool (contains_section x t.body)) [
       | inl has ↦ elim (cases_Bool (list_any (has_x x) ts)) [ inl some ↦ second has some | inr none ↦ first has none ]
@@ -129,7 +129,7 @@ occupancy-more p s ts t x =
     count : count_by (has_x x) (ts ++ t ∷ []) ≡ count_by (has_x x) ts + cond (contains_section x t.body) 1 0
     count = count-more (has_x x) ts t
 
-    other : contains_section x t.body ≡ false → occupancy_or_crash p (with_trains s (ts ++ t ∷ [])) x ≡ occupancy_after_adding_on_sections p s t t.body x (occupancy_or_crash p (with_trains s ts) x)
+    other : contains_section x t.body ≡ false → occupancy_or_crash p (with_trains s (ts ++ t ∷ [])) x ≡ section_occupancy_after_adding p s t t.body x (occupancy_or_crash p (with_trains s ts) x)
     other away =
         let none : ◌≡◌ {A = ℕ} (cond (contains_section x t.body) 1 0) 0 = ap (λ b. cond b 1 0) away in
         let same : count_by (has_x x) (ts ++ t ∷ []) ≡ count_by (has_x x) ts = omega (arith, count, none) in
@@ -139,7 +139,7 @@ occupancy-more p s ts t x =
         let found : find (has_x x) (ts ++ t ∷ []) ≡ find (has_x x) ts = find-other-more (has_x x) ts t away in
         rw (same, wrong, found, away) refl
 
-    first : contains_section x t.body ≡ true → list_any (has_x x) ts ≡ false → occupancy_or_crash p (with_trains s (ts ++ t ∷ [])) x ≡ occupancy_after_adding_on_sections p s t t.body x (occupancy_or_crash p (with_trains s ts) x)
+    first : contains_section x t.body ≡ true → list_any (has_x x) ts ≡ false → occupancy_or_crash p (with_trains s (ts ++ t ∷ [])) x ≡ section_occupancy_after_adding p s t t.body x (occupancy_or_crash p (with_trains s ts) x)
     first has none =
         let one : ◌≡◌ {A = ℕ} (cond (contains_section x t.body) 1 0) 1 = ap (λ b. cond b 1 0) has in
         let zero_before : count_by (has_x x) ts ≡ 0 = count-none (has_x x) ts none in
@@ -154,7 +154,7 @@ occupancy-more p s ts t x =
         turned true = refl
         turned false = refl
 
-    second : contains_section x t.body ≡ true → list_any (has_x x) ts ≡ true → occupancy_or_crash p (with_trains s (ts ++ t ∷ [])) x ≡ occupancy_after_adding_on_sections p s t t.body x (occupancy_or_crash p (with_trains s ts) x)
+    second : contains_section x t.body ≡ true → list_any (has_x x) ts ≡ true → occupancy_or_crash p (with_trains s (ts ++ t ∷ [])) x ≡ section_occupancy_after_adding p s t t.body x (occupancy_or_crash p (with_trains s ts) x)
     second has some =
         let one : ◌≡◌ {A = ℕ} (cond (contains_section x t.body) 1 0) 1 = ap (λ b. cond b 1 0) has in
         let before : 0 < count_by (has_x x) ts = count-some (has_x x) ts some in

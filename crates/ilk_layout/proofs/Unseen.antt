@@ -11,10 +11,10 @@ use Rattle.ilk_base.proofs.Once.{EachOnce}
 use Rattle.ilk_base.proofs.Positions.{is_some-position, position-at}
 use Rattle.ilk_base.proofs.Tested.{All-tested, list_all-from_All}
 use Rattle.ilk_plant.specs.Network.{contains_section}
-use Rattle.ilk_plant.specs.Plant.{IsPlant, PlantLists, board_of, section_inward_if_border, point_number}
+use Rattle.ilk_plant.specs.Plant.{IsPlant, PlantLists, board_of, inward_direction_if_border, point_number}
 use Rattle.ilk_plant.specs.Shape.{has_nonempty_connected_body}
 use Rattle.ilk_plant.specs.Sound.{IsAcyclic}
-use Rattle.ilk_plant.specs.State.{has_lock_state, is_unlocked_and_vacant, is_occupied, detected_position}
+use Rattle.ilk_plant.specs.State.{has_lock_state, is_unlocked_and_vacant, is_occupied, detected_position_in_state}
 use Rattle.ilk_plant.specs.declared.network.Section.{Section}
 use Rattle.ilk_plant.specs.declared.network.Section.TheVariants.{Linear, Point}
 use Rattle.ilk_plant.specs.declared.state.Aspect.TheVariants.{Closed}
@@ -158,7 +158,7 @@ module _ (p : PlantLists) (plant : IsPlant p) (never : IsAcyclic p) (s : State) 
           by_section : (o : Option Section) → slice_get p.sections x ≡ o → is_wrong_under_train p t x ≡ is_wrong_under_train p s x
           by_section None e = rw e refl
           by_section (Some (Linear down up b c)) e = rw e refl
-          by_section (Some (Point stem plus minus faces)) e = rw e (list_any-IsPermutation (λ (u : Train). is_wrong_under_body x plus minus (detected_position p s x) u.body) ts s.trains (IsPermutation-sym s.trains ts order))
+          by_section (Some (Point stem plus minus faces)) e = rw e (list_any-IsPermutation (λ (u : Train). is_wrong_under_body x plus minus (detected_position_in_state p s x) u.body) ts s.trains (IsPermutation-sym s.trains ts order))
 
   pub still-calm : IsWellFormedAndSafe p t
   still-calm = record {
@@ -215,7 +215,7 @@ module _ (p : PlantLists) (plant : IsPlant p) (never : IsAcyclic p) (s : State) 
   unseen (Throw x) = unseen-bind (point_number p x) _ _ (λ n. unseen-bind (slice_get s.points n) _ _ (λ point. unseen-if _ _ _ _ refl (reordered _ ts order)))
   unseen (Settle x) = unseen-bind (point_number p x) _ _ (λ n. unseen-bind (slice_get s.points n) _ _ (λ point. unseen-if _ _ _ _ refl (reordered _ ts order)))
   unseen (Enter x) =
-      unseen-bind (section_inward_if_border p x) _ _ (λ inward. unseen-if _ _ _ _ (ap (λ f. f x) (sym clear-same))
+      unseen-bind (inward_direction_if_border p x) _ _ (λ inward. unseen-if _ _ _ _ (ap (λ f. f x) (sym clear-same))
       (record { routes = refl; points = refl; boards = refl; locks = refl; trains = IsPermutation-append_left (new_train_on x inward ∷ []) s.trains ts order }))
   unseen (Head x) =
       unseen-found x (has_head_at x) (head-has x) _ _ (λ i j u at also. unseen-bind (ahead p s x u.dir) _ _ (λ y.

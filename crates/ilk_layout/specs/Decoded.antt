@@ -17,9 +17,9 @@ optional_first_then_followers rest (Some y) = y ∷ rest y
 
 -- Returns at most `k` numbers after `x`: `step x`, `step` of that, and so on until `step` gives
 -- `None`.
-abbrev pub follow_steps : ℕ → (ℕ → Option ℕ) → ℕ → List ℕ
-follow_steps zero step x = []
-follow_steps (suc k) step x = optional_first_then_followers (follow_steps k step) (step x)
+abbrev pub iterates_until_none : ℕ → (ℕ → Option ℕ) → ℕ → List ℕ
+iterates_until_none zero step x = []
+iterates_until_none (suc k) step x = optional_first_then_followers (iterates_until_none k step) (step x)
 
 -- Returns the next section towards the head, in the body of the train on `x`. Returns `None` if the
 -- head is at `x`, or no train is.
@@ -52,7 +52,7 @@ abbrev pub train_from_tail : PlantLists → (ℕ → Option Lie) → (ℕ → Op
 train_from_tail p lie occupancy x None = None
 train_from_tail p lie occupancy x (Some Vacant) = None
 train_from_tail p lie occupancy x (Some Crash) = None
-train_from_tail p lie occupancy x (Some (Taken d true head)) = Some (record { dir = d; body = x ∷ follow_steps (length p.sections) (next_body_section p lie occupancy) x })
+train_from_tail p lie occupancy x (Some (Taken d true head)) = Some (record { dir = d; body = x ∷ iterates_until_none (length p.sections) (next_body_section p lie occupancy) x })
 train_from_tail p lie occupancy x (Some (Taken d false head)) = None
 
 -- Returns the trains, in ascending order of the sections of their tails.

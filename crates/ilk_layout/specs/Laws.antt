@@ -41,8 +41,8 @@ pub record AreImageOfSafeState (p : PlantLists) (values : List ℕ) : Type 0 whe
 
 -- Values in range are well-formed if and only if they are the image of a well-formed state without
 -- hazard.
-abbrev pub WellformedIffImage : PlantLists → Type 0
-WellformedIffImage p = (values : List ℕ) → IsTrue (in_ranges values (ranges_of_plant p)) → IsTrue (is_wellformed p values) ↔ AreImageOfSafeState p values
+abbrev pub WellformedIffSafeStateImage : PlantLists → Type 0
+WellformedIffSafeStateImage p = (values : List ℕ) → IsTrue (in_ranges values (ranges_of_plant p)) → IsTrue (is_wellformed p values) ↔ AreImageOfSafeState p values
 
 -- Holds if both states are `None`, or if both exist and differ only in the order of trains.
 abbrev pub DifferInTrainOrderIfAny : Option State → Option State → Type 0

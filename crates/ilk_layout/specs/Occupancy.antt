@@ -10,14 +10,14 @@ use Rattle.ilk_layout.specs.declared.values.Occupancy.{Occupancy}
 use Rattle.ilk_layout.specs.declared.values.Occupancy.TheVariants.{Vacant, Taken, Crash}
 
 -- Returns whether `x` is the first of these sections.
-abbrev pub is_first : ℕ → List ℕ → Bool
-is_first x [] = false
-is_first x (y ∷ rest) = y == x
+abbrev pub is_first_section : ℕ → List ℕ → Bool
+is_first_section x [] = false
+is_first_section x (y ∷ rest) = y == x
 
 -- Returns the occupancy of `x` by this train: its direction, and whether its tail and its head are
 -- at `x`.
 abbrev pub occupancy_by_train : ℕ → Train → Occupancy
-occupancy_by_train x train = Taken train.dir (is_first x train.body) (is_last_section x train.body)
+occupancy_by_train x train = Taken train.dir (is_first_section x train.body) (is_last_section x train.body)
 
 -- Returns the occupancy of `x` by this train, or `Vacant` if there is no train.
 abbrev pub occupancy_by_train_if_any : ℕ → Option Train → Occupancy

@@ -3,7 +3,7 @@ use Rattle.std.specs.Prelude.{ℕ, ◌+◌, ◌-◌, ◌≡◌, Bool, true, fals
 use Rattle.ilk_base.specs.Option.{is_some_and}
 use Rattle.ilk_plant.specs.Network.{contains_section}
 use Rattle.ilk_plant.specs.Plant.{PlantLists}
-use Rattle.ilk_plant.specs.State.{detected_position}
+use Rattle.ilk_plant.specs.State.{detected_position_in_state}
 use Rattle.ilk_plant.specs.declared.network.Section.{Section}
 use Rattle.ilk_plant.specs.declared.network.Section.TheVariants.{Linear, Point}
 use Rattle.ilk_plant.specs.declared.state.Lie.{Lie}
@@ -22,8 +22,8 @@ is_vacant_occupancy (Taken d tail head) = false
 is_vacant_occupancy Crash = false
 
 -- Returns whether section `y` is one of the two sections `before` and `after`.
-abbrev pub equals_before_or_after : ℕ → Option ℕ → Option ℕ → Bool
-equals_before_or_after y before after = is_some_and before (λ z. z == y) || is_some_and after (λ z. z == y)
+abbrev pub is_section_before_or_after : ℕ → Option ℕ → Option ℕ → Bool
+is_section_before_or_after y before after = is_some_and before (λ z. z == y) || is_some_and after (λ z. z == y)
 
 -- Returns whether the point on `x` is wrong for a train: it is moving, or `before` or `after`, the
 -- train's sections next to `x`, is the leg for which it isn't set.
@@ -33,13 +33,13 @@ is_point_wrong_between p s x before after = by_section (slice_get p.sections x)
     by_lie : ℕ → ℕ → Option Lie → Bool
     by_lie plus minus None = false
     by_lie plus minus (Some Moving) = true
-    by_lie plus minus (Some Plus) = equals_before_or_after minus before after
-    by_lie plus minus (Some Minus) = equals_before_or_after plus before after
+    by_lie plus minus (Some Plus) = is_section_before_or_after minus before after
+    by_lie plus minus (Some Minus) = is_section_before_or_after plus before after
 
     by_section : Option Section → Bool
     by_section None = false
     by_section (Some (Linear down up board_down board_up)) = false
-    by_section (Some (Point stem plus minus faces)) = by_lie plus minus (detected_position p s x)
+    by_section (Some (Point stem plus minus faces)) = by_lie plus minus (detected_position_in_state p s x)
 
 -- Returns the section before index `i` of a body. Returns `None` if there is none.
 abbrev pub section_before_index : List ℕ → ℕ → Option ℕ
@@ -60,12 +60,12 @@ is_point_wrong_under p s x body = by_section (slice_get p.sections x)
     by_section : Option Section → Bool
     by_section None = false
     by_section (Some (Linear down up board_down board_up)) = false
-    by_section (Some (Point stem plus minus faces)) = is_wrong_under_body x plus minus (detected_position p s x) body
+    by_section (Some (Point stem plus minus faces)) = is_wrong_under_body x plus minus (detected_position_in_state p s x) body
 
 -- Returns the occupancy of `x`, which was `before`, after `train` is added on the sections `gone`,
 -- a part of its body.
-abbrev pub occupancy_after_adding_on_sections : PlantLists → State → Train → List ℕ → ℕ → Occupancy → Occupancy
-occupancy_after_adding_on_sections p s train gone x before =
+abbrev pub section_occupancy_after_adding : PlantLists → State → Train → List ℕ → ℕ → Occupancy → Occupancy
+section_occupancy_after_adding p s train gone x before =
     if contains_section x gone
     then (if is_vacant_occupancy before && not (is_point_wrong_under p s x train.body) then occupancy_by_train x train else Crash)
     else before
@@ -73,4 +73,4 @@ occupancy_after_adding_on_sections p s train gone x before =
 -- Holds if adding `train` on the sections `gone`, a part of its body, changes the occupancies
 -- `before` to `now`.
 abbrev pub AreOccupanciesAfterAdding : PlantLists → State → Train → List ℕ → List Occupancy → List Occupancy → Type 0
-AreOccupanciesAfterAdding p s train gone before now = (x : ℕ) → slice_get now x ≡ option_map (occupancy_after_adding_on_sections p s train gone x) (slice_get before x)
+AreOccupanciesAfterAdding p s train gone before now = (x : ℕ) → slice_get now x ≡ option_map (section_occupancy_after_adding p s train gone x) (slice_get before x)

@@ -55,12 +55,12 @@ occupancy_value (Taken Down true true) = 8
 occupancy_value Crash = 9
 
 -- Returns the first value of `all` that has this number. Returns `None` if there is none.
-abbrev pub first_with_value : {A : Type 0} → (A → ℕ) → List A → ℕ → Option A
-first_with_value value_of all number = find (λ a. value_of a == number) all
+abbrev pub first_value_with_number : {A : Type 0} → (A → ℕ) → List A → ℕ → Option A
+first_value_with_number value_of all number = find (λ a. value_of a == number) all
 
 -- Returns the detected position with this number. Returns `None` if there is none.
 abbrev pub detected_from_value : ℕ → Option Lie
-detected_from_value = first_with_value detected_value (LiesPlus ∷ LiesMinus ∷ Moving ∷ [])
+detected_from_value = first_value_with_number detected_value (LiesPlus ∷ LiesMinus ∷ Moving ∷ [])
 
 abbrev pub all_occupancies : List Occupancy
 all_occupancies =
@@ -69,4 +69,4 @@ all_occupancies =
 
 -- Returns the occupancy with this number. Returns `None` if there is none.
 abbrev pub occupancy_from_value : ℕ → Option Occupancy
-occupancy_from_value = first_with_value occupancy_value all_occupancies
+occupancy_from_value = first_value_with_number occupancy_value all_occupancies

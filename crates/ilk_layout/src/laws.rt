@@ -1,6 +1,6 @@
 //! Theorems about images.
 
-ghost use Rattle.ilk_layout.specs.Laws.{ImagesAreInRange, ImagesDetermineExceptTrainOrder, EventsIgnoreTrainOrder, WellformedIffImage};
+ghost use Rattle.ilk_layout.specs.Laws.{ImagesAreInRange, ImagesDetermineExceptTrainOrder, EventsIgnoreTrainOrder, WellformedIffSafeStateImage};
 
 use ilk_plant::Plant;
 
@@ -24,8 +24,8 @@ pub fn images_determine_except_train_order(plant: &Plant)
 /// Values in range are well-formed if and only if they are the image of a well-formed state without
 /// hazard. In well-formed values the occupancy of each section fits its neighbours. Proof only; no
 /// run-time effect.
-pub fn wellformed_iff_image(plant: &Plant)
-    ensures { WellformedIffImage plant.now }
+pub fn wellformed_iff_safe_state_image(plant: &Plant)
+    ensures { WellformedIffSafeStateImage plant.now }
 {
     plant.prove_is_plant();
     plant.prove_sound_acyclic_drafts();

@@ -36,7 +36,7 @@ pub use conditions::{
 pub use images::image;
 pub use laws::{
     events_ignore_train_order, images_are_in_range, images_determine_except_train_order,
-    wellformed_iff_image,
+    wellformed_iff_safe_state_image,
 };
 pub use values::{
     Occupancy, aspect_value, commanded_value, detected_value, lock_value, mode_value,

@@ -2,11 +2,11 @@ ghost use Rattle.std.specs.Prelude.{◌≡◌, ◌<◌, ◌+◌, IsTrue, Some, l
 ghost use Rattle.std.specs.List.{range_with_len};
 ghost use Rattle.ilk_plant.specs.Shape.{HasShape, has_nonempty_connected_body};
 ghost use Rattle.ilk_layout.specs.Occupancy.{occupancy_or_crash};
-ghost use Rattle.ilk_layout.specs.Standing.{AreOccupanciesAfterAdding, occupancy_after_adding_at_index, equals_before_or_after, is_vacant_occupancy, is_point_wrong_between, section_before_index};
+ghost use Rattle.ilk_layout.specs.Standing.{AreOccupanciesAfterAdding, occupancy_after_adding_at_index, is_section_before_or_after, is_vacant_occupancy, is_point_wrong_between, section_before_index};
 
 use crate::values::Occupancy;
 use ilk_base::Row;
-use ilk_plant::{Lie, Plant, Section, State, Train, detected_position};
+use ilk_plant::{Lie, Plant, Section, State, Train, detected_position_in_state};
 use std::alloc::{AllocError, Global};
 
 fn is_vacant(occupancy: Occupancy) -> bool
@@ -15,8 +15,8 @@ fn is_vacant(occupancy: Occupancy) -> bool
     occupancy == Occupancy::Vacant
 }
 
-fn equals_before_or_after(y: u32, before: Option<u32>, after: Option<u32>) -> bool
-    ensures { result ≡ equals_before_or_after y before after }
+fn is_section_before_or_after(y: u32, before: Option<u32>, after: Option<u32>) -> bool
+    ensures { result ≡ is_section_before_or_after y before after }
 {
     before == Some(y) || after == Some(y)
 }
@@ -35,10 +35,10 @@ fn is_point_wrong_between(
 {
     match *plant.section(x) {
         Section::Linear { .. } => false,
-        Section::Point { plus, minus, .. } => match detected_position(plant, s, x) {
+        Section::Point { plus, minus, .. } => match detected_position_in_state(plant, s, x) {
             None => false,
-            Some(Lie::Plus) => equals_before_or_after(minus, before, after),
-            Some(Lie::Minus) => equals_before_or_after(plus, before, after),
+            Some(Lie::Plus) => is_section_before_or_after(minus, before, after),
+            Some(Lie::Minus) => is_section_before_or_after(plus, before, after),
             Some(Lie::Moving) => true,
         },
     }

@@ -12,7 +12,7 @@ use Rattle.ilk_trail.specs.Laws.{IsTrail, lits_of, is_set}
 use Rattle.ilk_learn.specs.Resolvent.{without_variable}
 use Rattle.ilk_learn.specs.Levels.{is_current, with_highest_first}
 use Rattle.ilk_learn.specs.Learning.{has_one_current, has_var_and_one_current, clause_in_asserting_order, resolved_with_reason_if_needed, resolved_to_point, learned_step}
-use Rattle.ilk_learn.specs.Hand.{WorkingClauseHoldsStep, ConflictWalkEndedAt, IsConflictOfCurrentLevel, are_in_range_and_set, step_from_conflict_clause}
+use Rattle.ilk_learn.specs.Hand.{WorkingClauseHoldsStepFields, ConflictWalkEndedAt, IsConflictOfCurrentLevel, are_in_range_and_set, step_from_conflict_clause}
 use Rattle.ilk_learn.specs.declared.hand.WorkingClause.{WorkingClause}
 use Rattle.ilk_learn.proofs.Members.{kept-from}
 use Rattle.ilk_learn.proofs.Highest.{all-from, lone-passes}
@@ -25,10 +25,10 @@ use Rattle.ilk_cnf.proofs.SameLiterals.{same-lit, has-var, is_lit_over-clause}
 pub record Far (f : Formula) (t : TrailList) (h : WorkingClause) (c i : ℕ) : Type 0 where
   pub step : Step
   pub walking : Walking f.vars f.clauses t.entries (reverse (take i t.entries)) step
-  pub keeps : WorkingClauseHoldsStep t h step
+  pub keeps : WorkingClauseHoldsStepFields t h step
   pub goes : resolved_to_point f.clauses t.entries (reverse (take i t.entries)) step ≡ learned_step f.clauses t.entries c
 
-pub far-start : (f : Formula) (t : TrailList) (h : WorkingClause) (c : ℕ) → IsFormula f → IsTrail t → IsConflictOfCurrentLevel f t c → WorkingClauseHoldsStep t h (step_from_conflict_clause f.clauses c) → Far f t h c (length t.entries)
+pub far-start : (f : Formula) (t : TrailList) (h : WorkingClause) (c : ℕ) → IsFormula f → IsTrail t → IsConflictOfCurrentLevel f t c → WorkingClauseHoldsStepFields t h (step_from_conflict_clause f.clauses c) → Far f t h c (length t.entries)
 far-start f t h c form trail k keeps =
     let w = walking-start f t c form trail k.reasons k.conflict k.below in
     let P : List Entry → Type 0 = λ es. Walking f.vars f.clauses t.entries (reverse es) (step_from_conflict_clause f.clauses c) in
@@ -51,7 +51,7 @@ entry-current f t h c n i e trail k q at =
 
 pub far-next : (f : Formula) (t : TrailList) (h new : WorkingClause) (c n i : ℕ) (e : Entry) → IsFormula f →
     (k : Far f t h c n) → n ≡ suc i → slice_get t.entries i ≡ Some e →
-    has_var_and_one_current t.entries e.lit k.step.clause ≡ false → WorkingClauseHoldsStep t new (resolved_with_reason_if_needed f.clauses e k.step) →
+    has_var_and_one_current t.entries e.lit k.step.clause ≡ false → WorkingClauseHoldsStepFields t new (resolved_with_reason_if_needed f.clauses e k.step) →
     Far f t new c i
 far-next f t h new c n i e form k q at p keeps = record {
   step = resolved_with_reason_if_needed f.clauses e k.step;
@@ -70,7 +70,7 @@ filter-same p q (m ∷ c) f =
       | inr t ↦ (let u : p m ≡ false = e ∙ t in rw (t, u) r)
     ]
 
-lower-set : (f : Formula) (t : TrailList) (h : WorkingClause) (es : List Entry) (s : Step) → Walking f.vars f.clauses t.entries es s → WorkingClauseHoldsStep t h s → are_in_range_and_set t h.lower.items ≡ true
+lower-set : (f : Formula) (t : TrailList) (h : WorkingClause) (es : List Entry) (s : Step) → Walking f.vars f.clauses t.entries es s → WorkingClauseHoldsStepFields t h s → are_in_range_and_set t h.lower.items ≡ true
 lower-set f t h es s w k =
     let q : Literal → Bool = λ m. not (is_current t.entries m) in
     ap (are_in_range_and_set t) k.holds.rest

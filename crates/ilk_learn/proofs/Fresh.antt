@@ -9,8 +9,8 @@ use Rattle.ilk_log.specs.Fresh.{other_lits, IsEmpowering}
 use Rattle.ilk_trail.specs.declared.entry.Entry.{Entry}
 use Rattle.ilk_trail.specs.Trail.{entries_up_to, level_of}
 use Rattle.ilk_trail.specs.Laws.{lits_of}
-use Rattle.ilk_learn.specs.Levels.{level_at, is_current, highest_level}
-use Rattle.ilk_learn.specs.Asserting.{back_level, has_first_at_level, is_false_in_asserting_order}
+use Rattle.ilk_learn.specs.Levels.{level_of_literal, is_current, highest_level}
+use Rattle.ilk_learn.specs.Asserting.{back_level, is_first_lit_at_level, is_false_in_asserting_order}
 use Rattle.ilk_learn.proofs.Members.{var-of, kept-from}
 use Rattle.ilk_learn.proofs.Derived.{false-at, negated_lit-of}
 use Rattle.ilk_learn.proofs.Highest.{below-highest}
@@ -50,20 +50,20 @@ entries_up_to-from k (x ∷ es) m h =
       | inr t ↦ (let f = entries_up_to-from k es m (rw t at h) in (suc f.0, f.1, f.2, f.3, f.4))
     ]
 
-pub has-entries_up_to : (k : ℕ) (es : List Entry) (m : Literal) → has_distinct_vars (lits_of es) ≡ true → has_lit m (lits_of es) ≡ true → level_at es m ≤ k → has_lit m (lits_of (entries_up_to k es)) ≡ true
+pub has-entries_up_to : (k : ℕ) (es : List Entry) (m : Literal) → has_distinct_vars (lits_of es) ≡ true → has_lit m (lits_of es) ≡ true → level_of_literal es m ≤ k → has_lit m (lits_of (entries_up_to k es)) ≡ true
 has-entries_up_to k es m d h l =
     let f = entry-of es m h in
-    let same : level_at es m ≡ f.1.level = ap (level_at es) f.3 ∙ level-entry es f.0 f.1 d f.2 in
+    let same : level_of_literal es m ≡ f.1.level = ap (level_of_literal es) f.3 ∙ level-entry es f.0 f.1 d f.2 in
     ap (λ (x : Literal). has_lit x (lits_of (entries_up_to k es))) f.3 ∙ entries_up_to-at k es f.0 f.1 f.2 (omega (arith, same, l))
 
-not-entries_up_to : (k : ℕ) (es : List Entry) (l : Literal) → has_distinct_vars (lits_of es) ≡ true → k < level_at es l → has_var l.var (lits_of (entries_up_to k es)) ≡ false
+not-entries_up_to : (k : ℕ) (es : List Entry) (l : Literal) → has_distinct_vars (lits_of es) ≡ true → k < level_of_literal es l → has_var l.var (lits_of (entries_up_to k es)) ≡ false
 not-entries_up_to k es l d h =
     elim (cases_Bool (has_var l.var (lits_of (entries_up_to k es)))) [
       | inr t ↦ t
       | inl t ↦ absurd (let m = var-of (lits_of (entries_up_to k es)) l.var t in
           let f = entries_up_to-from k es m.0 m.2 in
-          let level : level_at es m.0 ≡ f.1.level = ap (level_at es) f.3 ∙ level-entry es f.0 f.1 d f.2 in
-          let same : level_at es m.0 ≡ level_at es l = ap (λ (v : ℕ). level_at es (let r : Literal = record { var = v; positive = true } in r)) m.1 in
+          let level : level_of_literal es m.0 ≡ f.1.level = ap (level_of_literal es) f.3 ∙ level-entry es f.0 f.1 d f.2 in
+          let same : level_of_literal es m.0 ≡ level_of_literal es l = ap (λ (v : ℕ). level_of_literal es (let r : Literal = record { var = v; positive = true } in r)) m.1 in
           omega (arith, level, same, h, f.4))
     ]
 
@@ -72,11 +72,11 @@ pub fresh : (clauses : List (List Literal)) (es : List Entry) (c : List Literal)
 fresh clauses es [] d a k = absurd (cc)
 fresh clauses es (l ∷ c) d a k =
     let top = highest_level es c in
-    let one = and_parts (is_falsified (lits_of es) (l ∷ c) && is_current es l && nat_lt top (level_of es)) (has_first_at_level es top c) a in
+    let one = and_parts (is_falsified (lits_of es) (l ∷ c) && is_current es l && nat_lt top (level_of es)) (is_first_lit_at_level es top c) a in
     let two = and_parts (is_falsified (lits_of es) (l ∷ c) && is_current es l) (nat_lt top (level_of es)) one.0 in
     let three = and_parts (is_falsified (lits_of es) (l ∷ c)) (is_current es l) two.0 in
-    let level : level_at es l ≡ level_of es = eqb-true (level_at es l) (level_of es) three.1 in
-    let lower : top < level_at es l = omega (arith, level, ltb-true top (level_of es) two.1) in (
+    let level : level_of_literal es l ≡ level_of es = eqb-true (level_of_literal es l) (level_of es) three.1 in
+    let lower : top < level_of_literal es l = omega (arith, level, ltb-true top (level_of es) two.1) in (
       l,
       or_left (same_lit l l) (has_lit l c) (same-lit l),
       stays-open clauses (lits_of (entries_up_to top es)) (l ∷ c) l k (λ m h. (let o = negated_lit-of (other_lits l (l ∷ c)) m h in

@@ -7,8 +7,8 @@ use Rattle.std.proofs.lemmas.Option.{same_Some}
 use Rattle.ilk_cnf.specs.Literal.{Literal, same_lit, has_lit, has_var, has_distinct_vars}
 use Rattle.ilk_trail.specs.declared.entry.Entry.{Entry}
 use Rattle.ilk_learn.specs.Resolvent.{without_variable}
-use Rattle.ilk_learn.specs.Levels.{level_at, highest_level, with_lit_first, with_highest_first}
-use Rattle.ilk_learn.specs.Asserting.{has_first_at_level}
+use Rattle.ilk_learn.specs.Levels.{level_of_literal, highest_level, with_lit_first, with_highest_first}
+use Rattle.ilk_learn.specs.Asserting.{is_first_lit_at_level}
 use Rattle.ilk_learn.proofs.Members.{no-var, in-without, kept-at, from-without, front-from, front-has, front-differ}
 use Rattle.ilk_cnf.proofs.SameLiterals.{same-lit, lit-is}
 
@@ -33,26 +33,26 @@ find-none p (m ∷ c) l h k =
       ]
     ]
 
-pub below-highest : (es : List Entry) (c : List Literal) (l : Literal) → has_lit l c ≡ true → level_at es l ≤ highest_level es c
+pub below-highest : (es : List Entry) (c : List Literal) (l : Literal) → has_lit l c ≡ true → level_of_literal es l ≤ highest_level es c
 below-highest es [] l h = absurd (cc)
 below-highest es (m ∷ c) l h =
     elim (or_cases (same_lit l m) (has_lit l c) h) [
-      | inl e ↦ (let q : level_at es l ≡ level_at es m = ap (level_at es) (lit-is l m e) in omega (arith, q))
+      | inl e ↦ (let q : level_of_literal es l ≡ level_of_literal es m = ap (level_of_literal es) (lit-is l m e) in omega (arith, q))
       | inr r ↦ omega (arith, below-highest es c l r)
     ]
 
-pub highest-below : (es : List Entry) (c : List Literal) (k : ℕ) → ((l : Literal) → has_lit l c ≡ true → level_at es l ≤ k) → highest_level es c ≤ k
+pub highest-below : (es : List Entry) (c : List Literal) (k : ℕ) → ((l : Literal) → has_lit l c ≡ true → level_of_literal es l ≤ k) → highest_level es c ≤ k
 highest-below es [] k f = omega arith
 highest-below es (m ∷ c) k f =
     omega (arith, f m (or_left (same_lit m m) (has_lit m c) (same-lit m)), highest-below es c k (λ l h. f l (or_right (same_lit l m) (has_lit l c) h)))
 
-pub highest-at : (es : List Entry) (m : Literal) (c : List Literal) → (l : Literal) × (has_lit l (m ∷ c) ≡ true) × (level_at es l ≡ highest_level es (m ∷ c))
+pub highest-at : (es : List Entry) (m : Literal) (c : List Literal) → (l : Literal) × (has_lit l (m ∷ c) ≡ true) × (level_of_literal es l ≡ highest_level es (m ∷ c))
 highest-at es m [] = (m, or_left (same_lit m m) false (same-lit m), omega arith)
 highest-at es m (n ∷ c) =
     let r = highest-at es n c in
-    elim (cases_Bool (nat_le (highest_level es (n ∷ c)) (level_at es m))) [
-      | inl t ↦ (m, or_left (same_lit m m) (has_lit m (n ∷ c)) (same-lit m), omega (arith, leb-true (highest_level es (n ∷ c)) (level_at es m) t))
-      | inr t ↦ (r.0, or_right (same_lit r.0 m) (has_lit r.0 (n ∷ c)) r.1, omega (arith, r.2, leb-false (highest_level es (n ∷ c)) (level_at es m) t))
+    elim (cases_Bool (nat_le (highest_level es (n ∷ c)) (level_of_literal es m))) [
+      | inl t ↦ (m, or_left (same_lit m m) (has_lit m (n ∷ c)) (same-lit m), omega (arith, leb-true (highest_level es (n ∷ c)) (level_of_literal es m) t))
+      | inr t ↦ (r.0, or_right (same_lit r.0 m) (has_lit r.0 (n ∷ c)) r.1, omega (arith, r.2, leb-false (highest_level es (n ∷ c)) (level_of_literal es m) t))
     ]
 
 pub with_lit_first-both : (P : List Literal → Type 0) (p : Literal → Bool) (c : List Literal) → (find p c ≡ None → P c) → ((l : Literal) → has_lit l c ≡ true → p l ≡ true → P (l ∷ without_variable l.var c)) → P (with_lit_first (find p c) c)
@@ -63,7 +63,7 @@ with_lit_first-both P p c f g = go (find p c) refl
     go (Some l) e = (let q = find-has p c l e in g l q.0 q.1)
 
 abbrev at_highest : List Entry → List Literal → Literal → Bool
-at_highest es c l = eqb (level_at es l) (highest_level es c)
+at_highest es c l = eqb (level_of_literal es l) (highest_level es c)
 
 pub with_highest_first-from : (es : List Entry) (c : List Literal) (m : Literal) → has_lit m (with_highest_first es c) ≡ true → has_lit m c ≡ true
 with_highest_first-from es c m =
@@ -77,22 +77,22 @@ pub with_highest_first-differ : (es : List Entry) (c : List Literal) → has_dis
 with_highest_first-differ es c d =
     with_lit_first-both (λ x. has_distinct_vars x ≡ true) (at_highest es c) c (λ _. d) (λ l h _. front-differ l c d)
 
-pub with_highest_first-begins : (es : List Entry) (c : List Literal) → has_distinct_vars c ≡ true → has_first_at_level es (highest_level es (with_highest_first es c)) (with_highest_first es c) ≡ true
+pub with_highest_first-begins : (es : List Entry) (c : List Literal) → has_distinct_vars c ≡ true → is_first_lit_at_level es (highest_level es (with_highest_first es c)) (with_highest_first es c) ≡ true
 with_highest_first-begins es c d =
-    with_lit_first-both (λ x. has_first_at_level es (highest_level es x) x ≡ true) (at_highest es c) c (λ e. nothing c e) (λ l h t. first l h t)
+    with_lit_first-both (λ x. is_first_lit_at_level es (highest_level es x) x ≡ true) (at_highest es c) c (λ e. nothing c e) (λ l h t. first l h t)
   where
-    nothing : (c : List Literal) → find (at_highest es c) c ≡ None → has_first_at_level es (highest_level es c) c ≡ true
+    nothing : (c : List Literal) → find (at_highest es c) c ≡ None → is_first_lit_at_level es (highest_level es c) c ≡ true
     nothing [] e = refl
     nothing (m ∷ c) e =
         let a = highest-at es m c in
-        absurd (true≢false (sym (eq-eqb (level_at es a.0) (highest_level es (m ∷ c)) a.2) ∙ find-none (at_highest es (m ∷ c)) (m ∷ c) a.0 e a.1))
+        absurd (true≢false (sym (eq-eqb (level_of_literal es a.0) (highest_level es (m ∷ c)) a.2) ∙ find-none (at_highest es (m ∷ c)) (m ∷ c) a.0 e a.1))
 
-    first : (l : Literal) → has_lit l c ≡ true → at_highest es c l ≡ true → has_first_at_level es (highest_level es (l ∷ without_variable l.var c)) (l ∷ without_variable l.var c) ≡ true
+    first : (l : Literal) → has_lit l c ≡ true → at_highest es c l ≡ true → is_first_lit_at_level es (highest_level es (l ∷ without_variable l.var c)) (l ∷ without_variable l.var c) ≡ true
     first l h t =
-        let top : level_at es l ≡ highest_level es c = eqb-true (level_at es l) (highest_level es c) t in
+        let top : level_of_literal es l ≡ highest_level es c = eqb-true (level_of_literal es l) (highest_level es c) t in
         let low : highest_level es (without_variable l.var c) ≤ highest_level es c =
         highest-below es (without_variable l.var c) (highest_level es c) (λ m k. below-highest es c m (from-without l.var c m k).0) in
-        eq-eqb (level_at es l) (highest_level es (l ∷ without_variable l.var c)) (omega (arith, top, low))
+        eq-eqb (level_of_literal es l) (highest_level es (l ∷ without_variable l.var c)) (omega (arith, top, low))
 
 pub all-from : (p : Literal → Bool) (c : List Literal) → ((m : Literal) → has_lit m c ≡ true → p m ≡ true) → list_all p c ≡ true
 all-from p [] f = refl
@@ -166,12 +166,12 @@ lone-passes p c a b n h t k u = go (filter p c) n (kept-at p c a h t) (kept-at p
     go (x ∷ (y ∷ xs)) n h k = absurd (let e : length (x ∷ (y ∷ xs)) ≡ 1 = eqb-true (length (x ∷ (y ∷ xs))) 1 n in omega (arith, e))
 
 pub front-some : (es : List Entry) (c clause x : List Literal) (l first : Literal) → clause ≡ l ∷ [] →
-    Some first ≡ find (λ m. eqb (level_at es m) (highest_level es c)) c →
+    Some first ≡ find (λ m. eqb (level_of_literal es m) (highest_level es c)) c →
     x ≡ clause ++ (first ∷ without_variable first.var c) → x ≡ l ∷ with_highest_first es c
 front-some es c clause x l first h f e =
     e ∙ ap (λ (xs : List Literal). xs ++ (first ∷ without_variable first.var c)) h ∙ ap (λ (o : Option Literal). l ∷ with_lit_first o c) f
 
-pub front-none : (es : List Entry) (c clause : List Literal) (l : Literal) → clause ≡ l ∷ [] → None ≡ find (λ m. eqb (level_at es m) (highest_level es c)) c → clause ≡ l ∷ with_highest_first es c
+pub front-none : (es : List Entry) (c clause : List Literal) (l : Literal) → clause ≡ l ∷ [] → None ≡ find (λ m. eqb (level_of_literal es m) (highest_level es c)) c → clause ≡ l ∷ with_highest_first es c
 front-none es c clause l h f =
     h ∙ ap (λ (xs : List Literal). l ∷ xs) (sym (empty c f)) ∙ ap (λ (o : Option Literal). l ∷ with_lit_first o c) f
   where
@@ -179,4 +179,4 @@ front-none es c clause l h f =
     empty [] f = refl
     empty (m ∷ c) f =
         let a = highest-at es m c in
-        absurd (true≢false (sym (eq-eqb (level_at es a.0) (highest_level es (m ∷ c)) a.2) ∙ find-none (at_highest es (m ∷ c)) (m ∷ c) a.0 (sym f) a.1))
+        absurd (true≢false (sym (eq-eqb (level_of_literal es a.0) (highest_level es (m ∷ c)) a.2) ∙ find-none (at_highest es (m ∷ c)) (m ∷ c) a.0 (sym f) a.1))

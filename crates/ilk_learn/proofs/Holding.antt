@@ -21,7 +21,7 @@ use Rattle.ilk_trail.specs.Laws.{IsTrail, lits_of, is_set}
 use Rattle.ilk_trail.proofs.Entries.{found}
 use Rattle.ilk_trail.proofs.Literals.{is_clause_over-push, count_of_vars}
 use Rattle.ilk_learn.specs.Resolvent.{without_variable, with_lit_of_new_var, with_lits_of_new_vars}
-use Rattle.ilk_learn.specs.Levels.{level_at, is_current}
+use Rattle.ilk_learn.specs.Levels.{level_of_literal, is_current}
 use Rattle.ilk_learn.specs.Hand.{FieldsHoldClause, are_in_range_and_set}
 use Rattle.ilk_learn.proofs.Members.{differ-kept, within-kept, kept-at, none-without, var-push}
 use Rattle.ilk_learn.proofs.Derived.{false-at}
@@ -32,7 +32,7 @@ use Rattle.ilk_cnf.proofs.SameLiterals.{lit-is, has-var, is_lit_over-clause}
 pub mark-read : (marks : List Bool) (i v : ℕ) (b : Bool) → i ≡ v → v < length marks → b ≡ get_or marks i b → get_or marks v false ≡ b
 mark-read marks i v b e h r = sym (get_or_read marks v b h (rw e at r) false)
 
-pub level-read : (es : List Entry) (l : Literal) (k : ℕ) → option_map (λ (e : Entry). e.level) (entry_of es l.var) ≡ Some k → level_at es l ≡ k
+pub level-read : (es : List Entry) (l : Literal) (k : ℕ) → option_map (λ (e : Entry). e.level) (entry_of es l.var) ≡ Some k → level_of_literal es l ≡ k
 level-read es l k h = ap (λ (o : Option ℕ). unwrap_or o 0) h
 
 pub within-marks : (t : TrailList) (marks : List Bool) (current : ℕ) (lower c : List Literal) (l : Literal) → FieldsHoldClause t marks current lower c → is_lit_over t.vars l ≡ true → l.var < length marks

@@ -15,7 +15,7 @@ use Rattle.ilk_trail.specs.Laws.{IsTrail, lits_of, may_follow_level, each_may_fo
 use Rattle.ilk_trail.proofs.Entries.{lits_of-push, found, set-at}
 use Rattle.ilk_trail.proofs.Levels.{last_level_or-push, each_may_follow_level-front, next-level}
 use Rattle.ilk_trail.proofs.Literals.{has_distinct_vars-front}
-use Rattle.ilk_learn.specs.Levels.{level_at}
+use Rattle.ilk_learn.specs.Levels.{level_of_literal}
 use Rattle.ilk_learn.proofs.Derived.{false-from, false-at}
 use Rattle.ilk_cnf.proofs.SameLiterals.{lit-is}
 
@@ -27,7 +27,7 @@ pub record IsLatest (clauses : List (List Literal)) (all : List Entry) (e : Entr
   pub forced : (r : ℕ) → e.reason ≡ Some r → clause_forces_lit clauses (lits_of es) e.lit r ≡ true
   pub unset : has_var e.lit.var (lits_of es) ≡ false
   pub next : may_follow_level (top_level es) e ≡ true
-  pub level : level_at all e.lit ≡ e.level
+  pub level : level_of_literal all e.lit ≡ e.level
 
 abbrev pub Latest : List (List Literal) → List Entry → List Entry → Type 0
 Latest clauses all [] = Unit {0}
@@ -38,11 +38,11 @@ latest-differ clauses all [] h = refl
 latest-differ clauses all (e ∷ es) h =
     and_from (not (has_var e.lit.var (lits_of es))) (has_distinct_vars (lits_of es)) (not_from_false (has_var e.lit.var (lits_of es)) h.0.unset) (latest-differ clauses all es h.1)
 
-pub latest-level : (clauses : List (List Literal)) (all es : List Entry) (l : Literal) → Latest clauses all es → has_lit l (lits_of es) ≡ true → level_at all l ≤ top_level es
+pub latest-level : (clauses : List (List Literal)) (all es : List Entry) (l : Literal) → Latest clauses all es → has_lit l (lits_of es) ≡ true → level_of_literal all l ≤ top_level es
 latest-level clauses all [] l h k = absurd (cc)
 latest-level clauses all (e ∷ es) l h k =
     elim (or_cases (same_lit l e.lit) (has_lit l (lits_of es)) k) [
-      | inl x ↦ (let q : level_at all l ≡ level_at all e.lit = ap (level_at all) (lit-is l e.lit x) in omega (arith, q, h.0.level))
+      | inl x ↦ (let q : level_of_literal all l ≡ level_of_literal all e.lit = ap (level_of_literal all) (lit-is l e.lit x) in omega (arith, q, h.0.level))
       | inr x ↦ (let n = next-level (top_level es) e h.0.next in omega (arith, n.0, latest-level clauses all es l h.1 x))
     ]
 
@@ -130,7 +130,7 @@ entry-at es i e d h =
     let f = found es e.lit.var (set-at es i e h) in
     f.first ∙ ap Some (one-place es f.place i f.entry e d f.stands h f.named)
 
-pub level-entry : (es : List Entry) (i : ℕ) (e : Entry) → has_distinct_vars (lits_of es) ≡ true → slice_get es i ≡ Some e → level_at es e.lit ≡ e.level
+pub level-entry : (es : List Entry) (i : ℕ) (e : Entry) → has_distinct_vars (lits_of es) ≡ true → slice_get es i ≡ Some e → level_of_literal es e.lit ≡ e.level
 level-entry es i e d h = rw (entry-at es i e d h) refl
 
 reason-reverse : (clauses : List (List Literal)) (es : List Entry) (l : Literal) (r : ℕ) → clause_forces_lit clauses (lits_of es) l r ≡ true → clause_forces_lit clauses (lits_of (reverse es)) l r ≡ true

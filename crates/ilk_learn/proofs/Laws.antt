@@ -15,9 +15,9 @@ use Rattle.ilk_trail.specs.Trail.{TrailList, entries_up_to, level_of}
 use Rattle.ilk_trail.specs.Laws.{IsTrail, lits_of}
 use Rattle.ilk_cnf.proofs.Gates.{negated_lit-negated_lit}
 use Rattle.ilk_learn.specs.Resolvent.{without_variable}
-use Rattle.ilk_learn.specs.Levels.{level_at, is_current, highest_level, with_highest_first}
+use Rattle.ilk_learn.specs.Levels.{level_of_literal, is_current, highest_level, with_highest_first}
 use Rattle.ilk_learn.specs.Learning.{has_one_current, clause_in_asserting_order, learned_step}
-use Rattle.ilk_learn.specs.Asserting.{has_first_at_level, is_false_in_asserting_order}
+use Rattle.ilk_learn.specs.Asserting.{is_first_lit_at_level, is_false_in_asserting_order}
 use Rattle.ilk_learn.proofs.Members.{var-of, no-var, same-var, differ-kept, from-without, in-without}
 use Rattle.ilk_learn.proofs.Derived.{false-from, false-at, in_hand-start, in_hand-derived}
 use Rattle.ilk_learn.proofs.Highest.{highest-below, with_highest_first-from, with_highest_first-has, with_highest_first-differ, with_highest_first-begins, lone-passes}
@@ -61,22 +61,22 @@ point-differ all e c d =
 
 pub has-current : (t : TrailList) (c : List Literal) → IsTrail t → is_falsified (lits_of t.entries) c ≡ true →
     is_falsified (lits_of (entries_up_to (level_of t.entries - 1) t.entries)) c ≡ false →
-    ((m : Literal) → has_lit m (lits_of t.entries) ≡ true → level_at t.entries m ≤ level_of t.entries) →
-    (l : Literal) × (has_lit l c ≡ true) × (level_at t.entries l ≡ level_of t.entries)
+    ((m : Literal) → has_lit m (lits_of t.entries) ≡ true → level_of_literal t.entries m ≤ level_of t.entries) →
+    (l : Literal) × (has_lit l c ≡ true) × (level_of_literal t.entries l ≡ level_of t.entries)
 has-current t c k f n low =
     elim (cases_Bool (list_any (is_current t.entries) c)) [
       | inl x ↦ (let a = list_any-at (is_current t.entries) c x in
-          (a.1, list_any-from (same_lit a.1) c a.0 a.1 a.2 (same-lit a.1), eqb-true (level_at t.entries a.1) (level_of t.entries) a.3))
+          (a.1, list_any-from (same_lit a.1) c a.0 a.1 a.2 (same-lit a.1), eqb-true (level_of_literal t.entries a.1) (level_of t.entries) a.3))
       | inr x ↦ absurd (true≢false (sym (false-from (lits_of (entries_up_to (level_of t.entries - 1) t.entries)) c
           (λ m h. has-entries_up_to (level_of t.entries - 1) t.entries (negated_lit m) k.once (false-at (lits_of t.entries) c m f h) (below m h x))) ∙ n))
     ]
   where
-    below : (m : Literal) → has_lit m c ≡ true → list_any (is_current t.entries) c ≡ false → level_at t.entries (negated_lit m) ≤ level_of t.entries - 1
+    below : (m : Literal) → has_lit m c ≡ true → list_any (is_current t.entries) c ≡ false → level_of_literal t.entries (negated_lit m) ≤ level_of t.entries - 1
     below m h x =
         let a = list_any-at (same_lit m) c h in
         let differs : is_current t.entries m ≡ false = ap (is_current t.entries) (lit-is m a.1 a.3) ∙ list_any-none (is_current t.entries) c a.0 a.1 x a.2 in
-        let le : level_at t.entries m ≤ level_of t.entries = low (negated_lit m) (false-at (lits_of t.entries) c m f h) in
-        let ne : level_at t.entries m ≡ level_of t.entries → ⊥ = eqb-false (level_at t.entries m) (level_of t.entries) differs in
+        let le : level_of_literal t.entries m ≤ level_of t.entries = low (negated_lit m) (false-at (lits_of t.entries) c m f h) in
+        let ne : level_of_literal t.entries m ≡ level_of t.entries → ⊥ = eqb-false (level_of_literal t.entries m) (level_of t.entries) differs in
         omega (arith, le, ne)
 
 pub walking-start : (f : Formula) (t : TrailList) (c : ℕ) → IsFormula f → IsTrail t →
@@ -90,7 +90,7 @@ walking-start f t c form trail reasons conflict below =
     let i = ltb-true c (length f.clauses) p.0 in
     let at = slice_get-get_or f.clauses c [] i in
     let k = latest f.clauses t reasons trail in
-    let low : (m : Literal) → has_lit m (lits_of t.entries) ≡ true → level_at t.entries m ≤ level_of t.entries = λ m h. (let top = latest-level f.clauses t.entries (reverse t.entries) m k (has-reverse m t.entries ∙ h) in
+    let low : (m : Literal) → has_lit m (lits_of t.entries) ≡ true → level_of_literal t.entries m ≤ level_of t.entries = λ m h. (let top = latest-level f.clauses t.entries (reverse t.entries) m k (has-reverse m t.entries ∙ h) in
     omega (arith, top, top-is t.entries)) in
     record {
       latest = k;
@@ -150,18 +150,18 @@ point-asserting n clauses all s a =
     let one = and_parts (nat_lt 0 (level_of all)) (eqb (length (filter (is_current all) c)) 1) p.1 in
     let has = has-point n clauses all e a.before a.step w p.0 in
     let rest = with_highest_first all (without_variable e.lit.var c) in
-    let level : level_at all e.lit ≡ level_of all = w.latest.0.level ∙ walking-level n clauses all e a.before a.step w in
-    let current : is_current all (negated_lit e.lit) ≡ true = eq-eqb (level_at all e.lit) (level_of all) level in
+    let level : level_of_literal all e.lit ≡ level_of all = w.latest.0.level ∙ walking-level n clauses all e a.before a.step w in
+    let current : is_current all (negated_lit e.lit) ≡ true = eq-eqb (level_of_literal all e.lit) (level_of all) level in
     let falsified : is_falsified (lits_of all) (clause_in_asserting_order all e.lit c) ≡ true = false-from (lits_of all) (clause_in_asserting_order all e.lit c) (λ m h. w.within (negated_lit m) (w.hand.denied m (point-from all e c m has h))) in
-    let other : (m : Literal) → has_lit m rest ≡ true → level_at all m ≤ level_of all - 1 = λ m h. (let q = from-without e.lit.var c m (with_highest_first-from all (without_variable e.lit.var c) m h) in
-    let le : level_at all m ≤ e.level = latest-level clauses all (e ∷ a.before) (negated_lit m) w.latest (w.hand.denied m q.0) in
-    let ne : level_at all m ≡ level_of all → ⊥ = λ z. q.1 (ap (λ (l : Literal). l.var) (lone-passes (is_current all) c m (negated_lit e.lit) one.1 q.0 (eq-eqb (level_at all m) (level_of all) z) has current)) in
+    let other : (m : Literal) → has_lit m rest ≡ true → level_of_literal all m ≤ level_of all - 1 = λ m h. (let q = from-without e.lit.var c m (with_highest_first-from all (without_variable e.lit.var c) m h) in
+    let le : level_of_literal all m ≤ e.level = latest-level clauses all (e ∷ a.before) (negated_lit m) w.latest (w.hand.denied m q.0) in
+    let ne : level_of_literal all m ≡ level_of all → ⊥ = λ z. q.1 (ap (λ (l : Literal). l.var) (lone-passes (is_current all) c m (negated_lit e.lit) one.1 q.0 (eq-eqb (level_of_literal all m) (level_of all) z) has current)) in
     omega (arith, le, ne, w.low)) in
     let pos = ltb-true 0 (level_of all) one.0 in
     let lower : highest_level all rest < level_of all = omega (arith, highest-below all rest (level_of all - 1) other, pos) in
     let begins = with_highest_first-begins all (without_variable e.lit.var c) (differ-kept (λ l. not (eqb l.var e.lit.var)) c w.hand.differ) in
     ap (λ (x : Step). is_false_in_asserting_order all x.clause) a.is
-    ∙ and_from _ (has_first_at_level all (highest_level all rest) rest)
+    ∙ and_from _ (is_first_lit_at_level all (highest_level all rest) rest)
     (and_from _ (nat_lt (highest_level all rest) (level_of all))
     (and_from (is_falsified (lits_of all) (clause_in_asserting_order all e.lit c))
     (is_current all (negated_lit e.lit)) falsified current)

@@ -18,8 +18,8 @@ use Rattle.ilk_trail.specs.Trail.{TrailList, entry_of, level_of}
 use Rattle.ilk_trail.specs.Laws.{lits_of, is_set}
 use Rattle.ilk_learn.specs.Resolvent.{with_lits_of_new_vars, resolvent}
 use Rattle.ilk_learn.specs.Levels.{is_current, highest_level}
-use Rattle.ilk_learn.specs.Asserting.{has_first_at_level, is_false_in_asserting_order}
-use Rattle.ilk_learn.specs.Hand.{FieldsHoldClause, IsConflictOfCurrentLevel, WorkingClauseHoldsStep, are_in_range_and_set, step_from_conflict_clause}
+use Rattle.ilk_learn.specs.Asserting.{is_first_lit_at_level, is_false_in_asserting_order}
+use Rattle.ilk_learn.specs.Hand.{FieldsHoldClause, IsConflictOfCurrentLevel, WorkingClauseHoldsStepFields, are_in_range_and_set, step_from_conflict_clause}
 use Rattle.ilk_learn.proofs.Derived.{false-at}
 use Rattle.ilk_learn.proofs.Highest.{all-from}
 use Rattle.ilk_learn.proofs.Walk.{resolved_with_reason_if_needed-is, resolved_with_reason_if_needed-not}
@@ -37,28 +37,28 @@ entry-var (x ∷ es) v e h =
       | inr t ↦ entry-var es v e (rw t at h)
     ]
 
-pub keeps-same : (t : TrailList) (clauses : List (List Literal)) (h : WorkingClause) (e : Entry) (s : Step) (v : ℕ) → entry_of t.entries v ≡ Some e → get_or h.marks.items v false ≡ false → WorkingClauseHoldsStep t h s
-    → WorkingClauseHoldsStep t h (resolved_with_reason_if_needed clauses e s)
+pub keeps-same : (t : TrailList) (clauses : List (List Literal)) (h : WorkingClause) (e : Entry) (s : Step) (v : ℕ) → entry_of t.entries v ≡ Some e → get_or h.marks.items v false ≡ false → WorkingClauseHoldsStepFields t h s
+    → WorkingClauseHoldsStepFields t h (resolved_with_reason_if_needed clauses e s)
 keeps-same t clauses h e s v at m k =
     let q = entry-var t.entries v e at in
     let none : has_var e.lit.var s.clause ≡ false = sym (k.holds.marked e.lit.var) ∙ ap (λ (w : ℕ). get_or h.marks.items w false) q ∙ m in
-    let P : Step → Type 0 = λ x. WorkingClauseHoldsStep t h x in
+    let P : Step → Type 0 = λ x. WorkingClauseHoldsStepFields t h x in
     subst P (sym (resolved_with_reason_if_needed-not clauses e s none)) k
 
 pub keeps-resolved_with_reason_if_needed :
     (t : TrailList) (clauses : List (List Literal)) (old new : WorkingClause) (e : Entry) (s : Step) (v r : ℕ) →
     entry_of t.entries v ≡ Some e →
     option_map (λ (x : Entry). x.reason) (entry_of t.entries v) ≡ Some (Some r) →
-    get_or old.marks.items v false ≡ true → WorkingClauseHoldsStep t old s →
+    get_or old.marks.items v false ≡ true → WorkingClauseHoldsStepFields t old s →
     ((k : List Literal) → FieldsHoldClause t old.marks.items old.current old.lower.items k → has_var v k ≡ true →
     FieldsHoldClause t new.marks.items new.current new.lower.items (resolvent v k (nth_clause_or_empty clauses r))) →
-    new.hints.items ≡ old.hints.items ++ (r + 1) ∷ [] → WorkingClauseHoldsStep t new (resolved_with_reason_if_needed clauses e s)
+    new.hints.items ≡ old.hints.items ++ (r + 1) ∷ [] → WorkingClauseHoldsStepFields t new (resolved_with_reason_if_needed clauses e s)
 keeps-resolved_with_reason_if_needed t clauses old new e s v r at why m k f g =
     let q = entry-var t.entries v e at in
     let has : has_var v s.clause ≡ true = sym (k.holds.marked v) ∙ m in
     let has-e : has_var e.lit.var s.clause ≡ true = ap (λ (w : ℕ). has_var w s.clause) q ∙ has in
     let reason : e.reason ≡ Some r = same_Some e.reason (Some r) (sym (ap (option_map (λ (x : Entry). x.reason)) at) ∙ why) in
-    let P : Step → Type 0 = λ x. WorkingClauseHoldsStep t new x in
+    let P : Step → Type 0 = λ x. WorkingClauseHoldsStepFields t new x in
     let Q : ℕ → Type 0 = λ w. FieldsHoldClause t new.marks.items new.current new.lower.items (resolvent w s.clause (nth_clause_or_empty clauses r)) in
     subst P (sym (resolved_with_reason_if_needed-is clauses e s r has-e reason)) (record {
       holds = subst Q (sym q) (f s.clause k.holds has);
@@ -97,7 +97,7 @@ conflict-set f t c form k =
 
 pub started-keeps : (f : Formula) (t : TrailList) (h : WorkingClause) (c : ℕ) → IsFormula f → IsConflictOfCurrentLevel f t c →
     FieldsHoldClause t h.marks.items h.current h.lower.items (with_lits_of_new_vars [] (nth_clause_or_empty f.clauses c)) →
-    h.hints.items ≡ (c + 1) ∷ [] → WorkingClauseHoldsStep t h (step_from_conflict_clause f.clauses c)
+    h.hints.items ≡ (c + 1) ∷ [] → WorkingClauseHoldsStepFields t h (step_from_conflict_clause f.clauses c)
 started-keeps f t h c form k holds hints =
     let P : List Literal → Type 0 = λ x. FieldsHoldClause t h.marks.items h.current h.lower.items x in
     record {
@@ -109,7 +109,7 @@ pub asserting-set : (es : List Entry) (c : List Literal) (i : ℕ) (l : Literal)
 asserting-set es [] i l h at = absurd (cc)
 asserting-set es (m ∷ c) i l h at =
     let top = highest_level es c in
-    let one = and_parts (is_falsified (lits_of es) (m ∷ c) && is_current es m && nat_lt top (level_of es)) (has_first_at_level es top c) h in
+    let one = and_parts (is_falsified (lits_of es) (m ∷ c) && is_current es m && nat_lt top (level_of es)) (is_first_lit_at_level es top c) h in
     let two = and_parts (is_falsified (lits_of es) (m ∷ c) && is_current es m) (nat_lt top (level_of es)) one.0 in
     let three = and_parts (is_falsified (lits_of es) (m ∷ c)) (is_current es m) two.0 in
     has-var (negated_lit l) (lits_of es) (list_all-slice_get (is_false (lits_of es)) (m ∷ c) i l three.0 at)

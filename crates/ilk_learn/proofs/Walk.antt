@@ -15,7 +15,7 @@ use Rattle.ilk_trail.specs.Trail.{level_of}
 use Rattle.ilk_trail.specs.Laws.{lits_of}
 use Rattle.ilk_trail.proofs.Levels.{next-level}
 use Rattle.ilk_learn.specs.Resolvent.{with_lits_of_new_vars, resolvent}
-use Rattle.ilk_learn.specs.Levels.{level_at, is_current}
+use Rattle.ilk_learn.specs.Levels.{level_of_literal, is_current}
 use Rattle.ilk_learn.specs.Learning.{has_one_current, has_var_and_one_current, clause_in_asserting_order, resolved_with_reason_if_needed, resolved_to_point}
 use Rattle.ilk_learn.proofs.Members.{joined-left, in-without}
 use Rattle.ilk_learn.proofs.Derived.{InHand, in_hand-skip, in_hand-resolve}
@@ -25,7 +25,7 @@ use Rattle.ilk_cnf.proofs.SameLiterals.{lit-is}
 
 -- A literal of the clause was set at the current level, unless that is 0.
 pub record HasCurrent (all : List Entry) (c : List Literal) : Type 0 where
-  pub some : 0 < level_of all → (l : Literal) × (has_lit l c ≡ true) × (level_at all l ≡ level_of all)
+  pub some : 0 < level_of all → (l : Literal) × (has_lit l c ≡ true) × (level_of_literal all l ≡ level_of all)
 
 pub record AreClauses (n : ℕ) (clauses : List (List Literal)) : Type 0 where
   pub within : are_clauses_over n clauses ≡ true
@@ -73,15 +73,15 @@ other-left :
     (n : ℕ) (clauses : List (List Literal)) (all : List Entry) (e : Entry) (es : List Entry) (s : Step) →
     InHand n clauses (e ∷ es) s → HasCurrent all s.clause → has_one_current all s.clause ≡ false →
     0 < level_of all →
-    (m : Literal) × (has_lit m s.clause ≡ true) × (level_at all m ≡ level_of all) × (m.var ≡ e.lit.var → ⊥)
+    (m : Literal) × (has_lit m s.clause ≡ true) × (level_of_literal all m ≡ level_of all) × (m.var ≡ e.lit.var → ⊥)
 other-left n clauses all e es s k c h p =
     let l = c.some p in
     let many : eqb (length (filter (is_current all) s.clause)) 1 ≡ false = elim (and_cases (nat_lt 0 (level_of all)) (eqb (length (filter (is_current all) s.clause)) 1) h) [
       | inl x ↦ absurd (true≢false (sym (lt-ltb 0 (level_of all) p) ∙ x))
       | inr x ↦ x
     ] in
-    let m = another-passes (is_current all) s.clause e.lit.var l.0 k.differ l.1 (eq-eqb (level_at all l.0) (level_of all) l.2) many in
-    (m.0, m.1, eqb-true (level_at all m.0) (level_of all) m.2, m.3)
+    let m = another-passes (is_current all) s.clause e.lit.var l.0 k.differ l.1 (eq-eqb (level_of_literal all l.0) (level_of all) l.2) many in
+    (m.0, m.1, eqb-true (level_of_literal all m.0) (level_of all) m.2, m.3)
 
 has-reason :
     (n : ℕ) (clauses : List (List Literal)) (all : List Entry) (e : Entry) (es : List Entry) (s : Step) →
@@ -99,7 +99,7 @@ has-reason n clauses all e es s latest low k c h = go e.reason refl
           | inl x ↦ absurd (m.3 (ap (λ (l : Literal). l.var) (lit-is (negated_lit m.0) e.lit x)))
           | inr x ↦ x
         ] in
-        let top : level_at all m.0 ≤ top_level es = latest-level clauses all es (negated_lit m.0) latest.1 before in
+        let top : level_of_literal all m.0 ≤ top_level es = latest-level clauses all es (negated_lit m.0) latest.1 before in
         let o = opens q in
         omega (arith, low, o, top, m.2))
 
@@ -158,7 +158,7 @@ walking-level n clauses all e es s w =
     elim (cases_lt 0 (level_of all)) [
       | inr z ↦ omega (arith, z, w.low)
       | inl p ↦ (let l = w.current.some p in
-          let top : level_at all l.0 ≤ e.level = latest-level clauses all (e ∷ es) (negated_lit l.0) w.latest (w.hand.denied l.0 l.1) in
+          let top : level_of_literal all l.0 ≤ e.level = latest-level clauses all (e ∷ es) (negated_lit l.0) w.latest (w.hand.denied l.0 l.1) in
           omega (arith, top, l.2, w.low))
     ]
 

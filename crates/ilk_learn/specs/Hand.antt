@@ -32,7 +32,7 @@ abbrev pub WorkingClauseHolds : TrailList → WorkingClause → List Literal →
 WorkingClauseHolds t h c = FieldsHoldClause t h.marks.items h.current h.lower.items c
 
 -- Holds if working clause `h` stores the clause of step `s`, and its hints in reverse order.
-pub record WorkingClauseHoldsStep (t : TrailList) (h : WorkingClause) (s : Step) : Type 0 where
+pub record WorkingClauseHoldsStepFields (t : TrailList) (h : WorkingClause) (s : Step) : Type 0 where
   pub holds : FieldsHoldClause t h.marks.items h.current h.lower.items s.clause
   pub hinted : s.hints ≡ reverse h.hints.items
 

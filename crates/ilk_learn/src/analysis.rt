@@ -10,10 +10,10 @@ ghost use Rattle.ilk_log.specs.Fresh.{IsEmpowering};
 ghost use Rattle.ilk_trail.specs.Trail.{level_of, entries_up_to};
 ghost use Rattle.ilk_trail.specs.Laws.{lits_of};
 ghost use Rattle.ilk_learn.specs.Resolvent.{without_variable};
-ghost use Rattle.ilk_learn.specs.Levels.{with_highest_first, highest_level, level_at};
+ghost use Rattle.ilk_learn.specs.Levels.{with_highest_first, highest_level, level_of_literal};
 ghost use Rattle.ilk_learn.specs.Learning.{learned_step};
 ghost use Rattle.ilk_learn.specs.Asserting.{back_level, is_false_in_asserting_order};
-ghost use Rattle.ilk_learn.specs.Hand.{IsConflictOfCurrentLevel, WorkingClauseHoldsStep, are_in_range_and_set, step_from_conflict_clause};
+ghost use Rattle.ilk_learn.specs.Hand.{IsConflictOfCurrentLevel, WorkingClauseHoldsStepFields, are_in_range_and_set, step_from_conflict_clause};
 
 use crate::hand::WorkingClause;
 use ilk_cnf::{Lit, Lits};
@@ -119,7 +119,7 @@ fn started(
     conflict: u64,
 ) -> Result<WorkingClause, AllocError>
     requires { IsConflictOfCurrentLevel (formula_of clauses.now) trail.now conflict }
-    ensures { IfOk result (λ h. WorkingClauseHoldsStep trail.now h
+    ensures { IfOk result (λ h. WorkingClauseHoldsStepFields trail.now h
         (step_from_conflict_clause clauses.now.clauses conflict)) }
 {
     let _count = clauses.count();
@@ -162,7 +162,8 @@ fn with_first(mut clause: Lits, first: Lit, lits: &[Lit]) -> Result<Lits, AllocE
 fn first_highest(trail: &Trail, lits: &[Lit]) -> Option<Lit>
     requires { IsTrue (are_in_range_and_set trail.now lits.now) }
     ensures { result
-        ≡ find (λ l. level_at trail.now.entries l == highest_level trail.now.entries lits.now)
+        ≡ find
+        (λ l. level_of_literal trail.now.entries l == highest_level trail.now.entries lits.now)
         lits.now }
 {
     let top = top_level(trail, lits);

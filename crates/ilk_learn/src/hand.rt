@@ -10,7 +10,7 @@ ghost use Rattle.ilk_trail.specs.Laws.{is_set};
 ghost use Rattle.ilk_learn.specs.Resolvent.{with_lit_of_new_var, with_lits_of_new_vars, resolvent};
 ghost use Rattle.ilk_learn.specs.Levels.{is_current};
 ghost use Rattle.ilk_learn.specs.Learning.{has_var_and_one_current, resolved_with_reason_if_needed};
-ghost use Rattle.ilk_learn.specs.Hand.{WorkingClauseHolds, IsConflictOfCurrentLevel, WorkingClauseHoldsStep, ConflictWalkEndedAt, are_in_range_and_set, step_from_conflict_clause};
+ghost use Rattle.ilk_learn.specs.Hand.{WorkingClauseHolds, IsConflictOfCurrentLevel, WorkingClauseHoldsStepFields, ConflictWalkEndedAt, are_in_range_and_set, step_from_conflict_clause};
 
 use ilk_cnf::Lit;
 use ilk_trail::Trail;
@@ -129,7 +129,7 @@ impl WorkingClause {
 
     // Passes the entry of `lit`. If the clause has its variable, resolves with its reason.
     fn pass(&mut self, clauses: &NumberedClauses, trail: &Trail, lit: Lit) -> Result<(), AllocError>
-        requires held { (s : StepValue) × WorkingClauseHoldsStep trail.now self.old s }
+        requires held { (s : StepValue) × WorkingClauseHoldsStepFields trail.now self.old s }
         requires reasons { HasReasons clauses.now.clauses trail.now.entries }
         requires vars { clauses.now.vars ≡ trail.now.vars }
         requires within { IsTrue (is_lit_over trail.now.vars lit) }
@@ -138,8 +138,8 @@ impl WorkingClause {
             IsTrue (is_current trail.now.entries lit) }
         ensures { OnOk result
             ((e : Entry) (s : StepValue) → entry_of trail.now.entries lit.var ≡ Some e →
-            WorkingClauseHoldsStep trail.now self.old s →
-            WorkingClauseHoldsStep trail.now self.new
+            WorkingClauseHoldsStepFields trail.now self.old s →
+            WorkingClauseHoldsStepFields trail.now self.new
             (resolved_with_reason_if_needed clauses.now.clauses e s)) }
     {
         let _count = clauses.count();
@@ -174,7 +174,7 @@ impl WorkingClause {
         conflict: u64,
     ) -> Result<Option<Lit>, AllocError>
         requires conflict { IsConflictOfCurrentLevel (formula_of clauses.now) trail.now conflict }
-        requires held { WorkingClauseHoldsStep trail.now self.old
+        requires held { WorkingClauseHoldsStepFields trail.now self.old
             (step_from_conflict_clause clauses.now.clauses conflict) }
         ensures { IfOk result
             (λ point. ConflictWalkEndedAt trail.now clauses.now.clauses conflict self.new point) }

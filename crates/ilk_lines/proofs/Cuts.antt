@@ -5,7 +5,7 @@ use Rattle.std.proofs.lemmas.Bool.{ltb-true}
 use Rattle.std.proofs.lemmas.Iterator.Adapters.{position_from-zero}
 use Rattle.std.proofs.lemmas.List.Splits.{slice_split_first}
 use Rattle.ilk_lines.specs.Reading.{expect_end_of_text}
-use Rattle.ilk_lines.specs.Lines.{unterminated_tail, last_part, lines_of, parts_at, parts_but_last}
+use Rattle.ilk_lines.specs.Lines.{unterminated_tail, last_part_or_empty, lines_of, parts_at, parts_but_last}
 
 none_by : (b : Bool) (c i x : ℕ) (xs : List ℕ) →
     (position_from (λ b. b == c) (i + 1) xs ≡ None → parts_at c xs ≡ xs ∷ []) →
@@ -53,7 +53,7 @@ not_at_end n [] some = absurd (omega arith)
 not_at_end n (b ∷ text) some = by_first (b == 10) (parts_follow 10 text)
   where
     ends : List (List ℕ) → Type 0
-    ends parts = expect_end_of_text n (parts_but_last parts) (last_part parts) ≡ Err n
+    ends parts = expect_end_of_text n (parts_but_last parts) (last_part_or_empty parts) ≡ Err n
 
     by_first : (yes : Bool) → ((part : List ℕ) × (parts : List (List ℕ)) × (parts_at 10 text ≡ part ∷ parts)) → ends (cond yes ([] ∷ parts_at 10 text) (onto_first b (parts_at 10 text)))
     by_first true (part, parts, follows) = rw follows refl

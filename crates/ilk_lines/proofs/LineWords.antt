@@ -11,8 +11,8 @@ use Rattle.std.proofs.lemmas.Option.{cond_some, same_Some}
 use Rattle.std.proofs.lemmas.Slice.Eq.{bytes_eq-Decides}
 use Rattle.ilk_base.specs.Option.{◌>>=◌, then_some}
 use Rattle.ilk_lines.specs.Lines.{Bytes, parts_at}
-use Rattle.ilk_lines.specs.Words.{strip_start, strip_first_word, split_at_first_space, words_of}
-use Rattle.ilk_lines.specs.Written.{LacksByte, line_of, join_word_and_rest}
+use Rattle.ilk_lines.specs.Words.{strip_start, strip_word_and_space, split_at_first_space, words_of}
+use Rattle.ilk_lines.specs.Written.{LacksByte, join_words_with_spaces, join_word_and_rest}
 use Rattle.ilk_lines.proofs.Cuts.{parts_follow}
 use Rattle.ilk_base.proofs.Options.{bind_some}
 use Rattle.ilk_lines.proofs.Lacking.{part_alone, part_first}
@@ -60,8 +60,8 @@ strip_start-joins beginning line rest e =
     let same : take (length beginning) line ≡ beginning = (bytes_eq-Decides (take (length beginning) line) beginning).0 begins.0 in
     sym (take-append-drop (length beginning) line) ∙ ap (λ xs. xs ++ drop (length beginning) line) same ∙ ap (λ ys. beginning ++ ys) begins.1
 
-pub strip_first_word-joins : (word line rest : Bytes) → strip_first_word word line ≡ Some rest → line ≡ join_word_and_rest word rest
-strip_first_word-joins word line rest e =
+pub strip_word_and_space-joins : (word line rest : Bytes) → strip_word_and_space word line ≡ Some rest → line ≡ join_word_and_rest word rest
+strip_word_and_space-joins word line rest e =
     let a = bind_some (strip_start word line) _ rest e in
     strip_start-joins word line a.0 a.1 ∙ ap (λ xs. word ++ xs) (strip_start-joins (32 ∷ []) a.0 rest a.2)
 
@@ -72,7 +72,7 @@ start_back beginning rest =
     let same : bytes_eq (take (length beginning) (beginning ++ rest)) beginning ≡ true = (bytes_eq-Decides _ _).1 front in
     ap (λ b. then_some b (drop (length beginning) (beginning ++ rest))) same ∙ ap (λ (r : Bytes). Some r) back
 
-pub word_back : (word rest : Bytes) → strip_first_word word (join_word_and_rest word rest) ≡ Some rest
+pub word_back : (word rest : Bytes) → strip_word_and_space word (join_word_and_rest word rest) ≡ Some rest
 word_back word rest = ap (λ (o : Option Bytes). o >>= strip_start (32 ∷ [])) (start_back word (32 ∷ rest)) ∙ start_back (32 ∷ []) rest
 
 pub parts-joined : (c : ℕ) (xs : Bytes) → c ∷ xs ≡ flat_map (λ part. c ∷ part) (parts_at c xs)
@@ -89,18 +89,19 @@ parts-joined c (x ∷ xs) = join (x == c) refl (parts_follow c xs) (parts-joined
         let tail : xs ≡ part ++ flat_map (λ q. c ∷ q) parts = ap (drop 1) whole in
         ap (λ ys. c ∷ x ∷ ys) tail ∙ sym (ap (λ ps. flat_map (λ q. c ∷ q) (onto_first x ps)) follows)
 
-pub line-words : (line : Bytes) → line ≡ line_of (words_of line)
+pub line-words : (line : Bytes) → line ≡ join_words_with_spaces (words_of line)
 line-words [] = refl
 line-words (x ∷ line) = join (x == 32) refl (parts_follow 32 line) (line-words line)
   where
-    join : (b : Bool) → (x == 32) ≡ b → ((part : Bytes) × (parts : List Bytes) × (parts_at 32 line ≡ part ∷ parts)) → line ≡ line_of (parts_at 32 line) → x ∷ line ≡ line_of (cond b ([] ∷ parts_at 32 line) (onto_first x (parts_at 32 line)))
-    join true same (part, parts, follows) rest = ap (λ y. y ∷ line) ((Decides-eqb x 32).0 same) ∙ ap (λ ys. 32 ∷ ys) (rest ∙ ap line_of follows) ∙ sym (ap (λ ps. line_of ([] ∷ ps)) follows)
-    join false differs (part, [], follows) rest = ap (λ ys. x ∷ ys) (rest ∙ ap line_of follows) ∙ sym (ap (λ ps. line_of (onto_first x ps)) follows)
-    join false differs (part, next ∷ parts, follows) rest = ap (λ ys. x ∷ ys) (rest ∙ ap line_of follows) ∙ sym (ap (λ ps. line_of (onto_first x ps)) follows)
+    join : (b : Bool) → (x == 32) ≡ b → ((part : Bytes) × (parts : List Bytes) × (parts_at 32 line ≡ part ∷ parts)) → line ≡ join_words_with_spaces (parts_at 32 line) → x ∷ line
+        ≡ join_words_with_spaces (cond b ([] ∷ parts_at 32 line) (onto_first x (parts_at 32 line)))
+    join true same (part, parts, follows) rest = ap (λ y. y ∷ line) ((Decides-eqb x 32).0 same) ∙ ap (λ ys. 32 ∷ ys) (rest ∙ ap join_words_with_spaces follows) ∙ sym (ap (λ ps. join_words_with_spaces ([] ∷ ps)) follows)
+    join false differs (part, [], follows) rest = ap (λ ys. x ∷ ys) (rest ∙ ap join_words_with_spaces follows) ∙ sym (ap (λ ps. join_words_with_spaces (onto_first x ps)) follows)
+    join false differs (part, next ∷ parts, follows) rest = ap (λ ys. x ∷ ys) (rest ∙ ap join_words_with_spaces follows) ∙ sym (ap (λ ps. join_words_with_spaces (onto_first x ps)) follows)
 
-pub words_back : (words : List Bytes) → 0 < length words → All (LacksByte 32) words → words_of (line_of words) ≡ words
+pub words_back : (words : List Bytes) → 0 < length words → All (LacksByte 32) words → words_of (join_words_with_spaces words) ≡ words
 words_back [] some plain = absurd (omega arith)
 words_back (word ∷ []) some plain = part_alone 32 word (plain zero [] (omega arith))
 words_back (word ∷ next ∷ more) some plain =
-    part_first 32 word (line_of (next ∷ more)) (plain zero [] (omega arith))
+    part_first 32 word (join_words_with_spaces (next ∷ more)) (plain zero [] (omega arith))
     ∙ ap (λ ws. word ∷ ws) (words_back (next ∷ more) (omega arith) (λ k d within. plain (suc k) d (omega arith)))

@@ -3,13 +3,13 @@ use Rattle.std.proofs.Common.{◌≡◌, Bool, true, false, ◌==◌, All, List,
 use Rattle.std.specs.List.{onto_first}
 use Rattle.std.proofs.lemmas.Bool.Decides.{Decides-eqb}
 use Rattle.std.proofs.lemmas.List.Concat.{flat_map-append}
-use Rattle.ilk_lines.specs.Lines.{Bytes, unterminated_tail, last_part, lines_of, parts_at, parts_but_last}
+use Rattle.ilk_lines.specs.Lines.{Bytes, unterminated_tail, last_part_or_empty, lines_of, parts_at, parts_but_last}
 use Rattle.ilk_lines.specs.Written.{LacksByte, text_of}
 use Rattle.ilk_lines.proofs.Cuts.{lines_cut, parts_follow}
 use Rattle.ilk_lines.proofs.Lacking.{part_alone, part_first}
 
 pub lines_then : (ls : List Bytes) (after : Bytes) → All (LacksByte 10) ls → LacksByte 10 after → (lines_of (text_of ls ++ after) ≡ ls) × (unterminated_tail (text_of ls ++ after) ≡ after)
-lines_then [] after plain rest = (ap parts_but_last (part_alone 10 after rest), ap last_part (part_alone 10 after rest))
+lines_then [] after plain rest = (ap parts_but_last (part_alone 10 after rest), ap last_part_or_empty (part_alone 10 after rest))
 lines_then (line ∷ ls) after plain lacks =
     let rest : Bytes = text_of ls ++ after in
     let tail = lines_then ls after (λ k d within. plain (suc k) d (omega arith)) lacks in
@@ -28,7 +28,7 @@ text-lines [] = refl
 text-lines (x ∷ text) = join (x == 10) refl (parts_follow 10 text) (text-lines text)
   where
     whole : List Bytes → Bytes
-    whole parts = text_of (parts_but_last parts) ++ last_part parts
+    whole parts = text_of (parts_but_last parts) ++ last_part_or_empty parts
 
     join : (b : Bool) → (x == 10) ≡ b → ((part : Bytes) × (parts : List Bytes) × (parts_at 10 text ≡ part ∷ parts)) → text ≡ whole (parts_at 10 text) → x ∷ text ≡ whole (cond b ([] ∷ parts_at 10 text) (onto_first x (parts_at 10 text)))
     join true same (part, parts, follows) rest = ap (λ y. y ∷ text) ((Decides-eqb x 10).0 same) ∙ ap (λ ys. 10 ∷ ys) (rest ∙ ap whole follows) ∙ sym (ap (λ ps. whole ([] ∷ ps)) follows)

@@ -17,10 +17,10 @@ parts_but_last (part ∷ []) = []
 parts_but_last (part ∷ next ∷ more) = part ∷ parts_but_last (next ∷ more)
 
 -- Returns the last of these parts, or no bytes if there is none.
-abbrev pub last_part : List Bytes → Bytes
-last_part [] = []
-last_part (part ∷ []) = part
-last_part (part ∷ next ∷ more) = last_part (next ∷ more)
+abbrev pub last_part_or_empty : List Bytes → Bytes
+last_part_or_empty [] = []
+last_part_or_empty (part ∷ []) = part
+last_part_or_empty (part ∷ next ∷ more) = last_part_or_empty (next ∷ more)
 
 -- Returns the lines of a text, each without the line feed that ends it.
 abbrev pub lines_of : Bytes → List Bytes
@@ -28,4 +28,4 @@ lines_of text = parts_but_last (parts_at 10 text)
 
 -- Returns the bytes after the last line feed, which aren't a line.
 abbrev pub unterminated_tail : Bytes → Bytes
-unterminated_tail text = last_part (parts_at 10 text)
+unterminated_tail text = last_part_or_empty (parts_at 10 text)

@@ -9,8 +9,8 @@ pub record RemainingLinesAndTail : Type 0 where
   pub after : Bytes
 
 -- Returns all lines of a text, the first of them numbered `n`, and the bytes after them.
-abbrev pub lines_numbered_from : ℕ → Bytes → RemainingLinesAndTail
-lines_numbered_from n text = record { number = n; lines = lines_of text; after = unterminated_tail text }
+abbrev pub lines_and_tail_numbered_from : ℕ → Bytes → RemainingLinesAndTail
+lines_and_tail_numbered_from n text = record { number = n; lines = lines_of text; after = unterminated_tail text }
 
 -- Holds if the first `n` lines of `old` were taken, and `new` is what is left.
 pub record TookFirstLines (n : ℕ) (old new : RemainingLinesAndTail) : Type 0 where

@@ -50,5 +50,5 @@ item_values_from_lines value items n lines =
     if length values == length items then Ok (record { values = values; number = n + length items; lines = drop (length items) lines }) else Err (n + length values)
 
 -- Returns the numbers from 0, as many as there are items.
-abbrev pub indices_of_items : {A : Type 0} → List A → List ℕ
-indices_of_items items = range_with_len 0 (length items)
+abbrev pub indices_of_list : {A : Type 0} → List A → List ℕ
+indices_of_list items = range_with_len 0 (length items)

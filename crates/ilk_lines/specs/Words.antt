@@ -17,7 +17,7 @@ strip_start beginning line = then_some (bytes_eq (take (length beginning) line) 
 
 -- Returns the part of a line after this first word and one space. Returns `None` if the line
 -- doesn't begin so.
-abbrev pub strip_first_word : Bytes → Bytes → Option Bytes
-strip_first_word word line = do
+abbrev pub strip_word_and_space : Bytes → Bytes → Option Bytes
+strip_word_and_space word line = do
   rest ← strip_start word line
   strip_start (32 ∷ []) rest

@@ -11,10 +11,10 @@ abbrev pub join_word_and_rest : Bytes → Bytes → Bytes
 join_word_and_rest word rest = word ++ 32 ∷ rest
 
 -- Returns the line of these words, with one space between each two.
-abbrev pub line_of : List Bytes → Bytes
-line_of [] = []
-line_of (word ∷ []) = word
-line_of (word ∷ next ∷ more) = join_word_and_rest word (line_of (next ∷ more))
+abbrev pub join_words_with_spaces : List Bytes → Bytes
+join_words_with_spaces [] = []
+join_words_with_spaces (word ∷ []) = word
+join_words_with_spaces (word ∷ next ∷ more) = join_word_and_rest word (join_words_with_spaces (next ∷ more))
 
 -- Returns whether a text has the byte `c`.
 abbrev pub has_byte : ℕ → Bytes → Bool

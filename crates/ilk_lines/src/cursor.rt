@@ -1,5 +1,5 @@
 ghost use Rattle.std.specs.Prelude.{◌≡◌, ◌<◌, ◌+◌, ◌^◌, [], ◌∷◌, length, OnOk, IfOk, IfErr, OnErr, IfSome, IfNone, Ok, Err};
-ghost use Rattle.ilk_lines.specs.LinesLeft.{lines_numbered_from};
+ghost use Rattle.ilk_lines.specs.LinesLeft.{lines_and_tail_numbered_from};
 ghost use Rattle.ilk_lines.specs.Reading.{expect_first_line, expect_end_of_text};
 ghost use Rattle.ilk_lines.specs.declared.fault.LineFault.TheVariants.{BadLine};
 
@@ -17,11 +17,11 @@ pub struct Lines<'a> {
 
 impl<'a> Model for Lines<'a> {
     ghost use Rattle.std.specs.Prelude.{◌<◌, ◌+◌, ◌^◌, length};
-    ghost use Rattle.ilk_lines.specs.LinesLeft.{RemainingLinesAndTail, lines_numbered_from};
+    ghost use Rattle.ilk_lines.specs.LinesLeft.{RemainingLinesAndTail, lines_and_tail_numbered_from};
 
     ghost Value = { RemainingLinesAndTail };
 
-    ghost view = { λ l. lines_numbered_from l.number l.rest.now };
+    ghost view = { λ l. lines_and_tail_numbered_from l.number l.rest.now };
 
     ghost invariant = { λ l. l.number + length l.rest.now < 2 ^ 64 };
 }
@@ -29,7 +29,7 @@ impl<'a> Model for Lines<'a> {
 impl<'a> Lines<'a> {
     /// Creates a reader of all lines of `text`, numbered from 1.
     pub fn from_text(text: &'a [u8]) -> Lines<'a>
-        ensures { result ≡ lines_numbered_from 1 text.now }
+        ensures { result ≡ lines_and_tail_numbered_from 1 text.now }
     {
         Lines {
             rest: text,

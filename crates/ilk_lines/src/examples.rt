@@ -1,7 +1,7 @@
 ghost use Rattle.std.specs.Prelude.{◌≡◌, [], ◌∷◌, Some, None, codes};
 ghost use Rattle.ilk_lines.specs.Decimal.{decimal_up_to};
 ghost use Rattle.ilk_lines.specs.Lines.{unterminated_tail, lines_of};
-ghost use Rattle.ilk_lines.specs.Words.{strip_first_word, split_at_first_space, words_of};
+ghost use Rattle.ilk_lines.specs.Words.{strip_word_and_space, split_at_first_space, words_of};
 
 fn lines_of_texts()
     ensures two { lines_of (codes "a\n\n") ≡ codes "a" ∷ [] ∷ [] }
@@ -16,8 +16,8 @@ fn words_of_lines()
     ensures empty { words_of [] ≡ [] ∷ [] }
     ensures first { split_at_first_space (codes "a b c") ≡ Some (codes "a", codes "b c") }
     ensures alone { split_at_first_space (codes "a") ≡ None }
-    ensures after { strip_first_word (codes "a") (codes "a b") ≡ Some (codes "b") }
-    ensures longer { strip_first_word (codes "a") (codes "ab c") ≡ None }
+    ensures after { strip_word_and_space (codes "a") (codes "a b") ≡ Some (codes "b") }
+    ensures longer { strip_word_and_space (codes "a") (codes "ab c") ≡ None }
 {}
 
 fn numbers_of_words()

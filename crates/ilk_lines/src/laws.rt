@@ -2,8 +2,8 @@ ghost use Rattle.std.specs.Prelude.{ℕ, ◌≡◌, ◌≤◌, ◌++◌, ◌<◌
 ghost use Rattle.std.specs.Fmt.{decimal};
 ghost use Rattle.ilk_lines.specs.Decimal.{decimal_up_to};
 ghost use Rattle.ilk_lines.specs.Lines.{Bytes, unterminated_tail, lines_of};
-ghost use Rattle.ilk_lines.specs.Words.{strip_first_word, split_at_first_space, words_of};
-ghost use Rattle.ilk_lines.specs.Written.{LacksByte, line_of, join_word_and_rest, text_of};
+ghost use Rattle.ilk_lines.specs.Words.{strip_word_and_space, split_at_first_space, words_of};
+ghost use Rattle.ilk_lines.specs.Written.{LacksByte, join_words_with_spaces, join_word_and_rest, text_of};
 
 /// Splitting a text into lines and joining them are inverse. A text is its lines, each with its
 /// line feed, and the bytes after them. Lines and a rest without line feeds are read back as
@@ -22,14 +22,15 @@ pub fn line_split_and_join_inverse(text: &[u8])
 /// the part before the first space, and the rest of the line follows it. Proof only; no run-time
 /// effect.
 pub fn word_split_and_join_inverse(line: &[u8])
-    ensures whole { line.now ≡ line_of (words_of line.now) }
+    ensures whole { line.now ≡ join_words_with_spaces (words_of line.now) }
     ensures words { (words : List Bytes) → 0 < length words → All (LacksByte 32) words →
-        words_of (line_of words) ≡ words }
+        words_of (join_words_with_spaces words) ≡ words }
     ensures first { (word rest : Bytes) →
         (split_at_first_space line.now ≡ Some (word, rest)) ↔
         ((line.now ≡ join_word_and_rest word rest) × LacksByte 32 word) }
     ensures after { (word rest : Bytes) →
-        (strip_first_word word line.now ≡ Some rest) ↔ (line.now ≡ join_word_and_rest word rest) }
+        (strip_word_and_space word line.now ≡ Some rest)
+        ↔ (line.now ≡ join_word_and_rest word rest) }
 {}
 
 /// A word is read as a number up to `limit` if and only if it is the decimal text of that number.

@@ -14,7 +14,7 @@
 //! - `read_while_some` reads as many lines as match.
 //! - `next`, `require_line` and `split_first` serve loops of the caller.
 //!
-//! `split_at_first_occurrence` splits a text of another form at a byte. `strip_first_word`,
+//! `split_at_first_occurrence` splits a text of another form at a byte. `strip_word_and_space`,
 //! `split_at_first_space` and `split_off_first_word` split a line. `decimal_up_to` reads numbers,
 //! and `push_decimal` writes them. The laws state that written texts, and only these, are read
 //! back.
@@ -44,4 +44,4 @@ pub use laws::{
 pub use parts::split_at_first_occurrence;
 pub use token::ShortByteStack;
 pub use untaken::RemainingBytes;
-pub use words::{split_at_first_space, split_off_first_word, strip_first_word, strip_start};
+pub use words::{split_at_first_space, split_off_first_word, strip_start, strip_word_and_space};

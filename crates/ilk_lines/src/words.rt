@@ -1,6 +1,6 @@
 ghost use Rattle.std.specs.Prelude.{◌≡◌, ◌<◌, [], ◌∷◌, length, IfSome, option_map};
 ghost use Rattle.std.specs.Option.{option_map_or};
-ghost use Rattle.ilk_lines.specs.Words.{strip_start, strip_first_word, split_at_first_space, words_of};
+ghost use Rattle.ilk_lines.specs.Words.{strip_start, strip_word_and_space, split_at_first_space, words_of};
 
 use crate::parts::{place_of, split_at_first_occurrence};
 
@@ -25,8 +25,8 @@ pub fn strip_start<'a>(line: &'a [u8], beginning: &[u8]) -> Option<&'a [u8]>
 
 /// Returns the part of `line` after its first word `word` and the space that ends it. Returns
 /// `None` if and only if the line doesn't begin so.
-pub fn strip_first_word<'a>(line: &'a [u8], word: &[u8]) -> Option<&'a [u8]>
-    ensures { option_map (λ rest. rest.now) result ≡ strip_first_word word.now line.now }
+pub fn strip_word_and_space<'a>(line: &'a [u8], word: &[u8]) -> Option<&'a [u8]>
+    ensures { option_map (λ rest. rest.now) result ≡ strip_word_and_space word.now line.now }
 {
     let rest = strip_start(line, word)?;
     strip_start(rest, b" ")

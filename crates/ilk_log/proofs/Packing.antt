@@ -10,32 +10,32 @@ use Rattle.ilk_cnf.specs.Literal.{Literal}
 use Rattle.ilk_cnf.specs.Formula.{is_clause_over, is_lit_over}
 use Rattle.ilk_lines.specs.Lines.{Bytes}
 use Rattle.ilk_log.specs.declared.step.Step.{Step}
-use Rattle.ilk_log.specs.Packed.{DecodesToNumbersAndState, decoded_numbers, append_seven_bits, add_zigzag_delta, code_from_lit, lit_from_code, step_from_numbers}
+use Rattle.ilk_log.specs.Packed.{DecodesToNumbersAndState, decoded_numbers, shift_in_seven_bits, add_zigzag_delta, code_from_lit, lit_from_code, step_from_numbers}
 
-pub high-told : (bytes : Bytes) (ns : List ℕ) (last way bits : ℕ) → bits < 128 → DecodesToNumbersAndState bytes ns last way → DecodesToNumbersAndState (bytes ++ (128 + bits) ∷ []) ns last (append_seven_bits way bits)
+pub high-told : (bytes : Bytes) (ns : List ℕ) (last way bits : ℕ) → bits < 128 → DecodesToNumbersAndState bytes ns last way → DecodesToNumbersAndState (bytes ++ (128 + bits) ∷ []) ns last (shift_in_seven_bits way bits)
 high-told bytes ns last way bits h t = record {
   told = λ rest. ap (decoded_numbers 0 0) (append_assoc bytes ((128 + bits) ∷ []) rest) ∙ t.told ((128 + bits) ∷ rest) ∙ ap (λ (xs : List ℕ). ns ++ xs) (step rest);
 }
   where
-    step : (rest : Bytes) → decoded_numbers last way ((128 + bits) ∷ rest) ≡ decoded_numbers last (append_seven_bits way bits) rest
+    step : (rest : Bytes) → decoded_numbers last way ((128 + bits) ∷ rest) ≡ decoded_numbers last (shift_in_seven_bits way bits) rest
     step rest =
         let past : (128 + bits) - 128 ≡ bits = omega arith in
         rw (le-ltb (128 + bits) 128 (omega arith), past) refl
 
-pub low-told : (bytes : Bytes) (ns : List ℕ) (last way bits : ℕ) → bits < 128 → DecodesToNumbersAndState bytes ns last way → DecodesToNumbersAndState (bytes ++ bits ∷ []) (ns ++ add_zigzag_delta last (append_seven_bits way bits) ∷ [])
-    (add_zigzag_delta last (append_seven_bits way bits)) 0
+pub low-told : (bytes : Bytes) (ns : List ℕ) (last way bits : ℕ) → bits < 128 → DecodesToNumbersAndState bytes ns last way → DecodesToNumbersAndState (bytes ++ bits ∷ []) (ns ++ add_zigzag_delta last (shift_in_seven_bits way bits) ∷ [])
+    (add_zigzag_delta last (shift_in_seven_bits way bits)) 0
 low-told bytes ns last way bits h t = record {
   told = λ rest. ap (decoded_numbers 0 0) (append_assoc bytes (bits ∷ []) rest) ∙ t.told (bits ∷ rest)
       ∙ ap (λ (xs : List ℕ). ns ++ xs) (step rest)
       ∙ sym
-      (append_assoc ns (add_zigzag_delta last (append_seven_bits way bits) ∷ [])
-      (decoded_numbers (add_zigzag_delta last (append_seven_bits way bits)) 0 rest));
+      (append_assoc ns (add_zigzag_delta last (shift_in_seven_bits way bits) ∷ [])
+      (decoded_numbers (add_zigzag_delta last (shift_in_seven_bits way bits)) 0 rest));
 }
   where
-    step : (rest : Bytes) → decoded_numbers last way (bits ∷ rest) ≡ add_zigzag_delta last (append_seven_bits way bits) ∷ decoded_numbers (add_zigzag_delta last (append_seven_bits way bits)) 0 rest
+    step : (rest : Bytes) → decoded_numbers last way (bits ∷ rest) ≡ add_zigzag_delta last (shift_in_seven_bits way bits) ∷ decoded_numbers (add_zigzag_delta last (shift_in_seven_bits way bits)) 0 rest
     step rest = rw (lt-ltb bits 128 h) refl
 
-whole-way : (way : ℕ) → way < 2 ^ 64 → append_seven_bits (way / 128) (way % 128) ≡ way
+whole-way : (way : ℕ) → way < 2 ^ 64 → shift_in_seven_bits (way / 128) (way % 128) ≡ way
 whole-way way h = omega (arith, h)
 
 pub high_told : (bytes : Bytes) (ns : List ℕ) (last way : ℕ) → way < 2 ^ 64 → DecodesToNumbersAndState bytes ns last (way / 128) → DecodesToNumbersAndState (bytes ++ (128 + way % 128) ∷ []) ns last way
@@ -47,7 +47,7 @@ pub number_told : (bytes : Bytes) (ns : List ℕ) (last way number : ℕ) → wa
     number ∷ []) number 0
 number_told bytes ns last way number h m t =
     let low : way % 128 < 128 = omega arith in
-    let w : add_zigzag_delta last (append_seven_bits (way / 128) (way % 128)) ≡ number = ap (add_zigzag_delta last) (whole-way way h) ∙ m in
+    let w : add_zigzag_delta last (shift_in_seven_bits (way / 128) (way % 128)) ≡ number = ap (add_zigzag_delta last) (whole-way way h) ∙ m in
     subst (λ (n : ℕ). DecodesToNumbersAndState (bytes ++ way % 128 ∷ []) (ns ++ n ∷ []) n 0) w (low-told bytes ns last (way / 128) (way % 128) low t)
 
 more : (xs : List ℕ) (i x : ℕ) → slice_get xs i ≡ Some x → take (i + 1) xs ≡ take i xs ++ x ∷ []

@@ -7,14 +7,14 @@ use Rattle.std.proofs.lemmas.Option.{slice_get_within, get_or_from_slice_get}
 use Rattle.ilk_base.proofs.FlatMaps.{flat_map-grows}
 use Rattle.ilk_cnf.specs.Literal.{Literal}
 use Rattle.ilk_lines.specs.Lines.{Bytes}
-use Rattle.ilk_lines.specs.Written.{line_of}
+use Rattle.ilk_lines.specs.Written.{join_words_with_spaces}
 use Rattle.ilk_log.specs.declared.step.Step.{Step}
 use Rattle.ilk_log.specs.StepText.{lit_word, step_words, step_text}
 
 abbrev led : List Bytes → Bytes
 led words = flat_map (λ w. 32 ∷ w) words
 
-line-led : (word : Bytes) (words : List Bytes) → line_of (word ∷ words) ≡ word ++ led words
+line-led : (word : Bytes) (words : List Bytes) → join_words_with_spaces (word ∷ words) ≡ word ++ led words
 line-led word [] = sym (append-nil word)
 line-led word (next ∷ more) = ap (λ (x : Bytes). word ++ (32 ∷ x)) (line-led next more)
 
@@ -35,7 +35,7 @@ text_is start s =
     let whole = line-led w (map lit_word s.clause ++ (codes "0" ∷ (map decimal s.hints ++ codes "0" ∷ []))) in
     let lits = led-append (map lit_word s.clause) (codes "0" ∷ (map decimal s.hints ++ codes "0" ∷ [])) in
     let hints = led-append (map decimal s.hints) (codes "0" ∷ []) in
-    let right : line_of (step_words s) ≡ w ++ (c ++ (z ++ (h ++ z))) =
+    let right : join_words_with_spaces (step_words s) ≡ w ++ (c ++ (z ++ (h ++ z))) =
     whole
     ∙ ap (λ (t : Bytes). w ++ t)
     (lits

@@ -13,7 +13,7 @@ use Rattle.ilk_cnf.specs.Literal.{Literal}
 use Rattle.ilk_cnf.specs.Formula.{is_lit_over, is_clause_over}
 use Rattle.ilk_lines.specs.Lines.{Bytes}
 use Rattle.ilk_lines.specs.Words.{words_of}
-use Rattle.ilk_lines.specs.Written.{line_of, LacksByte}
+use Rattle.ilk_lines.specs.Written.{join_words_with_spaces, LacksByte}
 use Rattle.ilk_lines.specs.Decimal.{decimal_up_to}
 use Rattle.ilk_lines.proofs.Decimals.{decimal-written, decimal_back, decimal_lacks}
 use Rattle.ilk_lines.proofs.Cuts.{parts_follow}
@@ -21,9 +21,9 @@ use Rattle.ilk_lines.proofs.LineWords.{line-words, words_back}
 use Rattle.ilk_log.specs.declared.step.Step.{Step}
 use Rattle.ilk_log.specs.StepText.{lit_word, step_words, step_text, has_writable_numbers}
 use Rattle.ilk_log.specs.StepReading.{lits_from_words, has_no_words, hints_from_words, step_from_words}
-use Rattle.ilk_log.specs.StepWords.{nonzero_from_word, lit_from_word}
+use Rattle.ilk_log.specs.StepWords.{positive_decimal_up_to, lit_from_word}
 
-count-written : (limit n : ℕ) (word : Bytes) → limit < 2 ^ 64 → nonzero_from_word limit word ≡ Some n → (word ≡ decimal n) × (0 < n) × (n ≤ limit)
+count-written : (limit n : ℕ) (word : Bytes) → limit < 2 ^ 64 → positive_decimal_up_to limit word ≡ Some n → (word ≡ decimal n) × (0 < n) × (n ≤ limit)
 count-written limit n word small e =
     let b = bind_some (decimal_up_to limit word) (λ (m : ℕ). then_some (nat_lt 0 m) m) n e in
     let c = cond_some (nat_lt 0 b.0) b.0 n b.2 in
@@ -31,7 +31,7 @@ count-written limit n word small e =
     let p : 0 < b.0 = ltb-true 0 b.0 c.0 in
     (r.0 ∙ ap decimal c.1, omega (arith, c.1, p), omega (arith, c.1, r.1))
 
-count-back : (limit n : ℕ) → limit < 2 ^ 64 → 0 < n → n ≤ limit → nonzero_from_word limit (decimal n) ≡ Some n
+count-back : (limit n : ℕ) → limit < 2 ^ 64 → 0 < n → n ≤ limit → positive_decimal_up_to limit (decimal n) ≡ Some n
 count-back limit n small p h =
     let d = decimal_back limit n small h in
     let q : nat_lt 0 n ≡ true = lt-ltb 0 n p in
@@ -43,7 +43,7 @@ word-is word wanted h = (bytes_eq-Decides word wanted).0 h
 zero-word : (word : Bytes) → bytes_eq word (codes "0") ≡ true → word ≡ codes "0"
 zero-word word h = word-is word (codes "0") h
 
-lit-plain : (word : Bytes) → LacksByte 45 word → lit_from_word word ≡ option_map (λ (v : ℕ). let r : Literal = record { var = v; positive = true } in r) (nonzero_from_word (2 ^ 62) word)
+lit-plain : (word : Bytes) → LacksByte 45 word → lit_from_word word ≡ option_map (λ (v : ℕ). let r : Literal = record { var = v; positive = true } in r) (positive_decimal_up_to (2 ^ 62) word)
 lit-plain [] h = refl
 lit-plain (b ∷ word) h = (let p = or_parts (b == 45) (list_any (λ x. x == 45) word) h in rw p.0 refl)
 
@@ -51,12 +51,12 @@ within-numbers : (v : ℕ) (b : Bool) → 0 < v → v ≤ 2 ^ 62 → is_lit_over
 within-numbers v b p h = and_from (nat_lt 0 v) (nat_le v (2 ^ 62)) (lt-ltb 0 v p) (le-leb v (2 ^ 62) h)
 
 signed : (b : Bool) (word : Bytes) (l : Literal) →
-    option_map (λ (v : ℕ). let r : Literal = record { var = v; positive = b } in r) (nonzero_from_word (2 ^ 62) word)
+    option_map (λ (v : ℕ). let r : Literal = record { var = v; positive = b } in r) (positive_decimal_up_to (2 ^ 62) word)
     ≡ Some l →
     (n : ℕ) × (word ≡ decimal n) × (is_lit_over (2 ^ 62) l ≡ true) × (l ≡ record { var = n; positive = b })
 signed b word l h =
     let f : ℕ → Literal = λ v. record { var = v; positive = b } in
-    let m = mapped-Some f (nonzero_from_word (2 ^ 62) word) l h in
+    let m = mapped-Some f (positive_decimal_up_to (2 ^ 62) word) l h in
     let c = count-written (2 ^ 62) m.0 word (lit< tt) m.1 in
     let L : Literal → Type 0 = λ x. is_lit_over (2 ^ 62) x ≡ true in
     (m.0, c.0, subst L m.2 (within-numbers m.0 b c.1 c.2), sym m.2)
@@ -83,9 +83,9 @@ not-zero word l h = elim (cases_Bool (bytes_eq word (codes "0"))) [
   | inr e ↦ e
 ]
 
-count-not-zero : (word : Bytes) (n : ℕ) → nonzero_from_word (2 ^ 64 - 1) word ≡ Some n → bytes_eq word (codes "0") ≡ false
+count-not-zero : (word : Bytes) (n : ℕ) → positive_decimal_up_to (2 ^ 64 - 1) word ≡ Some n → bytes_eq word (codes "0") ≡ false
 count-not-zero word n h = elim (cases_Bool (bytes_eq word (codes "0"))) [
-  | inl e ↦ absurd (let m : None ≡ Some n = sym (ap (nonzero_from_word (2 ^ 64 - 1)) (zero-word word e)) ∙ h in cc)
+  | inl e ↦ absurd (let m : None ≡ Some n = sym (ap (positive_decimal_up_to (2 ^ 64 - 1)) (zero-word word e)) ∙ h in cc)
   | inr e ↦ e
 ]
 
@@ -123,7 +123,7 @@ hints-written (word ∷ words) hs h =
       | inl e ↦ (let q = cond_some (has_no_words words) [] hs (rw e at h) in
           let P : List ℕ → Type 0 = λ xs. (word ∷ words ≡ map decimal xs ++ codes "0" ∷ []) × (list_all (λ h. nat_lt 0 h && nat_lt h (2 ^ 64)) xs ≡ true) in
           subst P q.1 (ap (λ (w : Bytes). w ∷ words) (zero-word word e) ∙ ap (λ (ws : List Bytes). codes "0" ∷ ws) (none words q.0), refl))
-      | inr e ↦ (let b = bind_some (nonzero_from_word (2 ^ 64 - 1) word) (λ (n : ℕ). hints_from_words words >>= (λ (r : List ℕ). Some (n ∷ r))) hs (rw e at h) in
+      | inr e ↦ (let b = bind_some (positive_decimal_up_to (2 ^ 64 - 1) word) (λ (n : ℕ). hints_from_words words >>= (λ (r : List ℕ). Some (n ∷ r))) hs (rw e at h) in
           let d = bind_some (hints_from_words words) (λ (r : List ℕ). Some (b.0 ∷ r)) hs b.2 in
           let q : b.0 ∷ d.0 ≡ hs = same_Some (b.0 ∷ d.0) hs d.2 in
           let w = count-written (2 ^ 64 - 1) b.0 word (lit< tt) b.1 in
@@ -197,7 +197,7 @@ lacks-all s h =
 
 pub step_exactly : (line : Bytes) (s : Step) → (step_from_words (words_of line) ≡ Some s) ↔ ((line ≡ step_text s) × (has_writable_numbers s ≡ true))
 step_exactly line s = (
-  λ e. (let w = step-written (words_of line) s e in (line-words line ∙ ap line_of w.0, w.1)),
+  λ e. (let w = step-written (words_of line) s e in (line-words line ∙ ap join_words_with_spaces w.0, w.1)),
   λ is. (ap (λ (t : Bytes). step_from_words (words_of t)) is.0 ∙ ap step_from_words (words_back (step_words s) (omega arith) (lacks-all s is.1)) ∙ step-back s is.1),
 )
 

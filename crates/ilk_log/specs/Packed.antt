@@ -5,8 +5,8 @@ use Rattle.ilk_lines.specs.Lines.{Bytes}
 use Rattle.ilk_log.specs.declared.step.Step.{Step}
 
 -- Returns `value` with the seven bits `bits` at its end, in 64 bits.
-abbrev pub append_seven_bits : ℕ → ℕ → ℕ
-append_seven_bits value bits = (value * 128 + bits) % 2 ^ 64
+abbrev pub shift_in_seven_bits : ℕ → ℕ → ℕ
+shift_in_seven_bits value bits = (value * 128 + bits) % 2 ^ 64
 
 -- Returns the number at difference `way` from `last`, in 64 bits. `way` is twice the way up, or one
 -- less than twice the way down.
@@ -19,7 +19,7 @@ add_zigzag_delta last way = if way % 2 == 0 then (last + way / 2) % 2 ^ 64 else 
 abbrev pub decoded_numbers : ℕ → ℕ → Bytes → List ℕ
 decoded_numbers last way [] = []
 decoded_numbers last way (b ∷ bytes) =
-    if nat_lt b 128 then add_zigzag_delta last (append_seven_bits way b) ∷ decoded_numbers (add_zigzag_delta last (append_seven_bits way b)) 0 bytes else decoded_numbers last (append_seven_bits way (b - 128)) bytes
+    if nat_lt b 128 then add_zigzag_delta last (shift_in_seven_bits way b) ∷ decoded_numbers (add_zigzag_delta last (shift_in_seven_bits way b)) 0 bytes else decoded_numbers last (shift_in_seven_bits way (b - 128)) bytes
 
 -- Returns the code of literal `l`: `2 * (l.var - 1)`, plus 1 if it is positive.
 abbrev pub code_from_lit : Literal → ℕ

@@ -3,7 +3,7 @@ use Rattle.std.specs.Prelude.{ℕ, Bool, true, false, ◌-◌, ◌^◌, List, []
 use Rattle.ilk_base.specs.Option.{◌>>=◌, then_some}
 use Rattle.ilk_cnf.specs.Literal.{Literal}
 use Rattle.ilk_lines.specs.Lines.{Bytes}
-use Rattle.ilk_log.specs.StepWords.{nonzero_from_word, lit_from_word}
+use Rattle.ilk_log.specs.StepWords.{positive_decimal_up_to, lit_from_word}
 use Rattle.ilk_log.specs.declared.step.Step.{Step}
 
 -- Returns the literals before the first word `0`, and the words after it. Returns `None` if a word
@@ -26,7 +26,7 @@ abbrev pub hints_from_words : List Bytes → Option (List ℕ)
 hints_from_words [] = None
 hints_from_words (word ∷ words) =
     if bytes_eq word (codes "0") then then_some (has_no_words words) [] else (do
-      h ← nonzero_from_word (2 ^ 64 - 1) word
+      h ← positive_decimal_up_to (2 ^ 64 - 1) word
       rest ← hints_from_words words
       Some (h ∷ rest))
 

@@ -4,7 +4,7 @@ use Rattle.std.specs.List.{list_all}
 use Rattle.ilk_cnf.specs.Literal.{Literal}
 use Rattle.ilk_cnf.specs.Formula.{is_clause_over}
 use Rattle.ilk_lines.specs.Lines.{Bytes}
-use Rattle.ilk_lines.specs.Written.{line_of}
+use Rattle.ilk_lines.specs.Written.{join_words_with_spaces}
 use Rattle.ilk_log.specs.declared.step.Step.{Step}
 
 -- Returns the word of a literal: its variable in decimal, after a minus sign if it is negative.
@@ -17,7 +17,7 @@ step_words s = codes "step" ∷ (map lit_word s.clause ++ (codes "0" ∷ (map de
 
 -- Returns the line of a step, without its line feed: its words with one space between each two.
 abbrev pub step_text : Step → Bytes
-step_text s = line_of (step_words s)
+step_text s = join_words_with_spaces (step_words s)
 
 -- Returns whether the step fits a line: its variables are from 1 to 2^62, and its hints from 1 to
 -- 2^64 - 1.

@@ -8,20 +8,20 @@ use Rattle.ilk_log.specs.declared.steps_left.Place.{Place}
 use Rattle.ilk_log.specs.declared.steps_left.Place.TheVariants.{Between, Literals, Hints}
 
 -- Returns the end of a step's line: the hints, `0` and the line feed.
-abbrev pub text_from_hints_on : List ℕ → Bytes
-text_from_hints_on hints = flat_map (λ n. 32 ∷ decimal n) hints ++ codes " 0\n"
+abbrev pub hints_and_line_end : List ℕ → Bytes
+hints_and_line_end hints = flat_map (λ n. 32 ∷ decimal n) hints ++ codes " 0\n"
 
 -- Returns the end of a step's line from the literals of `s` on: them and `0`, then hints, `0` and
 -- the line feed.
-abbrev pub text_from_lits_on : Step → Bytes
-text_from_lits_on s = flat_map (λ l. 32 ∷ lit_word l) s.clause ++ (codes " 0" ++ text_from_hints_on s.hints)
+abbrev pub lits_hints_and_line_end : Step → Bytes
+lits_hints_and_line_end s = flat_map (λ l. 32 ∷ lit_word l) s.clause ++ (codes " 0" ++ hints_and_line_end s.hints)
 
 -- Returns the bytes that are left of the current line, from a place in it on, if `s` is the unread
 -- rest of its step.
 abbrev pub remaining_line_text : Place → Step → Bytes
 remaining_line_text Between s = []
-remaining_line_text Literals s = text_from_lits_on s
-remaining_line_text Hints s = text_from_hints_on s.hints
+remaining_line_text Literals s = lits_hints_and_line_end s
+remaining_line_text Hints s = hints_and_line_end s.hints
 
 -- Holds if `s`, the unread rest of a step, fits the place in its line: at the hints no literal is
 -- left.

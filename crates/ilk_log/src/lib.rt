@@ -8,7 +8,7 @@
 //!
 //! `write_step` returns the line of a step, `push_step_text` appends it to a text, and `read_step`
 //! accepts exactly these lines. `read_step_into` does the same with memory that is reused from line
-//! to line (`StepLine`). `LogText` is the text of a log, produced in pieces. A `Log` is a list of
+//! to line (`StepBuffer`). `LogText` is the text of a log, produced in pieces. A `Log` is a list of
 //! steps: `push` adds one, `at` returns one. It keeps each packed, in little more than a byte a
 //! number. `count_learned_clauses` counts the steps with a literal.
 //!
@@ -39,6 +39,6 @@ pub use laws::{empowering_below_3_pow_vars, refutations_refute};
 pub use log_text::LogText;
 pub use read::{read_step, read_step_into};
 pub use step::Step;
-pub use step_line::StepLine;
+pub use step_line::StepBuffer;
 pub use steps::Log;
 pub use write::{push_step_text, write_step};

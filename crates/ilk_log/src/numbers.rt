@@ -4,10 +4,10 @@
 //! first; each byte but the last has 128 added.
 
 ghost use Rattle.std.specs.Prelude.{◌≡◌, ◌∷◌, [], drop, IfSome, IfNone};
-ghost use Rattle.ilk_log.specs.Packed.{append_seven_bits, add_zigzag_delta, decoded_numbers};
+ghost use Rattle.ilk_log.specs.Packed.{shift_in_seven_bits, add_zigzag_delta, decoded_numbers};
 
-fn append_seven_bits(way: u64, bits: u8) -> u64
-    ensures { result ≡ append_seven_bits way bits }
+fn shift_in_seven_bits(way: u64, bits: u8) -> u64
+    ensures { result ≡ shift_in_seven_bits way bits }
 {
     way.wrapping_mul(128).wrapping_add(bits as u64)
 }
@@ -36,9 +36,9 @@ pub(crate) fn decode_number_from_delta(bytes: &[u8], at: usize, last: u64) -> Op
         let byte = bytes[next];
         next += 1;
         if byte < 128 {
-            return Some((add_zigzag_delta(last, append_seven_bits(way, byte)), next));
+            return Some((add_zigzag_delta(last, shift_in_seven_bits(way, byte)), next));
         }
-        way = append_seven_bits(way, byte - 128);
+        way = shift_in_seven_bits(way, byte - 128);
     }
     None
 }

@@ -5,16 +5,16 @@ ghost use Rattle.ilk_lines.specs.Words.{words_of};
 ghost use Rattle.ilk_log.specs.StepReading.{hints_from_words, lits_from_words, step_from_words};
 ghost use Rattle.ilk_log.specs.StepText.{has_writable_numbers, step_text};
 ghost use Rattle.ilk_log.specs.declared.step.Step.{Step as StepValue};
-ghost use Rattle.ilk_log.specs.StepWords.{nonzero_from_word, lit_from_word};
+ghost use Rattle.ilk_log.specs.StepWords.{positive_decimal_up_to, lit_from_word};
 
 use crate::step::Step;
-use crate::step_line::StepLine;
+use crate::step_line::StepBuffer;
 use ilk_cnf::Lit;
 use ilk_lines::{decimal_up_to, split_off_first_word};
 use std::alloc::{AllocError, Global};
 
-fn nonzero_from_word(word: &[u8], limit: u64) -> Option<u64>
-    ensures { result ≡ nonzero_from_word limit word.now }
+fn positive_decimal_up_to(word: &[u8], limit: u64) -> Option<u64>
+    ensures { result ≡ positive_decimal_up_to limit word.now }
 {
     let n = decimal_up_to(word, limit)?;
     if n > 0 { Some(n) } else { None }
@@ -26,8 +26,8 @@ fn lit_from_word(word: &[u8]) -> Option<Lit>
     ensures { result ≡ lit_from_word word.now }
 {
     match word {
-        [b'-', var @ ..] => Some(Lit::new(nonzero_from_word(var, MAX_VAR)?, false)),
-        _ => Some(Lit::new(nonzero_from_word(word, MAX_VAR)?, true)),
+        [b'-', var @ ..] => Some(Lit::new(positive_decimal_up_to(var, MAX_VAR)?, false)),
+        _ => Some(Lit::new(positive_decimal_up_to(word, MAX_VAR)?, true)),
     }
 }
 
@@ -75,7 +75,7 @@ fn unpack_hints(hints: &mut Vec<u64>, line: &[u8]) -> Result<bool, AllocError>
                 None => Ok(true),
             };
         }
-        let Some(h) = nonzero_from_word(word, u64::MAX) else {
+        let Some(h) = positive_decimal_up_to(word, u64::MAX) else {
             return Ok(false);
         };
         let Some(rest) = rest else {
@@ -86,7 +86,7 @@ fn unpack_hints(hints: &mut Vec<u64>, line: &[u8]) -> Result<bool, AllocError>
     }
 }
 
-fn read_words(step: &mut StepLine, line: &[u8]) -> Result<bool, AllocError>
+fn read_words(step: &mut StepBuffer, line: &[u8]) -> Result<bool, AllocError>
     ensures { IfOk result
         (λ told.
         then_some told
@@ -111,7 +111,7 @@ fn read_words(step: &mut StepLine, line: &[u8]) -> Result<bool, AllocError>
 
 /// Reads `line` into `step`. Returns `false` if it isn't the line of a step with variables from 1
 /// to 2^62 and hints from 1 to 2^64 - 1.
-pub fn read_step_into(step: &mut StepLine, line: &[u8]) -> Result<bool, AllocError>
+pub fn read_step_into(step: &mut StepBuffer, line: &[u8]) -> Result<bool, AllocError>
     ensures { IfOk result
         (λ told. (s : StepValue) →
         (then_some told
@@ -129,7 +129,7 @@ pub fn read_step(alloc: Global, line: &[u8]) -> Result<Option<Step>, AllocError>
         (λ told. (s : StepValue) →
         (told ≡ Some s) ↔ ((line.now ≡ step_text s) × IsTrue (has_writable_numbers s))) }
 {
-    let mut step = StepLine::empty(alloc);
+    let mut step = StepBuffer::empty(alloc);
     let told = read_step_into(&mut step, line)?;
     step.copy_if(alloc, told)
 }

@@ -8,7 +8,7 @@ use std::alloc::{AllocError, Global};
 
 /// The literals and hints of a step that was read. Its memory is reused from line to line.
 #[derive(Drop)]
-pub struct StepLine {
+pub struct StepBuffer {
     pub clause: Vec<Lit>,
     pub hints: Vec<u64>,
 }
@@ -23,13 +23,13 @@ fn row_of<T: Copy>(alloc: Global, items: &[T]) -> Result<Row<T>, AllocError>
     Ok(row)
 }
 
-impl StepLine {
+impl StepBuffer {
     /// Creates a step line without literals and hints.
-    pub fn empty(alloc: Global) -> StepLine
+    pub fn empty(alloc: Global) -> StepBuffer
         ensures clause { result.clause.items ≡ [] }
         ensures hints { result.hints.items ≡ [] }
     {
-        StepLine {
+        StepBuffer {
             clause: Vec::new(alloc),
             hints: Vec::new(alloc),
         }

@@ -4,7 +4,7 @@
 ghost use Rattle.std.specs.Prelude.{◌≡◌, ◌<◌, ◌∷◌, ◌++◌, [], length, map};
 ghost use Rattle.ilk_lines.specs.Written.{text_of};
 ghost use Rattle.ilk_log.specs.StepText.{lit_word, step_text};
-ghost use Rattle.ilk_log.specs.TextLeft.{RemainingStepFitsPlace, text_from_hints_on, remaining_line_text, text_from_lits_on};
+ghost use Rattle.ilk_log.specs.TextLeft.{RemainingStepFitsPlace, hints_and_line_end, remaining_line_text, lits_hints_and_line_end};
 
 use crate::packed::PackedStep;
 use crate::reader::StepReader;
@@ -64,7 +64,8 @@ fn lead_literal(token: &mut ShortByteStack, l: Lit)
 #[inline]
 fn make_literal(step: &mut StepReader, token: &mut ShortByteStack) -> Place
     requires { token.old ≡ [] }
-    ensures bytes { text_from_lits_on step.old ≡ token.new ++ remaining_line_text result step.new }
+    ensures bytes { lits_hints_and_line_end step.old ≡ token.new
+        ++ remaining_line_text result step.new }
     ensures some { 0 < length token.new }
     ensures fits { RemainingStepFitsPlace result step.new }
 {
@@ -84,7 +85,7 @@ fn make_literal(step: &mut StepReader, token: &mut ShortByteStack) -> Place
 fn make_hint(step: &mut StepReader, token: &mut ShortByteStack) -> Place
     requires empty { token.old ≡ [] }
     requires alone { step.old.clause ≡ [] }
-    ensures bytes { text_from_hints_on step.old.hints
+    ensures bytes { hints_and_line_end step.old.hints
         ≡ token.new ++ remaining_line_text result step.new }
     ensures some { 0 < length token.new }
     ensures fits { RemainingStepFitsPlace result step.new }

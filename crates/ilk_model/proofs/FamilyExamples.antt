@@ -21,7 +21,7 @@ use Rattle.ilk_plant.specs.declared.state.State.{State}
 use Rattle.ilk_plant.specs.declared.table.Listed.{Listed}
 use Rattle.ilk_plant.specs.declared.table.Route.{Route}
 use Rattle.ilk_routes.specs.Locks.{with_locks}
-use Rattle.ilk_model.specs.Meets.{Meets, keeps_family}
+use Rattle.ilk_model.specs.Meets.{Meets, meets_family}
 
 abbrev board : ℕ → Dir → Board
 board x d = record { section = x; dir = d }
@@ -89,7 +89,7 @@ with_train d body s = record s { trains = s.trains ++ record { dir = d; body = b
 
 -- The numbers of the violated families.
 abbrev broken : State → List ℕ
-broken s = filter (λ j. not (keeps_family station s j)) (1 ∷ 2 ∷ 3 ∷ 4 ∷ 5 ∷ 6 ∷ 7 ∷ 8 ∷ 9 ∷ [])
+broken s = filter (λ j. not (meets_family station s j)) (1 ∷ 2 ∷ 3 ∷ 4 ∷ 5 ∷ 6 ∷ 7 ∷ 8 ∷ 9 ∷ [])
 
 nothing_breaks : broken at_rest ≡ []
 nothing_breaks = refl

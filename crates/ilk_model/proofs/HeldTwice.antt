@@ -9,7 +9,7 @@ use Rattle.std.proofs.lemmas.List.Sums.{sum_by-append, sum_by-cons}
 use Rattle.ilk_base.proofs.Ranges.{below_or_past, range-at, range-suc}
 use Rattle.ilk_base.proofs.Tested.{list_all-slice_get}
 use Rattle.ilk_base.proofs.Truth.{either, same_truth}
-use Rattle.ilk_base.specs.Each.{all_below}
+use Rattle.ilk_base.specs.Each.{is_true_for_all_below}
 use Rattle.ilk_plant.specs.Network.{contains_section}
 use Rattle.ilk_plant.specs.Plant.{PlantLists}
 use Rattle.ilk_plant.specs.TableRules.{protecting_points_of}
@@ -17,9 +17,9 @@ use Rattle.ilk_plant.specs.declared.state.RouteState.{RouteState}
 use Rattle.ilk_plant.specs.declared.state.State.{State}
 use Rattle.ilk_plant.specs.declared.table.Route.{Route}
 use Rattle.ilk_routes.specs.Claims.{sections_outside_path}
-use Rattle.ilk_model.specs.Families.{keeps_v2_sections_held_once}
+use Rattle.ilk_model.specs.Families.{meets_v2_sections_held_once}
 use Rattle.ilk_model.specs.Holding.{holds_section, is_holding_state, is_unreleased_on_path, route_holds}
-use Rattle.ilk_model.specs.Shared.{is_held_by_two_routes, has_shared_section_bit}
+use Rattle.ilk_model.specs.Shared.{is_held_by_two_routes, is_in_shared_sections}
 use Rattle.ilk_model.specs.declared.shared.SharedSections.{SharedSections}
 
 pub kept_from : (rel x k : ℕ) (path : List ℕ) → list_any (λ place. nat_le rel place.0 && (place.1 == x)) (enumerate_from k path) ≡ list_any (λ y. y == x) (drop (rel - k) path)
@@ -102,7 +102,7 @@ module _ (test : ℕ → Bool) where
             omega (arith, step, here, before))
       ]
 
-  below-at : (n x : ℕ) → all_below n test ≡ true → x < n → test x ≡ true
+  below-at : (n x : ℕ) → is_true_for_all_below n test ≡ true → x < n → test x ≡ true
   below-at n x each within = list_all-slice_get test (range_with_len 0 n) x x each (range-at n x within)
 
   each-from : (a n : ℕ) → ((x : ℕ) → x < a + n → test x ≡ true) → list_all test (range_with_len a n) ≡ true
@@ -110,7 +110,7 @@ module _ (test : ℕ → Bool) where
   each-from a (suc n) each =
       and_from (test a) (list_all test (range_with_len (a + 1) n)) (each a (omega arith)) (each-from (a + 1) n (λ x within. each x (omega (arith, within))))
 
-  each-below : (n : ℕ) → ((x : ℕ) → x < n → test x ≡ true) → all_below n test ≡ true
+  each-below : (n : ℕ) → ((x : ℕ) → x < n → test x ≡ true) → is_true_for_all_below n test ≡ true
   each-below n each = each-from 0 n (λ x within. each x (omega (arith, within)))
 
 not_both : (a b : Bool) → (a ≡ true → b ≡ true → ⊥) → not (a && b) ≡ true
@@ -123,24 +123,24 @@ one_alone true true h e f = both_ways true (sym h) refl
 one_alone true false h e f = both_ways false refl f
 one_alone false b h e f = both_ways false refl e
 
-module _ (p : PlantLists) (s : State) (shared : SharedSections) (exact : (x : ℕ) → x < length p.sections → has_shared_section_bit shared x ≡ is_held_by_two_routes p s x) where
+module _ (p : PlantLists) (s : State) (shared : SharedSections) (exact : (x : ℕ) → x < length p.sections → is_in_shared_sections shared x ≡ is_held_by_two_routes p s x) where
   abbrev holds : ℕ → ℕ → Bool
   holds x r = route_holds p s r x
 
   abbrev hold_nothing_together : ℕ → ℕ → Bool
-  hold_nothing_together r q = all_below (length p.sections) (λ x. not (route_holds p s r x && route_holds p s q x))
+  hold_nothing_together r q = is_true_for_all_below (length p.sections) (λ x. not (route_holds p s r x && route_holds p s q x))
 
   abbrev are_apart : ℕ → ℕ → Bool
   are_apart r q = r == q || hold_nothing_together r q
 
-  alone : (x r q : ℕ) → all_below (length p.sections) (λ y. not (has_shared_section_bit shared y)) ≡ true → x < length p.sections → r < q → q < length p.routes → holds x r ≡ true → holds x q ≡ true → ⊥
+  alone : (x r q : ℕ) → is_true_for_all_below (length p.sections) (λ y. not (is_in_shared_sections shared y)) ≡ true → x < length p.sections → r < q → q < length p.routes → holds x r ≡ true → holds x q ≡ true → ⊥
   alone x r q none within order below first second =
-      let test : not (has_shared_section_bit shared x) ≡ true = below-at (λ y. not (has_shared_section_bit shared y)) (length p.sections) x none within in
+      let test : not (is_in_shared_sections shared x) ≡ true = below-at (λ y. not (is_in_shared_sections shared y)) (length p.sections) x none within in
       let twice = two_counted (holds x) (length p.routes) r q order below first second in
       let more : is_held_by_two_routes p s x ≡ true = grind (arith, nat_tests, twice) in
-      both_ways (not (has_shared_section_bit shared x)) (ap not (exact x within ∙ more)) test
+      both_ways (not (is_in_shared_sections shared x)) (ap not (exact x within ∙ more)) test
 
-  apart : all_below (length p.sections) (λ y. not (has_shared_section_bit shared y)) ≡ true → (r q : ℕ) → r < length p.routes → q < length p.routes → are_apart r q ≡ true
+  apart : is_true_for_all_below (length p.sections) (λ y. not (is_in_shared_sections shared y)) ≡ true → (r q : ℕ) → r < length p.routes → q < length p.routes → are_apart r q ≡ true
   apart none r q here there = elim (cases_eq r q) [
     | inl same ↦ or_left (r == q) (hold_nothing_together r q) (let test : (r == q) ≡ true = grind (arith, nat_tests, same) in test)
     | inr differ ↦ or_right (r == q) (hold_nothing_together r q)
@@ -158,15 +158,15 @@ module _ (p : PlantLists) (s : State) (shared : SharedSections) (exact : (x : �
         | inr more ↦ alone x q r none within (by_order more differ) here second first
       ]
 
-  none : keeps_v2_sections_held_once p s ≡ true → (x : ℕ) → x < length p.sections → not (has_shared_section_bit shared x) ≡ true
+  none : meets_v2_sections_held_once p s ≡ true → (x : ℕ) → x < length p.sections → not (is_in_shared_sections shared x) ≡ true
   none kept x within =
       let few = few_counted (holds x) (length p.routes) (λ q r order below first second. pair q r order below first second) in
       let test : is_held_by_two_routes p s x ≡ false = grind (arith, nat_tests, few) in
-      not_from_false (has_shared_section_bit shared x) (exact x within ∙ test)
+      not_from_false (is_in_shared_sections shared x) (exact x within ∙ test)
     where
       pair : (q r : ℕ) → q < r → r < length p.routes → holds x q ≡ true → holds x r ≡ true → ⊥
       pair q r order below first second =
-          let row : all_below (length p.routes) (are_apart q) ≡ true = below-at (λ a. all_below (length p.routes) (are_apart a)) (length p.routes) q kept (omega (arith, order, below)) in
+          let row : is_true_for_all_below (length p.routes) (are_apart q) ≡ true = below-at (λ a. is_true_for_all_below (length p.routes) (are_apart a)) (length p.routes) q kept (omega (arith, order, below)) in
           let cell : are_apart q r ≡ true = below-at (are_apart q) (length p.routes) r row below in
           let differ : (q == r) ≡ false = grind (arith, nat_tests, order) in
           elim (either (q == r) (hold_nothing_together q r) cell) [
@@ -174,8 +174,8 @@ module _ (p : PlantLists) (s : State) (shared : SharedSections) (exact : (x : �
             | inr nothing ↦ one_alone (holds x q) (holds x r) (below-at (λ y. not (route_holds p s q y && route_holds p s r y)) (length p.sections) x nothing within) first second
           ]
 
-  pub none_held_twice : all_below (length p.sections) (λ x. not (has_shared_section_bit shared x)) ≡ keeps_v2_sections_held_once p s
+  pub none_held_twice : is_true_for_all_below (length p.sections) (λ x. not (is_in_shared_sections shared x)) ≡ meets_v2_sections_held_once p s
   none_held_twice =
-      same_truth (all_below (length p.sections) (λ x. not (has_shared_section_bit shared x))) (keeps_v2_sections_held_once p s)
-      (λ clear. each-below (λ r. all_below (length p.routes) (are_apart r)) (length p.routes) (λ r here. each-below (are_apart r) (length p.routes) (λ q there. apart clear r q here there)))
-      (λ kept. each-below (λ x. not (has_shared_section_bit shared x)) (length p.sections) (none kept))
+      same_truth (is_true_for_all_below (length p.sections) (λ x. not (is_in_shared_sections shared x))) (meets_v2_sections_held_once p s)
+      (λ clear. each-below (λ r. is_true_for_all_below (length p.routes) (are_apart r)) (length p.routes) (λ r here. each-below (are_apart r) (length p.routes) (λ q there. apart clear r q here there)))
+      (λ kept. each-below (λ x. not (is_in_shared_sections shared x)) (length p.sections) (none kept))

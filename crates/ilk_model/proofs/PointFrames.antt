@@ -7,7 +7,7 @@ use Rattle.ilk_plant.specs.Plant.{PlantLists, point_number}
 use Rattle.ilk_plant.specs.declared.state.Lie.TheVariants.{Moving}
 use Rattle.ilk_plant.specs.declared.state.PointState.{PointState}
 use Rattle.ilk_plant.specs.declared.state.State.{State}
-use Rattle.ilk_routes.specs.Lies.{is_detected_moving, lie_from_position, is_lie_at_position}
+use Rattle.ilk_routes.specs.Lies.{is_lie_moving, lie_from_position, is_lie_at_position}
 use Rattle.ilk_routes.specs.Points.{after_settle, after_throw}
 use Rattle.ilk_model.proofs.SameLists.{same-lists}
 
@@ -18,7 +18,7 @@ pub record IsThrown (p : PlantLists) (s t : State) (x : ℕ) : Type 0 where
   pub point : PointState
   pub number : point_number p x ≡ Some n
   pub state : slice_get s.points n ≡ Some point
-  pub still : is_detected_moving point.at ≡ false
+  pub still : is_lie_moving point.at ≡ false
   pub elsewhere : is_lie_at_position point.at point.to ≡ false
   pub routes : t.routes ≡ s.routes
   pub points : t.points ≡ set s.points n (record point { at = Moving })
@@ -32,13 +32,13 @@ throw-frame p s t x e =
     option_and_then_some _ (slice_get s.points n) t e1 (λ point state e2.
     let done = cond_some _ _ t e2 in
     let same = same-lists _ t done.1 in
-    let asked = and_parts (not (is_detected_moving point.at)) (not (is_lie_at_position point.at point.to)) done.0 in
+    let asked = and_parts (not (is_lie_moving point.at)) (not (is_lie_at_position point.at point.to)) done.0 in
     record {
       n = n;
       point = point;
       number = number;
       state = state;
-      still = fails (is_detected_moving point.at) asked.0;
+      still = fails (is_lie_moving point.at) asked.0;
       elsewhere = fails (is_lie_at_position point.at point.to) asked.1;
       routes = same.routes;
       points = same.points;
@@ -53,7 +53,7 @@ pub record IsSettled (p : PlantLists) (s t : State) (x : ℕ) : Type 0 where
   pub point : PointState
   pub number : point_number p x ≡ Some n
   pub state : slice_get s.points n ≡ Some point
-  pub moved : is_detected_moving point.at ≡ true
+  pub moved : is_lie_moving point.at ≡ true
   pub routes : t.routes ≡ s.routes
   pub points : t.points ≡ set s.points n (record point { at = lie_from_position point.to })
   pub boards : t.boards ≡ s.boards

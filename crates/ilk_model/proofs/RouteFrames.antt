@@ -18,7 +18,7 @@ use Rattle.ilk_plant.specs.declared.state.State.{State}
 use Rattle.ilk_plant.specs.declared.table.Route.{Route}
 use Rattle.ilk_routes.specs.Boards.{has_aspect, is_protecting_locked_route}
 use Rattle.ilk_routes.specs.Claims.{sections_outside_path, required_points}
-use Rattle.ilk_routes.specs.Lies.{is_detected_as_listed, with_commands}
+use Rattle.ilk_routes.specs.Lies.{is_point_detected_as_listed, with_commands}
 use Rattle.ilk_routes.specs.Locks.{with_locks}
 use Rattle.ilk_routes.specs.Modes.{same_mode}
 use Rattle.ilk_routes.specs.Routes.{after_allocate, after_cancel, after_finish, after_lock, after_mark, after_release, after_sense, can_allocate_if_marked, can_lock_if_allocating}
@@ -100,7 +100,7 @@ pub record IsLocked (p : PlantLists) (s t : State) (r : ℕ) : Type 0 where
   pub now : RouteState
   pub changes : ChangesRoute p s t r route now (record now { mode = Locked })
   pub was : now.mode ≡ Allocating
-  pub lie : list_all (is_detected_as_listed p s) (required_points route) ≡ true
+  pub lie : list_all (is_point_detected_as_listed p s) (required_points route) ≡ true
   pub closed : list_all (λ m. has_aspect s m Closed) route.protecting_boards ≡ true
   pub unprotecting : is_protecting_locked_route p s route.source ≡ false
   pub points : t.points ≡ s.points
@@ -115,7 +115,7 @@ lock-frame p s t r e =
     let done = cond_some _ _ t e2 in
     let same = same-lists _ t done.1 in
     let asked = and_parts (same_mode now.mode Allocating) (can_lock_if_allocating p s route) done.0 in
-    let lie = list_all (is_detected_as_listed p s) (required_points route) in
+    let lie = list_all (is_point_detected_as_listed p s) (required_points route) in
     let closed = list_all (λ m. has_aspect s m Closed) route.protecting_boards in
     let parts = and_parts (lie && closed) (not (is_protecting_locked_route p s route.source)) asked.1 in
     let both = and_parts lie closed parts.0 in

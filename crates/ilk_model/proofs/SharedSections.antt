@@ -9,7 +9,7 @@ use Rattle.std.proofs.lemmas.List.Sums.{count_by_more_no, count_by_more_yes}
 use Rattle.std.proofs.lemmas.Nat.Bits.{bit_at_and, bit_at_or, bit_at_set_other, bit_at_set_same, bit_at-lt}
 use Rattle.ilk_base.proofs.Truth.{or-true}
 use Rattle.ilk_plant.specs.Network.{contains_section}
-use Rattle.ilk_model.specs.Shared.{has_shared_section_bit}
+use Rattle.ilk_model.specs.Shared.{is_in_shared_sections}
 use Rattle.ilk_model.specs.declared.shared.SharedSections.{SharedSections}
 
 abbrev pub bit : Bool → ℕ
@@ -103,7 +103,7 @@ module _ {T : Type 0} (has : T → Bool) (trains : List T) (i : ℕ) (d : T) (wi
       by_test false e = ap bit (two_same (nat_lt 1 (count_by has (take i trains))) (nat_lt 0 (count_by has (take i trains))) ∙ ap (nat_lt 1) (sym (count_by_more_no has trains i d within e)))
 
 pub shared_exact : (shared : SharedSections) (two : ℕ → Bool) → ((x : ℕ) → x < 128 → bit_at shared.low x ≡ bit (two (0 + x))) → ((x : ℕ) → x < 128 → bit_at shared.high x ≡ bit (two (128 + x))) → (x : ℕ) → x < 256 →
-    has_shared_section_bit shared x ≡ two x
+    is_in_shared_sections shared x ≡ two x
 shared_exact shared two low high x within = by_test (nat_lt x 128) refl
   where
     by_test : (b : Bool) → nat_lt x 128 ≡ b → cond b (bit_at shared.low x == 1) (bit_at shared.high (x - 128) == 1) ≡ two x

@@ -4,7 +4,7 @@ use Rattle.std.proofs.lemmas.Bool.{and_parts}
 use Rattle.std.proofs.lemmas.Option.{cond_some, option_and_then_some, same_Some}
 use Rattle.ilk_base.proofs.Positions.{position-at}
 use Rattle.ilk_base.proofs.Truth.{fails}
-use Rattle.ilk_plant.specs.Plant.{PlantLists, board_of, section_inward_if_border}
+use Rattle.ilk_plant.specs.Plant.{PlantLists, board_of, inward_direction_if_border}
 use Rattle.ilk_plant.specs.State.{has_lock_state, is_occupied}
 use Rattle.ilk_plant.specs.declared.network.Dir.{Dir}
 use Rattle.ilk_plant.specs.declared.state.Hold.TheVariants.{Free as FreeLock}
@@ -19,7 +19,7 @@ use Rattle.ilk_model.proofs.SameLists.{SameLists, same-lists}
 -- present trains don't change.
 pub record IsEntered (p : PlantLists) (s t : State) (x : ℕ) : Type 0 where
   pub inward : Dir
-  pub borders : section_inward_if_border p x ≡ Some inward
+  pub borders : inward_direction_if_border p x ≡ Some inward
   pub free : has_lock_state s x FreeLock ≡ true
   pub vacant : is_occupied s x ≡ false
   pub routes : t.routes ≡ s.routes
@@ -30,7 +30,7 @@ pub record IsEntered (p : PlantLists) (s t : State) (x : ℕ) : Type 0 where
 
 pub enter-frame : (p : PlantLists) (s t : State) (x : ℕ) → after_enter p s x ≡ Some t → IsEntered p s t x
 enter-frame p s t x e =
-    option_and_then_some _ (section_inward_if_border p x) t e (λ inward borders e1.
+    option_and_then_some _ (inward_direction_if_border p x) t e (λ inward borders e1.
     let done = cond_some _ _ t e1 in
     let same = same-lists _ t done.1 in
     let asked = and_parts (has_lock_state s x FreeLock) (not (is_occupied s x)) done.0 in

@@ -15,12 +15,12 @@ same_position a b = false
 
 -- The commanded position of the point on section x in state s, or `None` if x is not a point
 -- section.
-abbrev pub commanded_position : PlantLists → State → ℕ → Option Position
-commanded_position p s x = do
+abbrev pub commanded_position_in_state : PlantLists → State → ℕ → Option Position
+commanded_position_in_state p s x = do
   n ← point_number p x
   point ← slice_get s.points n
   Some point.to
 
 -- Returns whether a point that a route lists is commanded to its listed position.
-abbrev pub is_commanded_as_listed : PlantLists → State → Listed → Bool
-is_commanded_as_listed p s listed = is_some_and (commanded_position p s listed.point) (λ to. same_position to listed.at)
+abbrev pub is_point_commanded_as_listed : PlantLists → State → Listed → Bool
+is_point_commanded_as_listed p s listed = is_some_and (commanded_position_in_state p s listed.point) (λ to. same_position to listed.at)

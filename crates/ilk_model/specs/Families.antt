@@ -2,7 +2,7 @@
 -- Each is a test of a well-formed state.
 use Rattle.std.specs.Prelude.{ℕ, ◌+◌, Bool, true, ◌==◌, ◌&&◌, ◌||◌, not, if◌then◌else◌, length, drop, nat_le, nat_lt}
 use Rattle.std.specs.List.{list_all}
-use Rattle.ilk_base.specs.Each.{all_below}
+use Rattle.ilk_base.specs.Each.{is_true_for_all_below}
 use Rattle.ilk_base.specs.Option.{is_some_and}
 use Rattle.ilk_plant.specs.Network.{contains_section, last_of}
 use Rattle.ilk_plant.specs.Plant.{PlantLists}
@@ -18,23 +18,23 @@ use Rattle.ilk_plant.specs.declared.table.Listed.{Listed}
 use Rattle.ilk_plant.specs.declared.table.Route.{Route}
 use Rattle.ilk_routes.specs.Boards.{has_aspect}
 use Rattle.ilk_routes.specs.Claims.{sections_outside_path}
-use Rattle.ilk_routes.specs.Lies.{is_detected_as_listed}
+use Rattle.ilk_routes.specs.Lies.{is_point_detected_as_listed}
 use Rattle.ilk_routes.specs.Modes.{same_mode}
-use Rattle.ilk_model.specs.Commanded.{is_commanded_as_listed}
+use Rattle.ilk_model.specs.Commanded.{is_point_commanded_as_listed}
 use Rattle.ilk_model.specs.Holding.{all_path_indices_pass_test, all_routes_pass_test, is_holding_state, is_unreleased_on_path, is_locked_or_occupied, continues_without_board, is_vacant, route_holds, route_runs_in_direction, any_path_index_passes_test, any_route_passes_test}
 
 -- V1: An Occupied route has `rel` below `seen`, and `seen` is at most the path's length. Any other
 -- route has `seen` = `rel` = 0.
-abbrev pub keeps_v1_consistent_counts : PlantLists → State → Bool
-keeps_v1_consistent_counts p s = all_routes_pass_test p s (λ route now.
+abbrev pub meets_v1_consistent_counts : PlantLists → State → Bool
+meets_v1_consistent_counts p s = all_routes_pass_test p s (λ route now.
     if same_mode now.mode Occupied
     then nat_lt now.rel now.seen && nat_le now.seen (length route.path)
     else now.seen == 0 && now.rel == 0)
 
 -- V2: No two routes hold the same section.
-abbrev pub keeps_v2_sections_held_once : PlantLists → State → Bool
-keeps_v2_sections_held_once p s = all_below (length p.routes) (λ r. all_below (length p.routes) (λ q.
-    r == q || all_below (length p.sections) (λ x. not (route_holds p s r x && route_holds p s q x))))
+abbrev pub meets_v2_sections_held_once : PlantLists → State → Bool
+meets_v2_sections_held_once p s = is_true_for_all_below (length p.routes) (λ r. is_true_for_all_below (length p.routes) (λ q.
+    r == q || is_true_for_all_below (length p.sections) (λ x. not (route_holds p s r x && route_holds p s q x))))
 
 -- The required lock of a section that a route in state `now` holds as path[i]: Used if i is below
 -- `seen`, otherwise Locked.
@@ -49,43 +49,43 @@ has_required_locks s route now =
 
 -- V3: A section that a route holds as path[i] has lock Used if i is below `seen`. Every other
 -- section that it holds has lock Locked.
-abbrev pub keeps_v3_locks_match_routes : PlantLists → State → Bool
-keeps_v3_locks_match_routes p s = all_routes_pass_test p s (λ route now. if is_holding_state now then has_required_locks s route now else true)
+abbrev pub meets_v3_locks_match_routes : PlantLists → State → Bool
+meets_v3_locks_match_routes p s = all_routes_pass_test p s (λ route now. if is_holding_state now then has_required_locks s route now else true)
 
 -- V4: Every path section of an Allocating route is vacant.
-abbrev pub keeps_v4_allocating_paths_vacant : PlantLists → State → Bool
-keeps_v4_allocating_paths_vacant p s = all_routes_pass_test p s (λ route now.
+abbrev pub meets_v4_allocating_paths_vacant : PlantLists → State → Bool
+meets_v4_allocating_paths_vacant p s = all_routes_pass_test p s (λ route now.
     if same_mode now.mode Allocating then list_all (is_vacant s) route.path else true)
 
 -- V5: Each Open board is the source of a Locked route whose path is vacant.
-abbrev pub keeps_v5_open_needs_locked : PlantLists → State → Bool
-keeps_v5_open_needs_locked p s = all_below (length p.boards) (λ m.
+abbrev pub meets_v5_open_needs_locked : PlantLists → State → Bool
+meets_v5_open_needs_locked p s = is_true_for_all_below (length p.boards) (λ m.
     if has_aspect s m Open
     then any_route_passes_test p s (λ route now. (route.source == m) && same_mode now.mode Locked && list_all (is_vacant s) route.path)
     else true)
 
 -- Returns whether a point that a route lists is commanded to its listed position. Also true if the
 -- route isn't Allocating, or the point isn't on its path.
-abbrev pub is_commanded_if_allocating : PlantLists → State → Route → RouteState → Listed → Bool
-is_commanded_if_allocating p s route now listed =
+abbrev pub is_point_commanded_if_allocating : PlantLists → State → Route → RouteState → Listed → Bool
+is_point_commanded_if_allocating p s route now listed =
     if same_mode now.mode Allocating && contains_section listed.point route.path
-    then is_commanded_as_listed p s listed
+    then is_point_commanded_as_listed p s listed
     else true
 
 -- Returns whether a point that a route lists is commanded to its listed position and detected in
 -- it. Also true unless the route is Locked or Occupied and holds the point on its path.
-abbrev pub is_set_if_locked_or_occupied : PlantLists → State → Route → RouteState → Listed → Bool
-is_set_if_locked_or_occupied p s route now listed =
+abbrev pub is_point_set_if_locked_or_occupied : PlantLists → State → Route → RouteState → Listed → Bool
+is_point_set_if_locked_or_occupied p s route now listed =
     if is_locked_or_occupied now && is_unreleased_on_path route now listed.point
-    then is_commanded_as_listed p s listed && is_detected_as_listed p s listed
+    then is_point_commanded_as_listed p s listed && is_point_detected_as_listed p s listed
     else true
 
 -- V6: A listed point on the path of an Allocating route is commanded to its listed position. A
 -- listed point that a Locked or Occupied route holds on its path is commanded to that position and
 -- detected in it.
-abbrev pub keeps_v6_route_points_set : PlantLists → State → Bool
-keeps_v6_route_points_set p s = all_routes_pass_test p s (λ route now.
-    list_all (λ listed. is_commanded_if_allocating p s route now listed && is_set_if_locked_or_occupied p s route now listed) route.points)
+abbrev pub meets_v6_points_match_modes : PlantLists → State → Bool
+meets_v6_points_match_modes p s = all_routes_pass_test p s (λ route now.
+    list_all (λ listed. is_point_commanded_if_allocating p s route now listed && is_point_set_if_locked_or_occupied p s route now listed) route.points)
 
 -- Returns whether some route leads a train's head at x in direction d. Section x is path[i] of a
 -- route in that direction, which is Occupied, or Locked with its source Closed. Its `seen` is at
@@ -100,8 +100,8 @@ head_is_led_by_route p s d x = any_route_passes_test p s (λ route now. any_path
 
 -- V7: If a train's head is at a section with a neighbour ahead but no board, some route leads it
 -- (`head_is_led_by_route`).
-abbrev pub keeps_v7_heads_have_routes : PlantLists → State → Bool
-keeps_v7_heads_have_routes p s = list_all (λ train. is_some_and (last_of train.body) (λ x.
+abbrev pub meets_v7_heads_have_routes : PlantLists → State → Bool
+meets_v7_heads_have_routes p s = list_all (λ train. is_some_and (last_of train.body) (λ x.
     if continues_without_board p train.dir x then head_is_led_by_route p s train.dir x else true)) s.trains
 
 -- Returns whether some Locked or Occupied route in direction d has x on its path and not released:
@@ -112,11 +112,11 @@ is_unreleased_on_some_route p s d x = any_route_passes_test p s (λ route now.
 
 -- V8: If a section of a train's body has a neighbour ahead but no board, some Locked or Occupied
 -- route in the train's direction has it on its path, not released.
-abbrev pub keeps_v8_bodies_have_routes : PlantLists → State → Bool
-keeps_v8_bodies_have_routes p s = list_all (λ train. list_all (λ x.
+abbrev pub meets_v8_bodies_have_routes : PlantLists → State → Bool
+meets_v8_bodies_have_routes p s = list_all (λ train. list_all (λ x.
     if continues_without_board p train.dir x then is_unreleased_on_some_route p s train.dir x else true) train.body) s.trains
 
 -- V9: Each protecting board of a Locked route is Closed.
-abbrev pub keeps_v9_protecting_boards_closed : PlantLists → State → Bool
-keeps_v9_protecting_boards_closed p s = all_routes_pass_test p s (λ route now.
+abbrev pub meets_v9_protecting_boards_closed : PlantLists → State → Bool
+meets_v9_protecting_boards_closed p s = all_routes_pass_test p s (λ route now.
     if same_mode now.mode Locked then list_all (λ m. has_aspect s m Closed) route.protecting_boards else true)

@@ -4,7 +4,7 @@ use Rattle.std.specs.Prelude.{ℕ, Bool, false, Option, Some, None, List, ◌==�
 use Rattle.std.specs.List.{list_any, range_with_len}
 use Rattle.ilk_plant.specs.Network.{contains_section}
 use Rattle.ilk_plant.specs.Plant.{PlantLists}
-use Rattle.ilk_plant.specs.State.{detected_position}
+use Rattle.ilk_plant.specs.State.{detected_position_in_state}
 use Rattle.ilk_plant.specs.declared.network.Section.{Section}
 use Rattle.ilk_plant.specs.declared.network.Section.TheVariants.{Linear, Point}
 use Rattle.ilk_plant.specs.declared.state.Lie.{Lie}
@@ -36,7 +36,7 @@ is_wrong_under_train p s x = wrong_on (slice_get p.sections x)
     wrong_on : Option Section → Bool
     wrong_on None = false
     wrong_on (Some (Linear down up board_down board_up)) = false
-    wrong_on (Some (Point stem plus minus faces)) = list_any (λ train. is_wrong_under_body x plus minus (detected_position p s x) train.body) s.trains
+    wrong_on (Some (Point stem plus minus faces)) = list_any (λ train. is_wrong_under_body x plus minus (detected_position_in_state p s x) train.body) s.trains
 
 -- Returns whether section x has a hazard: two trains, or a point in the wrong position under a
 -- train.

@@ -2,7 +2,7 @@
 -- train may leave without passing a board. Tests take a route with its state.
 use Rattle.std.specs.Prelude.{ℕ, Bool, ◌==◌, ◌&&◌, ◌||◌, not, length, nat_le, nat_lt, slice_get}
 use Rattle.std.specs.List.{enumerate_from, list_any, list_all}
-use Rattle.ilk_base.specs.Each.{all_below, any_below}
+use Rattle.ilk_base.specs.Each.{is_true_for_all_below, is_true_for_any_below}
 use Rattle.ilk_base.specs.Option.{is_some_and}
 use Rattle.ilk_plant.specs.ColumnRules.{has_no_board, source_satisfies}
 use Rattle.ilk_plant.specs.Network.{contains_section, same_direction}
@@ -22,11 +22,11 @@ route_passes_test p s r test = is_some_and (slice_get p.routes r) (λ route. is_
 
 -- Returns whether each route and its state pass a test.
 abbrev pub all_routes_pass_test : PlantLists → State → (Route → RouteState → Bool) → Bool
-all_routes_pass_test p s test = all_below (length p.routes) (λ r. route_passes_test p s r test)
+all_routes_pass_test p s test = is_true_for_all_below (length p.routes) (λ r. route_passes_test p s r test)
 
 -- Returns whether some route and its state pass a test.
 abbrev pub any_route_passes_test : PlantLists → State → (Route → RouteState → Bool) → Bool
-any_route_passes_test p s test = any_below (length p.routes) (λ r. route_passes_test p s r test)
+any_route_passes_test p s test = is_true_for_any_below (length p.routes) (λ r. route_passes_test p s r test)
 
 -- Returns whether each index i of a route's path, with its section x, passes a test.
 abbrev pub all_path_indices_pass_test : Route → (ℕ → ℕ → Bool) → Bool

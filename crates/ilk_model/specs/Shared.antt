@@ -11,13 +11,13 @@ use Rattle.ilk_model.specs.declared.shared.SharedSections.{SharedSections}
 
 -- Returns whether the set has section x. Its low bits are for sections below 128, the high bits for
 -- the others.
-abbrev pub has_shared_section_bit : SharedSections → ℕ → Bool
-has_shared_section_bit shared x = if nat_lt x 128 then bit_at shared.low x == 1 else bit_at shared.high (x - 128) == 1
+abbrev pub is_in_shared_sections : SharedSections → ℕ → Bool
+is_in_shared_sections shared x = if nat_lt x 128 then bit_at shared.low x == 1 else bit_at shared.high (x - 128) == 1
 
 -- Returns whether the set has section x, or x is a point that is moving or not set for a train on
 -- it.
 abbrev pub is_section_hazardous_by_bits : PlantLists → State → SharedSections → ℕ → Bool
-is_section_hazardous_by_bits p s shared x = has_shared_section_bit shared x || is_wrong_under_train p s x
+is_section_hazardous_by_bits p s shared x = is_in_shared_sections shared x || is_wrong_under_train p s x
 
 -- Returns whether two or more routes hold section x.
 abbrev pub is_held_by_two_routes : PlantLists → State → ℕ → Bool

@@ -4,8 +4,10 @@ ghost use Rattle.ilk_plant.specs.Shape.{HasShape};
 ghost use Rattle.ilk_model.specs.Hazard.{are_adjacent_in_body, hazard, is_wrong_under_train, is_wrong_under_body};
 ghost use Rattle.ilk_model.specs.Shared.{is_section_hazardous_by_bits};
 
-use crate::shared::{SharedSections, has_shared_section_bit, shared_sections};
-use ilk_plant::{Lie, Plant, Row, Section, State, Train, contains_section, detected_position};
+use crate::shared::{SharedSections, is_in_shared_sections, shared_sections};
+use ilk_plant::{
+    Lie, Plant, Row, Section, State, Train, contains_section, detected_position_in_state,
+};
 
 /// A hazard, with its section.
 #[derive(Clone, Copy, PartialEq, Eq, Debug)]
@@ -58,7 +60,7 @@ pub fn is_wrong_under_train(plant: &Plant, s: &State, x: u32) -> bool
     match *plant.section(x) {
         Section::Linear { .. } => false,
         Section::Point { plus, minus, .. } => {
-            let lie = detected_position(plant, s, x);
+            let lie = detected_position_in_state(plant, s, x);
             any_strays(&s.trains, x, plus, minus, lie)
         }
     }
@@ -67,7 +69,7 @@ pub fn is_wrong_under_train(plant: &Plant, s: &State, x: u32) -> bool
 fn is_section_hazardous(plant: &Plant, s: &State, shared: SharedSections, x: u32) -> bool
     ensures { result ≡ is_section_hazardous_by_bits plant.now s.now shared x }
 {
-    has_shared_section_bit(shared, x) || is_wrong_under_train(plant, s, x)
+    is_in_shared_sections(shared, x) || is_wrong_under_train(plant, s, x)
 }
 
 fn first_hazardous(plant: &Plant, s: &State, shared: SharedSections) -> Option<u32>
@@ -87,7 +89,7 @@ pub fn hazard(plant: &Plant, s: &State) -> Option<HazardAt>
     plant.prove_is_plant();
     let shared = shared_sections(s);
     let x = first_hazardous(plant, s, shared)?;
-    Some(if has_shared_section_bit(shared, x) {
+    Some(if is_in_shared_sections(shared, x) {
         HazardAt::Two(x)
     } else {
         HazardAt::Wrong(x)

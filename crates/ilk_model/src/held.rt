@@ -2,15 +2,15 @@
 //! routes hold.
 ghost use Rattle.std.specs.Prelude.{ℕ, ◌≡◌, ◌+◌, ◌<◌, drop, if◌then◌else◌, length, map, not};
 ghost use Rattle.std.specs.Int.{bit_at};
-ghost use Rattle.ilk_base.specs.Each.{all_below};
+ghost use Rattle.ilk_base.specs.Each.{is_true_for_all_below};
 ghost use Rattle.ilk_plant.specs.Network.{contains_section};
 ghost use Rattle.ilk_plant.specs.Shape.{HasShape};
-ghost use Rattle.ilk_model.specs.Families.{keeps_v2_sections_held_once};
+ghost use Rattle.ilk_model.specs.Families.{meets_v2_sections_held_once};
 ghost use Rattle.ilk_model.specs.Holding.{holds_section, route_holds};
-ghost use Rattle.ilk_model.specs.Shared.{is_held_by_two_routes, has_shared_section_bit};
+ghost use Rattle.ilk_model.specs.Shared.{is_held_by_two_routes, is_in_shared_sections};
 
 use crate::holding::is_holding_state;
-use crate::shared::{SharedSections, has_shared_section_bit, section_bits_from, with_section};
+use crate::shared::{SharedSections, is_in_shared_sections, section_bits_from, with_section};
 use ilk_plant::{Listed, Plant, Route, RouteState, State};
 
 fn sections_of_points(points: &[Listed], from: u32) -> u128
@@ -73,7 +73,7 @@ fn held_twice_from(plant: &Plant, s: &State, from: u32) -> u128
 
 fn held_twice(plant: &Plant, s: &State) -> SharedSections
     requires { HasShape plant.now s.now }
-    ensures { (x : ℕ) → x < 256 → has_shared_section_bit result x ≡
+    ensures { (x : ℕ) → x < 256 → is_in_shared_sections result x ≡
         is_held_by_two_routes plant.now s.now x }
 {
     SharedSections {
@@ -83,15 +83,15 @@ fn held_twice(plant: &Plant, s: &State) -> SharedSections
 }
 
 fn has_none_of(plant: &Plant, shared: SharedSections) -> bool
-    ensures { result ≡ all_below (length plant.now.sections) (λ x.
-        not (has_shared_section_bit shared x)) }
+    ensures { result ≡ is_true_for_all_below (length plant.now.sections) (λ x.
+        not (is_in_shared_sections shared x)) }
 {
-    (0..plant.sections()).all(|x| !has_shared_section_bit(shared, x))
+    (0..plant.sections()).all(|x| !is_in_shared_sections(shared, x))
 }
 
-pub(crate) fn keeps_v2_sections_held_once(plant: &Plant, s: &State) -> bool
+pub(crate) fn meets_v2_sections_held_once(plant: &Plant, s: &State) -> bool
     requires { HasShape plant.now s.now }
-    ensures { result ≡ keeps_v2_sections_held_once plant.now s.now }
+    ensures { result ≡ meets_v2_sections_held_once plant.now s.now }
 {
     plant.prove_is_plant();
     has_none_of(plant, held_twice(plant, s))

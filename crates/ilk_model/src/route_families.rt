@@ -10,8 +10,8 @@ ghost use Rattle.ilk_plant.specs.declared.state.Mode.TheVariants.{Allocating, Lo
 ghost use Rattle.ilk_routes.specs.Boards.{has_aspect};
 ghost use Rattle.ilk_routes.specs.Claims.{sections_outside_path};
 ghost use Rattle.ilk_routes.specs.Modes.{same_mode};
-ghost use Rattle.ilk_model.specs.Commanded.{is_commanded_as_listed};
-ghost use Rattle.ilk_model.specs.Families.{has_required_locks, is_commanded_if_allocating, keeps_v1_consistent_counts, keeps_v3_locks_match_routes, keeps_v4_allocating_paths_vacant, keeps_v5_open_needs_locked, keeps_v6_route_points_set, keeps_v9_protecting_boards_closed, is_set_if_locked_or_occupied, path_section_lock};
+ghost use Rattle.ilk_model.specs.Commanded.{is_point_commanded_as_listed};
+ghost use Rattle.ilk_model.specs.Families.{has_required_locks, is_point_commanded_if_allocating, meets_v1_consistent_counts, meets_v3_locks_match_routes, meets_v4_allocating_paths_vacant, meets_v5_open_needs_locked, meets_v6_points_match_modes, meets_v9_protecting_boards_closed, is_point_set_if_locked_or_occupied, path_section_lock};
 ghost use Rattle.ilk_model.specs.Holding.{all_path_indices_pass_test, is_holding_state, is_vacant, any_route_passes_test};
 
 use crate::holding::{all_vacant, is_holding_state, is_kept_on_path, is_locked_or_occupied};
@@ -19,7 +19,7 @@ use ilk_plant::{
     Aspect, Hold, Listed, Mode, Plant, Route, RouteState, Row, State, contains_section,
     has_lock_state, point_number_at,
 };
-use ilk_routes::{all_boards_closed, has_aspect, is_detected_as_listed};
+use ilk_routes::{all_boards_closed, has_aspect, is_point_detected_as_listed};
 
 // Returns whether the counts of a route fit its mode. If it is Occupied, fewer sections are
 // released than seen, and at most the whole path is seen. Otherwise both counts are 0.
@@ -35,9 +35,9 @@ fn counts_fit_mode(route: &Route, now: RouteState) -> bool
     }
 }
 
-pub(crate) fn keeps_v1_consistent_counts(plant: &Plant, s: &State) -> bool
+pub(crate) fn meets_v1_consistent_counts(plant: &Plant, s: &State) -> bool
     requires { HasShape plant.now s.now }
-    ensures { result ≡ keeps_v1_consistent_counts plant.now s.now }
+    ensures { result ≡ meets_v1_consistent_counts plant.now s.now }
 {
     (0..plant.routes()).all(|r| counts_fit_mode(plant.route(r), *s.routes.at(r as u64)))
 }
@@ -102,9 +102,9 @@ fn held_have_their_locks(s: &State, route: &Route, now: RouteState) -> bool
     !is_holding_state(now) || has_its_locks(s, route, now)
 }
 
-pub(crate) fn keeps_v3_locks_match_routes(plant: &Plant, s: &State) -> bool
+pub(crate) fn meets_v3_locks_match_routes(plant: &Plant, s: &State) -> bool
     requires { HasShape plant.now s.now }
-    ensures { result ≡ keeps_v3_locks_match_routes plant.now s.now }
+    ensures { result ≡ meets_v3_locks_match_routes plant.now s.now }
 {
     (0..plant.routes()).all(|r| held_have_their_locks(s, plant.route(r), *s.routes.at(r as u64)))
 }
@@ -118,9 +118,9 @@ fn is_vacant_while_allocating(s: &State, route: &Route, now: RouteState) -> bool
     now.mode != Mode::Allocating || all_vacant(s, route.path.as_slice())
 }
 
-pub(crate) fn keeps_v4_allocating_paths_vacant(plant: &Plant, s: &State) -> bool
+pub(crate) fn meets_v4_allocating_paths_vacant(plant: &Plant, s: &State) -> bool
     requires { HasShape plant.now s.now }
-    ensures { result ≡ keeps_v4_allocating_paths_vacant plant.now s.now }
+    ensures { result ≡ meets_v4_allocating_paths_vacant plant.now s.now }
 {
     (0..plant.routes()).all(|r| {
         is_vacant_while_allocating(s, plant.route(r), *s.routes.at(r as u64))
@@ -157,15 +157,15 @@ fn is_rightly_open(plant: &Plant, s: &State, m: u32) -> bool
     !has_aspect(s, m, Aspect::Open) || may_be_open(plant, s, m)
 }
 
-pub(crate) fn keeps_v5_open_needs_locked(plant: &Plant, s: &State) -> bool
+pub(crate) fn meets_v5_open_needs_locked(plant: &Plant, s: &State) -> bool
     requires { HasShape plant.now s.now }
-    ensures { result ≡ keeps_v5_open_needs_locked plant.now s.now }
+    ensures { result ≡ meets_v5_open_needs_locked plant.now s.now }
 {
     (0..plant.boards()).all(|m| is_rightly_open(plant, s, m))
 }
 
-fn is_commanded_as_listed(plant: &Plant, s: &State, listed: &Listed) -> bool
-    ensures { result ≡ is_commanded_as_listed plant.now s.now listed.now }
+fn is_point_commanded_as_listed(plant: &Plant, s: &State, listed: &Listed) -> bool
+    ensures { result ≡ is_point_commanded_as_listed plant.now s.now listed.now }
 {
     match point_number_at(plant, listed.point) {
         Some(n) => match s.points.as_slice().get(n as usize) {
@@ -176,27 +176,28 @@ fn is_commanded_as_listed(plant: &Plant, s: &State, listed: &Listed) -> bool
     }
 }
 
-fn is_commanded_if_allocating(
+fn is_point_commanded_if_allocating(
     plant: &Plant,
     s: &State,
     route: &Route,
     now: RouteState,
     listed: &Listed,
 ) -> bool
-    ensures { result ≡ is_commanded_if_allocating plant.now s.now route.now now listed.now }
+    ensures { result ≡ is_point_commanded_if_allocating plant.now s.now route.now now listed.now }
 {
     if now.mode == Mode::Allocating && contains_section(&route.path, listed.point) {
-        is_commanded_as_listed(plant, s, listed)
+        is_point_commanded_as_listed(plant, s, listed)
     } else {
         true
     }
 }
 
 fn lies_for(plant: &Plant, s: &State, route: &Route, now: RouteState, listed: &Listed) -> bool
-    ensures { result ≡ is_set_if_locked_or_occupied plant.now s.now route.now now listed.now }
+    ensures { result ≡ is_point_set_if_locked_or_occupied plant.now s.now route.now now listed.now }
 {
     if is_locked_or_occupied(now) && is_kept_on_path(route, now, listed.point) {
-        is_commanded_as_listed(plant, s, listed) && is_detected_as_listed(plant, s, listed)
+        is_point_commanded_as_listed(plant, s, listed)
+            && is_point_detected_as_listed(plant, s, listed)
     } else {
         true
     }
@@ -205,18 +206,19 @@ fn lies_for(plant: &Plant, s: &State, route: &Route, now: RouteState, listed: &L
 fn points_fit_mode(plant: &Plant, s: &State, route: &Route, now: RouteState) -> bool
     ensures { result
         ≡ list_all
-        (λ listed. is_commanded_if_allocating plant.now s.now route.now now listed
-        && is_set_if_locked_or_occupied plant.now s.now route.now now listed) route.now.points }
+        (λ listed. is_point_commanded_if_allocating plant.now s.now route.now now listed
+        && is_point_set_if_locked_or_occupied plant.now s.now route.now now listed)
+        route.now.points }
 {
     route.points.as_slice().iter().all(|listed| {
-        is_commanded_if_allocating(plant, s, route, now, listed)
+        is_point_commanded_if_allocating(plant, s, route, now, listed)
             && lies_for(plant, s, route, now, listed)
     })
 }
 
-pub(crate) fn keeps_v6_route_points_set(plant: &Plant, s: &State) -> bool
+pub(crate) fn meets_v6_points_match_modes(plant: &Plant, s: &State) -> bool
     requires { HasShape plant.now s.now }
-    ensures { result ≡ keeps_v6_route_points_set plant.now s.now }
+    ensures { result ≡ meets_v6_points_match_modes plant.now s.now }
 {
     (0..plant.routes()).all(|r| {
         points_fit_mode(plant, s, plant.route(r), *s.routes.at(r as u64))
@@ -233,9 +235,9 @@ fn is_protected(s: &State, route: &Route, now: RouteState) -> bool
     now.mode != Mode::Locked || all_boards_closed(s, &route.protecting_boards)
 }
 
-pub(crate) fn keeps_v9_protecting_boards_closed(plant: &Plant, s: &State) -> bool
+pub(crate) fn meets_v9_protecting_boards_closed(plant: &Plant, s: &State) -> bool
     requires { HasShape plant.now s.now }
-    ensures { result ≡ keeps_v9_protecting_boards_closed plant.now s.now }
+    ensures { result ≡ meets_v9_protecting_boards_closed plant.now s.now }
 {
     (0..plant.routes()).all(|r| is_protected(s, plant.route(r), *s.routes.at(r as u64)))
 }

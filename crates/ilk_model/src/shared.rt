@@ -2,7 +2,7 @@ ghost use Rattle.std.specs.Prelude.{ℕ, ◌≡◌, ◌==◌, ◌||◌, ◌+◌,
 ghost use Rattle.std.specs.Int.{bit_at};
 ghost use Rattle.ilk_plant.specs.Network.{contains_section};
 ghost use Rattle.ilk_model.specs.Hazard.{has_two_trains};
-ghost use Rattle.ilk_model.specs.Shared.{has_shared_section_bit};
+ghost use Rattle.ilk_model.specs.Shared.{is_in_shared_sections};
 
 use ilk_plant::State;
 
@@ -63,7 +63,7 @@ fn shared_from(s: &State, from: u32) -> u128
 
 /// Returns the sections below 256 that two or more trains occupy.
 pub(crate) fn shared_sections(s: &State) -> SharedSections
-    ensures { (x : ℕ) → x < 256 → has_shared_section_bit result x ≡ has_two_trains s.now x }
+    ensures { (x : ℕ) → x < 256 → is_in_shared_sections result x ≡ has_two_trains s.now x }
 {
     SharedSections {
         low: shared_from(s, 0),
@@ -78,8 +78,8 @@ fn has_bit(bits: u128, x: u32) -> bool
 }
 
 /// Returns whether section `x` is one of these.
-pub(crate) fn has_shared_section_bit(shared: SharedSections, x: u32) -> bool
-    ensures { result ≡ has_shared_section_bit shared x }
+pub(crate) fn is_in_shared_sections(shared: SharedSections, x: u32) -> bool
+    ensures { result ≡ is_in_shared_sections shared x }
 {
     if x < 128 {
         has_bit(shared.low, x)

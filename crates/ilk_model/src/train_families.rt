@@ -8,7 +8,7 @@ ghost use Rattle.ilk_plant.specs.declared.state.Aspect.TheVariants.{Closed};
 ghost use Rattle.ilk_plant.specs.declared.state.Mode.TheVariants.{Locked, Occupied};
 ghost use Rattle.ilk_routes.specs.Boards.{has_aspect};
 ghost use Rattle.ilk_routes.specs.Modes.{same_mode};
-ghost use Rattle.ilk_model.specs.Families.{is_unreleased_on_some_route, head_is_led_by_route, keeps_v7_heads_have_routes, keeps_v8_bodies_have_routes};
+ghost use Rattle.ilk_model.specs.Families.{is_unreleased_on_some_route, head_is_led_by_route, meets_v7_heads_have_routes, meets_v8_bodies_have_routes};
 ghost use Rattle.ilk_model.specs.Holding.{is_unreleased_on_path, is_locked_or_occupied, continues_without_board, is_vacant, route_runs_in_direction, any_path_index_passes_test};
 
 use crate::holding::{all_vacant, is_kept_on_path, is_locked_or_occupied, is_plain, runs_in};
@@ -75,9 +75,9 @@ fn head_is_led(plant: &Plant, s: &State, train: &Train) -> bool
     }
 }
 
-pub(crate) fn keeps_v7_heads_have_routes(plant: &Plant, s: &State) -> bool
+pub(crate) fn meets_v7_heads_have_routes(plant: &Plant, s: &State) -> bool
     requires { HasShape plant.now s.now }
-    ensures { result ≡ keeps_v7_heads_have_routes plant.now s.now }
+    ensures { result ≡ meets_v7_heads_have_routes plant.now s.now }
 {
     s.trains
         .as_slice()
@@ -124,9 +124,9 @@ fn body_is_kept(plant: &Plant, s: &State, train: &Train) -> bool
         .all(|x| is_kept_if_plain(plant, s, d, *x))
 }
 
-pub(crate) fn keeps_v8_bodies_have_routes(plant: &Plant, s: &State) -> bool
+pub(crate) fn meets_v8_bodies_have_routes(plant: &Plant, s: &State) -> bool
     requires { HasShape plant.now s.now }
-    ensures { result ≡ keeps_v8_bodies_have_routes plant.now s.now }
+    ensures { result ≡ meets_v8_bodies_have_routes plant.now s.now }
 {
     s.trains
         .as_slice()

@@ -4,8 +4,8 @@ use Rattle.std.proofs.lemmas.Option.{option_and_then_some, cond_some, same_Some,
 use Rattle.std.proofs.lemmas.List.Elements.{All-push, All-set, All-append, All-take, All-drop}
 use Rattle.std.proofs.lemmas.Bool.Decides.{nat_tests}
 use Rattle.ilk_plant.specs.Network.{contains_section, inward_if_border, neighbours_on}
-use Rattle.ilk_plant.specs.Plant.{PlantLists, IsPlant, section_inward_if_border, next_to, board_of}
-use Rattle.ilk_plant.specs.State.{detected_position}
+use Rattle.ilk_plant.specs.Plant.{PlantLists, IsPlant, inward_direction_if_border, next_to, board_of}
+use Rattle.ilk_plant.specs.State.{detected_position_in_state}
 use Rattle.ilk_plant.specs.Shape.{HasShape, has_nonempty_connected_body, is_connected_chain}
 use Rattle.ilk_plant.specs.declared.network.Dir.{Dir}
 use Rattle.ilk_plant.specs.declared.network.Dir.TheVariants.{Up, Down}
@@ -32,17 +32,17 @@ bodies p s shape = All-tested (has_nonempty_connected_body p) (HasBody p) (λ tr
 with_trains : (p : PlantLists) (s : State) (trains : List Train) → HasShape p s → All (HasBody p) trains → HasShape p (record s { trains = trains })
 with_trains p s trains shape each = record { routes = shape.routes; points = shape.points; boards = shape.boards; locks = shape.locks; counts = shape.counts; bodies = list_all-from_All (has_nonempty_connected_body p) trains each }
 
-pub section_inward_if_border-known : (p : PlantLists) (x : ℕ) (d : Dir) → section_inward_if_border p x ≡ Some d → x < length p.sections
-section_inward_if_border-known p x d e = option_and_then_some inward_if_border (slice_get p.sections x) d e (λ k at e'. slice_get_within p.sections x k at)
+pub inward_direction_if_border-known : (p : PlantLists) (x : ℕ) (d : Dir) → inward_direction_if_border p x ≡ Some d → x < length p.sections
+inward_direction_if_border-known p x d e = option_and_then_some inward_if_border (slice_get p.sections x) d e (λ k at e'. slice_get_within p.sections x k at)
 
 alone : (p : PlantLists) (x : ℕ) (d : Dir) → x < length p.sections → HasBody p (new_train_on x d)
 alone p x d within = let known : nat_lt x (length p.sections) ≡ true = grind (arith, nat_tests) in and_from _ _ known refl
 
 pub after_enter-shape : (p : PlantLists) (s t : State) (x : ℕ) → HasShape p s → after_enter p s x ≡ Some t → HasShape p t
 after_enter-shape p s t x shape e =
-    option_and_then_some _ (section_inward_if_border p x) t e (λ d at e1.
+    option_and_then_some _ (inward_direction_if_border p x) t e (λ d at e1.
     let r = cond_some _ _ t e1 in
-    subst (HasShape p) r.1 (with_trains p s _ shape (All-push (HasBody p) s.trains _ (bodies p s shape) (alone p x d (section_inward_if_border-known p x d at)))))
+    subst (HasShape p) r.1 (with_trains p s _ shape (All-push (HasBody p) s.trains _ (bodies p s shape) (alone p x d (inward_direction_if_border-known p x d at)))))
 
 section_led_to-neighbours_on : (k : Section) (d : Dir) (lie : Option Lie) (y : ℕ) → section_led_to k d lie ≡ Some y → IsTrue (contains_section y (neighbours_on k d))
 section_led_to-neighbours_on (Linear down up b c) Down lie y e = rw e (grind (arith, nat_tests))
@@ -60,7 +60,7 @@ section_led_to-neighbours_on (Point stem plus minus Down) Up lie y e = grind (ar
 
 pub ahead-next_to : (p : PlantLists) (s : State) (x y : ℕ) (d : Dir) → ahead p s x d ≡ Some y → IsTrue (contains_section y (next_to p x d))
 ahead-next_to p s x y d e =
-    option_and_then_some (λ k. section_led_to k d (detected_position p s x)) (slice_get p.sections x) y e (λ k at e1. rw at (section_led_to-neighbours_on k d _ y e1))
+    option_and_then_some (λ k. section_led_to k d (detected_position_in_state p s x)) (slice_get p.sections x) y e (λ k at e1. rw at (section_led_to-neighbours_on k d _ y e1))
 
 is_connected_chain-push : (p : PlantLists) (d : Dir) (z : ℕ) (rest : List ℕ) (x y : ℕ) → is_connected_chain p d z rest ≡ true → is_last_section x (z ∷ rest) ≡ true → IsTrue (contains_section y (next_to p x d)) →
     is_connected_chain p d z (rest ++ y ∷ []) ≡ true

@@ -3,7 +3,7 @@ use Rattle.std.specs.Prelude.{ℕ, Option, Some, None, slice_get, if◌then◌el
 use Rattle.ilk_base.specs.Option.{◌>>=◌}
 use Rattle.ilk_plant.specs.Network.{same_direction}
 use Rattle.ilk_plant.specs.Plant.{PlantLists}
-use Rattle.ilk_plant.specs.State.{detected_position}
+use Rattle.ilk_plant.specs.State.{detected_position_in_state}
 use Rattle.ilk_plant.specs.declared.network.Dir.{Dir}
 use Rattle.ilk_plant.specs.declared.network.Dir.TheVariants.{Up, Down}
 use Rattle.ilk_plant.specs.declared.network.Section.{Section}
@@ -34,4 +34,4 @@ section_led_to (Point stem plus minus faces) d lie =
 abbrev pub ahead : PlantLists → State → ℕ → Dir → Option ℕ
 ahead p s x d = do
   section ← slice_get p.sections x
-  section_led_to section d (detected_position p s x)
+  section_led_to section d (detected_position_in_state p s x)

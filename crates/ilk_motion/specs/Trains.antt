@@ -3,7 +3,7 @@
 use Rattle.std.specs.Prelude.{ℕ, Bool, true, false, Option, Some, None, List, [], ◌∷◌, ◌++◌, slice_get, set, remove, position, not}
 use Rattle.ilk_base.specs.Option.{◌>>=◌, is_some_and, then_some}
 use Rattle.ilk_plant.specs.Network.{neighbours_on}
-use Rattle.ilk_plant.specs.Plant.{PlantLists, section_inward_if_border, board_of}
+use Rattle.ilk_plant.specs.Plant.{PlantLists, inward_direction_if_border, board_of}
 use Rattle.ilk_plant.specs.State.{is_unlocked_and_vacant}
 use Rattle.ilk_motion.specs.Ahead.{ahead}
 use Rattle.ilk_motion.specs.Body.{has_head_at, occupies_only, new_train_on, with_new_head, without_tail, has_movable_tail_at}
@@ -45,7 +45,7 @@ with_train_replaced i train s = record s { trains = set s.trains i train }
 -- in the inward direction that occupies `x` is added at the end of the list of trains.
 abbrev pub after_enter : PlantLists → State → ℕ → Option State
 after_enter p s x = do
-  inward ← section_inward_if_border p x
+  inward ← inward_direction_if_border p x
   then_some (is_unlocked_and_vacant s x) (record s { trains = s.trains ++ new_train_on x inward ∷ [] })
 
 -- The state after `head x`, for the first train with its head at section `x`. Enabled if `x` leads

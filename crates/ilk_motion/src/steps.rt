@@ -17,7 +17,7 @@ fn enter(alloc: Global, plant: &Plant, s: &mut State, x: u32) -> Result<bool, Al
     if x >= plant.sections() {
         return Ok(false);
     }
-    let Some(dir) = plant.section_inward_if_border(x) else {
+    let Some(dir) = plant.inward_direction_if_border(x) else {
         return Ok(false);
     };
     if !is_unlocked_and_vacant(s, x) {

@@ -1,7 +1,7 @@
 ghost use Rattle.std.specs.Prelude.{◌≡◌};
 ghost use Rattle.ilk_motion.specs.Ahead.{ahead};
 
-use ilk_plant::{Dir, Lie, Plant, Section, State, detected_position};
+use ilk_plant::{Dir, Lie, Plant, Section, State, detected_position_in_state};
 
 /// Returns the section to which section `x` leads in direction `d`. A linear section leads to its
 /// neighbour. A point that faces `d` leads to the leg of its detected position, another point to
@@ -27,7 +27,7 @@ pub fn ahead(plant: &Plant, s: &State, x: u32, d: Dir) -> Option<u32>
             if faces != d {
                 return Some(stem);
             }
-            match detected_position(plant, s, x)? {
+            match detected_position_in_state(plant, s, x)? {
                 Lie::Plus => Some(plus),
                 Lie::Minus => Some(minus),
                 Lie::Moving => None,

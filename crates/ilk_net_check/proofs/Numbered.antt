@@ -4,7 +4,7 @@ use Rattle.std.specs.List.{list_any}
 use Rattle.std.proofs.lemmas.Option.{slice_get_past}
 use Rattle.ilk_plant.specs.Name.{Name}
 use Rattle.ilk_plant.specs.Network.{same_direction}
-use Rattle.ilk_plant.specs.NetworkRules.{ends_of, is_next_up, reaches_via_below, opposite_direction, is_on_up_cycle, section_named, is_not_named_back, names_back_once as names_once_by_name, has_wrong_neighbour as names_no_other_by_name}
+use Rattle.ilk_plant.specs.NetworkRules.{ends_of, is_next_up, reaches_via_below, opposite_direction, is_on_up_cycle, section_named, is_not_named_back_once, is_named_back_once_on_side as names_once_by_name, has_unknown_or_self_neighbour as names_no_other_by_name}
 use Rattle.ilk_base.specs.Option.{is_some_and}
 use Rattle.ilk_plant.specs.declared.draft.NetDraft.{NetDraft}
 use Rattle.ilk_plant.specs.declared.draft.SectionDraft.{SectionDraft}
@@ -51,7 +51,7 @@ module _ (net : NetDraft) (all : List (List ResolvedEnd)) (ends_are : all ≡ nu
       let s = any_here (λ end. names x end && same_direction end.side d) y in
       λ i. (n i == 1) && s i
 
-  pub back_here : (x : ℕ) → list_any (end_not_named_back_once all x) (ends_of_section all x) ≡ is_not_named_back net x
+  pub back_here : (x : ℕ) → list_any (end_not_named_back_once all x) (ends_of_section all x) ≡ is_not_named_back_once net x
   back_here x =
       any_here (end_not_named_back_once all x) x ∙ (λ i. list_any (λ end. is_some_and (section_named net end.name) (λ y. not (y == x) && not (once_here x y (opposite_direction end.side) i))) (ends_of net x))
 

@@ -6,7 +6,7 @@ use Rattle.ilk_base.proofs.FlatMaps.{Contains-flat_map, Contains-flat_map_of, Co
 use Rattle.ilk_base.proofs.Ranges.{below_or_past, range-at}
 use Rattle.ilk_plant.proofs.Leads.{is_on_up_cycle-walks}
 use Rattle.ilk_plant.specs.Broken.{broken_below, place_kind_of}
-use Rattle.ilk_plant.specs.NetworkRules.{IsOnUpCycle, breaks_network_rule_at, place_count_in_network, network_rules, network_rules_broken, is_on_up_cycle}
+use Rattle.ilk_plant.specs.NetworkRules.{IsOnUpCycle, breaks_network_rule_at, place_count_in_network, all_network_rules, network_rules_broken, is_on_up_cycle}
 use Rattle.ilk_plant.specs.declared.broken.Broken.{Broken}
 use Rattle.ilk_plant.specs.declared.broken.Rule.{Rule}
 use Rattle.ilk_plant.specs.declared.broken.Rule.TheVariants.{N7}
@@ -49,7 +49,7 @@ module _ (net : NetDraft) (x : ℕ) where
 
   listed-is_on_up_cycle : Contains (network_rules_broken net) (entry N7 x) → is_on_up_cycle net x ≡ true
   listed-is_on_up_cycle c =
-      let one = Contains-flat_map at_rule network_rules (entry N7 x) c in
+      let one = Contains-flat_map at_rule all_network_rules (entry N7 x) c in
       let rule : Rule = one.1 in
       let place = listed-of (entry rule) (breaks_network_rule_at net rule) (range_with_len 0 (place_count_in_network net (place_kind_of rule))) (entry N7 x) one.3 in
       let rules : rule ≡ N7 = ap (λ e. e.rule) place.2 in
@@ -59,7 +59,7 @@ module _ (net : NetDraft) (x : ℕ) where
   is_on_up_cycle-listed : is_on_up_cycle net x ≡ true → Contains (network_rules_broken net) (entry N7 x)
   is_on_up_cycle-listed h =
       elim (below_or_past x (length net.sections)) [
-        | inl below ↦ Contains-flat_map_of at_rule network_rules 6 N7 (entry N7 x) refl (of-listed (entry N7) (is_on_up_cycle net) (range_with_len 0 (length net.sections)) x x (range-at (length net.sections) x below) h)
+        | inl below ↦ Contains-flat_map_of at_rule all_network_rules 6 N7 (entry N7 x) refl (of-listed (entry N7) (is_on_up_cycle net) (range_with_len 0 (length net.sections)) x x (range-at (length net.sections) x below) h)
         | inr past ↦ (let none : is_on_up_cycle net x ≡ false = no_lead net (length net.sections) x x past in absurd (cc))
       ]
 

@@ -1,5 +1,5 @@
 ghost use Rattle.std.specs.Prelude.{◌≡◌, ◌==◌, ◌++◌, not, IfOk, OnOk, map};
-ghost use Rattle.ilk_plant.specs.NetworkRules.{end_if_neighbour, opposite_direction as opposite_of};
+ghost use Rattle.ilk_plant.specs.NetworkRules.{ends_from_optional_neighbour, opposite_direction as opposite_of};
 ghost use Rattle.ilk_base.specs.Option.{is_some_and};
 ghost use Rattle.ilk_plant.specs.Plant.{first_number_named};
 ghost use Rattle.ilk_net_check.specs.Numbers.{resolved_end, resolved_ends_of_section, ends_of_section};
@@ -64,7 +64,8 @@ fn push_end(
 ) -> Result<(), AllocError>
     ensures { OnOk result
         (ends.new ≡ ends.old
-        ++ map (resolved_end (first_number_named names.now)) (end_if_neighbour side name.now)) }
+        ++ map (resolved_end (first_number_named names.now))
+        (ends_from_optional_neighbour side name.now)) }
 {
     if let Some(name) = name {
         ends.push(end_of(names, side, name))?;

@@ -42,7 +42,7 @@ fn is_one_sided(all: &Row<Row<ResolvedEnd>>, x: u32, end: &ResolvedEnd) -> bool
 
 /// Returns whether some neighbour of section `x`, other than `x`, doesn't name `x` back: at exactly
 /// one of its ends, on the opposite side. `all` has the ends of each section.
-pub(crate) fn is_not_named_back(all: &Row<Row<ResolvedEnd>>, x: u32) -> bool
+pub(crate) fn is_not_named_back_once(all: &Row<Row<ResolvedEnd>>, x: u32) -> bool
     ensures { result ≡ list_any (end_not_named_back_once all.now x) (ends_there all.now x) }
 {
     ends_of_section(all, x)

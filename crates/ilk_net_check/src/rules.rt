@@ -3,7 +3,7 @@ ghost use Rattle.std.specs.List.{Contains};
 ghost use Rattle.std.specs.Option.{option_copied};
 ghost use Rattle.ilk_plant.specs.Broken.{broken_below, place_kind_of};
 ghost use Rattle.ilk_plant.specs.NetNames.{HasBoardsAndNamesOf};
-ghost use Rattle.ilk_plant.specs.NetworkRules.{IsOnUpCycle, breaks_network_rule_at, place_count_in_network, has_board_without_neighbour, has_wrong_neighbour, is_not_named_back as is_not_named_back_of, network_rules_broken, repeats_neighbour as repeats_neighbour_of, is_on_up_cycle, is_isolated_linear_section};
+ghost use Rattle.ilk_plant.specs.NetworkRules.{IsOnUpCycle, breaks_network_rule_at, place_count_in_network, has_board_without_neighbour, has_unknown_or_self_neighbour, is_not_named_back_once as is_not_named_back_of, network_rules_broken, repeats_neighbour as repeats_neighbour_of, is_on_up_cycle, is_isolated_linear_section};
 ghost use Rattle.ilk_net_check.specs.Numbers.{AgreesWithDraft};
 ghost use Rattle.ilk_plant.specs.declared.broken.Rule.TheVariants.{N7};
 ghost use Rattle.ilk_plant.specs.declared.limits.TheConstants.{MAX_SECTIONS};
@@ -11,7 +11,7 @@ ghost use Rattle.ilk_plant.specs.declared.limits.TheConstants.{MAX_SECTIONS};
 use crate::bits::BitSet256;
 use crate::ends::{ResolvedEnd, ends_of_section, resolved_ends_by_section};
 use crate::kinds::{has_board_to_nowhere, is_linear_without_neighbours, repeats_neighbour};
-use crate::neighbours::{has_invalid_neighbour, is_not_named_back};
+use crate::neighbours::{has_invalid_neighbour, is_not_named_back_once};
 use crate::reach::{matrix_entry_or_false, up_reachability_matrix};
 use ilk_plant::{Broken, KindDraft, NetDraft, NetNames, PlaceKind, Row, Rule, push_broken_if};
 use std::alloc::{AllocError, Global};
@@ -93,18 +93,18 @@ impl Network<'_> {
         }
     }
 
-    fn has_wrong_neighbour(&self, x: u32) -> bool
+    fn has_unknown_or_self_neighbour(&self, x: u32) -> bool
         requires { AgreesWithDraft self.now }
-        ensures { result ≡ has_wrong_neighbour self.now.net.now x }
+        ensures { result ≡ has_unknown_or_self_neighbour self.now.net.now x }
     {
         has_invalid_neighbour(ends_of_section(&self.ends, x), x)
     }
 
-    fn is_not_named_back(&self, x: u32) -> bool
+    fn is_not_named_back_once(&self, x: u32) -> bool
         requires { AgreesWithDraft self.now }
         ensures { result ≡ is_not_named_back_of self.now.net.now x }
     {
-        is_not_named_back(&self.ends, x)
+        is_not_named_back_once(&self.ends, x)
     }
 
     fn returns(&self, x: u32) -> bool
@@ -133,9 +133,9 @@ impl Network<'_> {
         match rule {
             Rule::N1 => self.names.section_names.repeats_earlier_name(x),
             Rule::N2 => self.names.board_names.repeats_earlier_name(x),
-            Rule::N3 => self.has_wrong_neighbour(x),
+            Rule::N3 => self.has_unknown_or_self_neighbour(x),
             Rule::N4 => self.repeats_neighbour(x),
-            Rule::N5 => self.is_not_named_back(x),
+            Rule::N5 => self.is_not_named_back_once(x),
             Rule::N6 => self.stands_alone(x),
             Rule::N7 => self.returns(x),
             Rule::N8 => self.has_board_without_neighbour(x),

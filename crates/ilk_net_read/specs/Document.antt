@@ -36,5 +36,5 @@ if_known_version written = do
   Some (record { version = version; sections = written.sections; routes = written.routes })
 
 -- Returns whether the numbers of sections and routes are within their limits.
-abbrev pub has_allowed_counts : VersionedDocument → Bool
-has_allowed_counts document = section_and_route_counts_allowed (items_len document.sections) (items_len document.routes)
+abbrev pub has_allowed_section_route_counts : VersionedDocument → Bool
+has_allowed_section_route_counts document = section_and_route_counts_allowed (items_len document.sections) (items_len document.routes)

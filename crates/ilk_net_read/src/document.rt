@@ -62,8 +62,8 @@ fn section_and_route_counts_allowed(sections: usize, routes: usize) -> bool
     is_between(1, MAX_SECTIONS as usize, sections) && routes <= MAX_ROUTES as usize
 }
 
-fn has_allowed_counts(document: &Document<'_>) -> bool
-    ensures exact { result ≡ parts.has_allowed_counts (document_view document.now) }
+fn has_allowed_section_route_counts(document: &Document<'_>) -> bool
+    ensures exact { result ≡ parts.has_allowed_section_route_counts (document_view document.now) }
     ensures limits { result ≡ true → HasAllowedCounts (document_view document.now) }
 {
     section_and_route_counts_allowed(document.sections.len(), document.routes.len())
@@ -84,7 +84,7 @@ pub fn document_from_value(value: &Value) -> Result<Document<'_>, FormError>
     let Some(document) = in_version(&members) else {
         return Err(rule_error_at_place(Form::F4, Place::Document));
     };
-    if !has_allowed_counts(&document) {
+    if !has_allowed_section_route_counts(&document) {
         return Err(rule_error_at_place(Form::F6, Place::Document));
     }
     Ok(document)

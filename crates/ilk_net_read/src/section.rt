@@ -1,6 +1,6 @@
 ghost use Rattle.std.specs.Prelude.{◌≡◌, true, IfOk};
 ghost use Rattle.serde_json.specs.View.{view};
-ghost use Rattle.ilk_plant.specs.Limits.{neighbour_and_board_names_valid, section_names_valid};
+ghost use Rattle.ilk_plant.specs.Limits.{neighbour_and_board_names_valid, are_names_in_section_valid};
 ghost use Rattle.ilk_net_read.specs.Fault.{MatchesUnlessOutOfMemory, IsReadIfKindMatches};
 ghost use Rattle.ilk_net_read.specs.Network as network;
 ghost use Rattle.ilk_net_read.specs.Section as section;
@@ -103,7 +103,7 @@ pub(crate) fn section_from_value(
 ) -> Result<SectionDraft, FormError>
     ensures exact { MatchesUnlessOutOfMemory result (network.section_from_value number
         (view value.now)) }
-    ensures named { IfOk result (λ draft. section_names_valid draft ≡ true) }
+    ensures named { IfOk result (λ draft. are_names_in_section_valid draft ≡ true) }
 {
     let place = Place::Section(number);
     let draft = match section(alloc, value) {

@@ -5,7 +5,7 @@ use Rattle.std.proofs.lemmas.Option.{same_Some, slice_get-map, slice_get_within,
 use Rattle.ilk_plant.proofs.NamesDiffer.{number_of-own}
 use Rattle.ilk_plant.proofs.Rules.{KeepsNetworkRules}
 use Rattle.ilk_plant.proofs.KnownNames.{board_on-known, boards_known}
-use Rattle.ilk_plant.specs.Draft.{NamedBoard, boards_of_sections_from, boards_on, names_of_boards, names_of_sections, number_or_len, plant_from_drafts, numbered_section, board_if_named}
+use Rattle.ilk_plant.specs.Draft.{NamedBoard, boards_of_sections_from, boards_on, names_of_boards, names_of_sections, number_or_len, plant_from_drafts, numbered_section, section_board_if_named}
 use Rattle.ilk_plant.specs.Name.{Name}
 use Rattle.ilk_plant.specs.declared.broken.Rule.TheVariants.{N8}
 use Rattle.ilk_plant.specs.Network.{neighbours_on, board_on}
@@ -64,20 +64,20 @@ named_on x d name = record { name = name; board = record { section = x; dir = d 
 
 named-listed : (x : ℕ) (kind : KindDraft) (d : Dir) (name : Name) → board_drafted kind d ≡ Some name → (k : ℕ) × (slice_get (boards_on x kind) k ≡ Some (named_on x d name))
 named-listed x (LinearDraft down up board_down board_up) Down name e =
-    (zero, at-before (board_if_named x Down board_down) (board_if_named x Up board_up) zero (named_on x Down name) (named-at x Down board_down name e))
+    (zero, at-before (section_board_if_named x Down board_down) (section_board_if_named x Up board_up) zero (named_on x Down name) (named-at x Down board_down name e))
   where
-    named-at : (x : ℕ) (d : Dir) (o : Option Name) (name : Name) → o ≡ Some name → slice_get (board_if_named x d o) 0 ≡ Some (named_on x d name)
+    named-at : (x : ℕ) (d : Dir) (o : Option Name) (name : Name) → o ≡ Some name → slice_get (section_board_if_named x d o) 0 ≡ Some (named_on x d name)
     named-at x d o name e = rw e refl
 named-listed x (LinearDraft down up board_down board_up) Up name e =
-    (length (board_if_named x Down board_down) + zero, at-past (board_if_named x Down board_down) (board_if_named x Up board_up) zero (named_on x Up name) (named-at x Up board_up name e))
+    (length (section_board_if_named x Down board_down) + zero, at-past (section_board_if_named x Down board_down) (section_board_if_named x Up board_up) zero (named_on x Up name) (named-at x Up board_up name e))
   where
-    named-at : (x : ℕ) (d : Dir) (o : Option Name) (name : Name) → o ≡ Some name → slice_get (board_if_named x d o) 0 ≡ Some (named_on x d name)
+    named-at : (x : ℕ) (d : Dir) (o : Option Name) (name : Name) → o ≡ Some name → slice_get (section_board_if_named x d o) 0 ≡ Some (named_on x d name)
     named-at x d o name e = rw e refl
 named-listed x (PointDraft stem plus minus faces) d name e = cc
 
 named-drafted : (x : ℕ) (kind : KindDraft) (k : ℕ) (named : NamedBoard) → slice_get (boards_on x kind) k ≡ Some named → (named.board.section ≡ x) × (board_drafted kind named.board.dir ≡ Some named.name)
 named-drafted x (LinearDraft down up board_down board_up) k named e =
-    elim (at-either (board_if_named x Down board_down) (board_if_named x Up board_up) k named e) [
+    elim (at-either (section_board_if_named x Down board_down) (section_board_if_named x Up board_up) k named e) [
       | inl h ↦ let here = named-of x Down board_down h.0 named h.1 in
           let P : NamedBoard → Type 0 = λ n. (n.board.section ≡ x) × (board_drafted (LinearDraft down up board_down board_up) n.board.dir ≡ Some n.name) in
           subst P here.2 (refl, here.1)
@@ -86,7 +86,7 @@ named-drafted x (LinearDraft down up board_down board_up) k named e =
           subst P here.2 (refl, here.1)
     ]
   where
-    named-of : (x : ℕ) (d : Dir) (o : Option Name) (k : ℕ) (named : NamedBoard) → slice_get (board_if_named x d o) k ≡ Some named → (name : Name) × (o ≡ Some name) × (named_on x d name ≡ named)
+    named-of : (x : ℕ) (d : Dir) (o : Option Name) (k : ℕ) (named : NamedBoard) → slice_get (section_board_if_named x d o) k ≡ Some named → (name : Name) × (o ≡ Some name) × (named_on x d name ≡ named)
     named-of x d None k named e = cc
     named-of x d (Some name) zero named e = (name, refl, same_Some _ _ e)
     named-of x d (Some name) (suc k) named e = cc

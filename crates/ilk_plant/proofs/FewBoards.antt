@@ -5,7 +5,7 @@ use Rattle.std.proofs.lemmas.List.{length-map, map-append}
 use Rattle.std.proofs.lemmas.List.Folds.{list_any-append}
 use Rattle.std.proofs.lemmas.Slice.Eq.{bytes_eq-Decides}
 use Rattle.ilk_plant.proofs.KnownNames.{boards_known, is_known}
-use Rattle.ilk_plant.specs.Draft.{NamedBoard, boards_of_sections_from, boards_on, names_of_boards, board_if_named}
+use Rattle.ilk_plant.specs.Draft.{NamedBoard, boards_of_sections_from, boards_on, names_of_boards, section_board_if_named}
 use Rattle.ilk_plant.specs.Name.{Name}
 use Rattle.ilk_plant.specs.declared.limits.TheConstants.{MAX_BOARDS, MAX_SECTIONS}
 use Rattle.ilk_plant.specs.declared.network.Dir.{Dir}
@@ -28,7 +28,7 @@ known-before : (names back : List Name) (name : Option Name) → is_known names 
 known-before names back None h = refl
 known-before names back (Some name) h = rw (list_any-append (bytes_eq name) names back, h) refl
 
-board-own : (x : ℕ) (d : Dir) (name : Option Name) → is_known (names_in (board_if_named x d name)) name ≡ true
+board-own : (x : ℕ) (d : Dir) (name : Option Name) → is_known (names_in (section_board_if_named x d name)) name ≡ true
 board-own x d None = refl
 board-own x d (Some name) =
     let mine : bytes_eq name name ≡ true = (bytes_eq-Decides name name).1 refl in rw mine refl
@@ -36,11 +36,11 @@ board-own x d (Some name) =
 boards-own : (x : ℕ) (kind : KindDraft) → boards_known (names_in (boards_on x kind)) kind ≡ true
 boards-own x (LinearDraft down up board_down board_up) =
     rw (
-      map-append _ (board_if_named x Down board_down) (board_if_named x Up board_up),
-      known-before (names_in (board_if_named x Down board_down))
-          (names_in (board_if_named x Up board_up)) board_down (board-own x Down board_down),
-      known-after (names_in (board_if_named x Down board_down))
-          (names_in (board_if_named x Up board_up)) board_up (board-own x Up board_up),
+      map-append _ (section_board_if_named x Down board_down) (section_board_if_named x Up board_up),
+      known-before (names_in (section_board_if_named x Down board_down))
+          (names_in (section_board_if_named x Up board_up)) board_down (board-own x Down board_down),
+      known-after (names_in (section_board_if_named x Down board_down))
+          (names_in (section_board_if_named x Up board_up)) board_up (board-own x Up board_up),
     ) refl
 boards-own x (PointDraft stem plus minus faces) = refl
 

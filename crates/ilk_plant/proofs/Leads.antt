@@ -8,7 +8,7 @@ use Rattle.std.proofs.lemmas.Bool.Decides.{nat_tests}
 use Rattle.ilk_plant.specs.Draft.{names_of_sections}
 use Rattle.ilk_plant.specs.Name.{Name}
 use Rattle.ilk_base.specs.Option.{is_some_and}
-use Rattle.ilk_plant.specs.NetworkRules.{End, IsWalkUp, LeadsUp, IsOnUpCycle, ends_of, is_next_up, reaches_via_below, refers_to_section, is_on_up_cycle, section_named}
+use Rattle.ilk_plant.specs.NetworkRules.{End, IsWalkUp, SomeWalkLeadsUp, IsOnUpCycle, ends_of, is_next_up, reaches_via_below, end_refers_to_section, is_on_up_cycle, section_named}
 use Rattle.ilk_plant.specs.Network.{same_direction}
 use Rattle.ilk_plant.specs.declared.draft.NetDraft.{NetDraft}
 use Rattle.ilk_plant.specs.declared.network.Dir.TheVariants.{Up}
@@ -66,8 +66,8 @@ section_named-below net name y e =
     let found = position-Some (bytes_eq name) (names_of_sections net.sections) y [] e in
     omega (arith, found.0, length-map net.sections (λ section. section.name))
 
-refers_to_section-below : (net : NetDraft) (y : ℕ) (end : End) → refers_to_section net y end ≡ true → y < length net.sections
-refers_to_section-below net y end h = by_name (section_named net end.name) refl h
+end_refers_to_section-below : (net : NetDraft) (y : ℕ) (end : End) → end_refers_to_section net y end ≡ true → y < length net.sections
+end_refers_to_section-below net y end h = by_name (section_named net end.name) refl h
   where
     by_name : (o : Option ℕ) → section_named net end.name ≡ o → is_some_and o (λ z. z == y) ≡ true → y < length net.sections
     by_name None e h = cc
@@ -77,11 +77,11 @@ refers_to_section-below net y end h = by_name (section_named net end.name) refl 
 pub is_next_up-below : (net : NetDraft) (x y : ℕ) → is_next_up net x y ≡ true → y < length net.sections
 is_next_up-below net x y h = among (ends_of net x) h
   where
-    among : (ends : List End) → list_any (λ end. same_direction end.side Up && refers_to_section net y end) ends ≡ true → y < length net.sections
+    among : (ends : List End) → list_any (λ end. same_direction end.side Up && end_refers_to_section net y end) ends ≡ true → y < length net.sections
     among [] h = cc
     among (end ∷ rest) h =
-        elim (either (same_direction end.side Up && refers_to_section net y end) (list_any (λ end. same_direction end.side Up && refers_to_section net y end) rest) h) [
-          | inl e ↦ refers_to_section-below net y end (and_parts (same_direction end.side Up) (refers_to_section net y end) e).1
+        elim (either (same_direction end.side Up && end_refers_to_section net y end) (list_any (λ end. same_direction end.side Up && end_refers_to_section net y end) rest) h) [
+          | inl e ↦ end_refers_to_section-below net y end (and_parts (same_direction end.side Up) (end_refers_to_section net y end) e).1
           | inr e ↦ among rest e
         ]
 
@@ -104,7 +104,7 @@ module _ (net : NetDraft) where
   walk-append (u ∷ s ∷ front) back x z y w e v f =
       let rest = walk-append (s ∷ front) back u z y w.1 e v f in ((w.0, rest.0), rest.1)
 
-  pub walk-from_leads : (n x y : ℕ) → reaches_via_below (is_next_up net) n x y ≡ true → LeadsUp net x y
+  pub walk-from_leads : (n x y : ℕ) → reaches_via_below (is_next_up net) n x y ≡ true → SomeWalkLeadsUp net x y
   walk-from_leads zero x y h = (y ∷ [], ((h, tt), refl))
   walk-from_leads (suc n) x y h =
       elim (either _ _ h) [
@@ -112,7 +112,7 @@ module _ (net : NetDraft) where
         | inr e ↦ joined (walk-from_leads n x n (and_parts _ _ e).0) (walk-from_leads n n y (and_parts _ _ e).1)
       ]
     where
-      joined : LeadsUp net x n → LeadsUp net n y → LeadsUp net x y
+      joined : SomeWalkLeadsUp net x n → SomeWalkLeadsUp net n y → SomeWalkLeadsUp net x y
       joined p q = (p.0 ++ q.0, walk-append p.0 q.0 x n y p.1.0 p.1.1 q.1.0 q.1.1)
 
   pub is_on_up_cycle-walks : (x : ℕ) → IsTrue (is_on_up_cycle net x) ↔ IsOnUpCycle net x

@@ -12,7 +12,7 @@ use Rattle.ilk_plant.specs.Draft.{names_of_boards, names_of_sections, number_or_
 use Rattle.ilk_plant.specs.Name.{Name}
 use Rattle.ilk_plant.specs.Network.{neighbours_on, contains_section, same_direction}
 use Rattle.ilk_base.specs.Option.{is_some_and}
-use Rattle.ilk_plant.specs.NetworkRules.{End, ends_of_draft, ends_of, is_linear_without_neighbours, refers_to_another, names_back_once, refers_to_section, opposite_direction, section_named, is_isolated_linear_section}
+use Rattle.ilk_plant.specs.NetworkRules.{End, ends_of_draft, ends_of, is_linear_without_neighbours, refers_to_another, is_named_back_once_on_side, end_refers_to_section, opposite_direction, section_named, is_isolated_linear_section}
 use Rattle.ilk_plant.specs.Once.{names_differ, numbers_differ}
 use Rattle.ilk_plant.specs.Plant.{first_number_named, next_to}
 use Rattle.ilk_plant.specs.declared.broken.Rule.TheVariants.{N3, N4, N5, N6}
@@ -128,15 +128,16 @@ next-other net table rules x d =
 
 back-end : (net : NetDraft) → KeepsNetworkRules net → (x k y : ℕ) (end : End) →
     slice_get (ends_of net x) k ≡ Some end → number_or_len (names_of_sections net.sections) end.name ≡ y →
-    list_any (λ other. refers_to_section net x other && same_direction other.side (opposite_direction end.side))
+    list_any (λ other. end_refers_to_section net x other && same_direction other.side (opposite_direction end.side))
     (ends_of net y) ≡ true
 back-end net rules x k y end at number =
     let known = end-number net rules x k y end at number in
-    let kept = list_any-none (λ e. is_some_and (section_named net e.name) (λ z. not (z == x) && not (names_back_once net x (opposite_direction e.side) (ends_of net z)))) (ends_of net x) k end (rules 4 N5 refl x (ends_of_draft-within net x k end at))
+    let kept = list_any-none (λ e. is_some_and (section_named net e.name) (λ z. not (z == x) && not (is_named_back_once_on_side net x (opposite_direction e.side) (ends_of net z)))) (ends_of net x) k end
+    (rules 4 N5 refl x (ends_of_draft-within net x k end at))
     at in
-    let at_y : (not (y == x) && not (names_back_once net x (opposite_direction end.side) (ends_of net y))) ≡ false = rw known.0 at kept in
-    let once = by-tests (y == x) (names_back_once net x (opposite_direction end.side) (ends_of net y)) known.2 at_y in
-    (and_parts (count_by (refers_to_section net x) (ends_of net y) == 1) (list_any (λ other. refers_to_section net x other && same_direction other.side (opposite_direction end.side)) (ends_of net y)) once).1
+    let at_y : (not (y == x) && not (is_named_back_once_on_side net x (opposite_direction end.side) (ends_of net y))) ≡ false = rw known.0 at kept in
+    let once = by-tests (y == x) (is_named_back_once_on_side net x (opposite_direction end.side) (ends_of net y)) known.2 at_y in
+    (and_parts (count_by (end_refers_to_section net x) (ends_of net y) == 1) (list_any (λ other. end_refers_to_section net x other && same_direction other.side (opposite_direction end.side)) (ends_of net y)) once).1
   where
     by-tests : (a b : Bool) → a ≡ false → (not a && not b) ≡ false → b ≡ true
     by-tests true b e h = cc
@@ -152,16 +153,16 @@ next-back net table rules x y d h =
     let side : found.1.side ≡ d = one_direction found.1.side d leads.0 in
     let named = back-end net rules x found.0 y found.1 found.2 (eqb-true _ _ leads.1) in
     let back : (k : ℕ) × (end : End) × (slice_get (ends_of net y) k ≡ Some end) ×
-    ((refers_to_section net x end && same_direction end.side (opposite_direction found.1.side)) ≡ true) =
+    ((end_refers_to_section net x end && same_direction end.side (opposite_direction found.1.side)) ≡ true) =
     list_any-at
-    (λ other. refers_to_section net x other
+    (λ other. end_refers_to_section net x other
     && same_direction other.side (opposite_direction found.1.side)) (ends_of net y) named in
-    let parts = and_parts (refers_to_section net x back.1) (same_direction back.1.side (opposite_direction found.1.side)) back.3 in
+    let parts = and_parts (end_refers_to_section net x back.1) (same_direction back.1.side (opposite_direction found.1.side)) back.3 in
     let number = names-number net x back.1 parts.0 in
     let turned : same_direction back.1.side (opposite_direction d) ≡ true = ap (λ e. same_direction back.1.side (opposite_direction e)) (sym side) ∙ parts.1 in
     next_to-ends_of_draft net table y (opposite_direction d) x ∙ list_any-from (end_leads_to names (opposite_direction d) x) (ends_of net y) back.0 back.1 back.2 (both_true turned (eq-eqb _ _ number))
   where
-    names-number : (net : NetDraft) (x : ℕ) (end : End) → refers_to_section net x end ≡ true → number_or_len (names_of_sections net.sections) end.name ≡ x
+    names-number : (net : NetDraft) (x : ℕ) (end : End) → end_refers_to_section net x end ≡ true → number_or_len (names_of_sections net.sections) end.name ≡ x
     names-number net x end h =
         let named : (z : ℕ) × (first_number_named (names_of_sections net.sections) end.name ≡ Some z) × ((z == x) ≡ true) = some-and (first_number_named (names_of_sections net.sections) end.name) (λ z. z == x) h in
         number_of-first (names_of_sections net.sections) end.name named.0 named.1 ∙ eqb-true named.0 x named.2

@@ -7,7 +7,7 @@ use Rattle.std.proofs.lemmas.Option.{cond_some, option_and_then_some, same_Some,
 use Rattle.ilk_base.specs.Option.{◌>>=◌, then_some}
 use Rattle.ilk_plant.specs.Network.{is_point}
 use Rattle.ilk_plant.specs.Plant.{PlantLists, point_count, point_number}
-use Rattle.ilk_plant.specs.Kept.{point_numbers}
+use Rattle.ilk_plant.specs.Kept.{point_number_per_section}
 use Rattle.ilk_plant.specs.declared.network.Section.{Section}
 use Rattle.ilk_base.proofs.Options.{IfSome-from, bind_some}
 use Rattle.ilk_base.proofs.Ranges.{range-at}
@@ -34,16 +34,16 @@ module _ (p : PlantLists) (x : ℕ) (d : Section) (within : x < length p.section
   pub point_same : is_point (get_or p.sections x d) ≡ false → new ≡ numbers ++ None ∷ [] → (new ≡ map (point_number p) (range_with_len 0 (x + 1))) × (points ≡ count_by is_point (take (x + 1) p.sections))
   point_same e now = (with None (sym (here false e)) now, count ∙ sym (count_by_more_no is_point p.sections x d within e))
 
-point_numbers-at : (p : PlantLists) (x : ℕ) → x < length p.sections → slice_get (point_numbers p) x ≡ Some (point_number p x)
-point_numbers-at p x within =
+point_number_per_section-at : (p : PlantLists) (x : ℕ) → x < length p.sections → slice_get (point_number_per_section p) x ≡ Some (point_number p x)
+point_number_per_section-at p x within =
     slice_get-map (point_number p) (range_with_len 0 (length p.sections)) x ∙ ap (λ (o : Option ℕ). o >>= (λ y. Some (point_number p y))) (range-at (length p.sections) x within)
 
-pub length-point_numbers : (p : PlantLists) → length (point_numbers p) ≡ length p.sections
-length-point_numbers p = length-map-range_with_len (point_number p) 0 (length p.sections)
+pub length-point_number_per_section : (p : PlantLists) → length (point_number_per_section p) ≡ length p.sections
+length-point_number_per_section p = length-map-range_with_len (point_number p) 0 (length p.sections)
 
-pub indexed-number : (p : PlantLists) (numbers : List (Option ℕ)) (x : ℕ) (number : Option ℕ) → numbers ≡ point_numbers p → x < length p.sections → slice_get numbers x ≡ Some number → number ≡ point_number p x
+pub indexed-number : (p : PlantLists) (numbers : List (Option ℕ)) (x : ℕ) (number : Option ℕ) → numbers ≡ point_number_per_section p → x < length p.sections → slice_get numbers x ≡ Some number → number ≡ point_number p x
 indexed-number p numbers x number index within at =
-    same_Some number (point_number p x) (sym at ∙ ap (λ l. slice_get l x) index ∙ point_numbers-at p x within)
+    same_Some number (point_number p x) (sym at ∙ ap (λ l. slice_get l x) index ∙ point_number_per_section-at p x within)
 
 pub point_number-below : (p : PlantLists) (x : ℕ) → IfSome (point_number p x) (λ n. n < point_count p)
 point_number-below p x = IfSome-from (point_number p x) (λ n. n < point_count p) below

@@ -14,7 +14,7 @@ use Rattle.ilk_plant.specs.declared.limits.TheConstants.{MAX_ROUTE_CONFLICTS, MA
 use Rattle.ilk_plant.specs.Network.{contains_section, is_point}
 use Rattle.ilk_base.specs.Option.{is_some_and}
 use Rattle.ilk_plant.specs.Plant.{IsValidRouteOf, PlantLists, point_number, is_point_section}
-use Rattle.ilk_plant.specs.TableRules.{conflicts_are_other_routes_once, destination_is_board_or_none, lists_passed_points_once, has_nonsource_protecting_boards_once, has_outside_protecting_points_once, has_sections_once, source_is_board, is_board, is_other_route, is_section, points_of, protecting_points_of, route_fails, path_and_overlap_of}
+use Rattle.ilk_plant.specs.TableRules.{conflicts_are_other_routes_once, destination_is_board_or_none, has_only_passed_points_once, has_nonsource_protecting_boards_once, has_outside_protecting_points_once, has_sections_once, source_is_board, is_board, is_other_route, is_section, nonprotecting_points_of, protecting_points_of, route_fails, path_and_overlap_of}
 use Rattle.ilk_plant.specs.Once.{numbers_differ}
 use Rattle.ilk_plant.specs.declared.draft.NetDraft.{NetDraft}
 use Rattle.ilk_plant.specs.declared.draft.RouteDraft.{RouteDraft}
@@ -114,7 +114,8 @@ route-known net table rules each r route e =
     let source = route-passes p (source_is_board p) r route (rules 1 R2 refl r within) e in
     let sections = and_parts (list_all (is_section p) (path_and_overlap_of route)) (numbers_differ (path_and_overlap_of route)) (route-passes p (has_sections_once p) r route (rules 2 R3 refl r within) e) in
     let each_section = and_parts (list_all (is_section p) route.path) (list_all (is_section p) route.overlap) (sym (list_all-append (is_section p) route.path route.overlap) ∙ sections.0) in
-    let points = and_parts (list_all (λ x. is_point_section p x && contains_section x (path_and_overlap_of route)) (points_of route)) (numbers_differ (points_of route)) (route-passes p (lists_passed_points_once p) r route
+    let points = and_parts (list_all (λ x. is_point_section p x && contains_section x (path_and_overlap_of route)) (nonprotecting_points_of route)) (numbers_differ (nonprotecting_points_of route))
+    (route-passes p (has_only_passed_points_once p) r route
     (rules 3 R4 refl r within) e) in
     let each_point :
     list_all (λ listed. is_point_section p listed.point && contains_section listed.point (path_and_overlap_of route))

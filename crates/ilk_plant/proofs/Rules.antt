@@ -2,9 +2,9 @@
 use Rattle.std.proofs.Common.{◌≡◌, ℕ, ◌<◌, Bool, false, None, Some, List, [], slice_get}
 use Rattle.std.specs.List.{filter, range_with_len}
 use Rattle.ilk_plant.specs.Broken.{broken_below, broken_for_rules, place_kind_of}
-use Rattle.ilk_plant.specs.NetworkRules.{breaks_network_rule_at, place_count_in_network, network_rules, network_rules_broken}
+use Rattle.ilk_plant.specs.NetworkRules.{breaks_network_rule_at, place_count_in_network, all_network_rules, network_rules_broken}
 use Rattle.ilk_plant.specs.Plant.{PlantLists}
-use Rattle.ilk_plant.specs.TableRules.{breaks_table_rule_at, place_count_in_plant, plant_table_rules_broken, table_rules}
+use Rattle.ilk_plant.specs.TableRules.{breaks_table_rule_at, place_count_in_plant, plant_table_rules_broken, all_table_rules}
 use Rattle.ilk_plant.specs.declared.broken.PlaceKind.{PlaceKind}
 use Rattle.ilk_plant.specs.declared.broken.Rule.{Rule}
 use Rattle.ilk_plant.specs.declared.draft.NetDraft.{NetDraft}
@@ -27,13 +27,13 @@ rules-kept rules count breaks e k rule at =
     rule-kept rule (count (place_kind_of rule)) (breaks rule) (flat_map-none (λ r. broken_below r (count (place_kind_of r)) (breaks r)) rules k rule e at)
 
 abbrev pub KeepsNetworkRules : NetDraft → Type 0
-KeepsNetworkRules net = Keeps network_rules (place_count_in_network net) (breaks_network_rule_at net)
+KeepsNetworkRules net = Keeps all_network_rules (place_count_in_network net) (breaks_network_rule_at net)
 
-pub network_rules-kept : (net : NetDraft) → network_rules_broken net ≡ [] → KeepsNetworkRules net
-network_rules-kept net e = rules-kept network_rules (place_count_in_network net) (breaks_network_rule_at net) e
+pub all_network_rules-kept : (net : NetDraft) → network_rules_broken net ≡ [] → KeepsNetworkRules net
+all_network_rules-kept net e = rules-kept all_network_rules (place_count_in_network net) (breaks_network_rule_at net) e
 
 abbrev pub KeepsTableRules : PlantLists → Type 0
-KeepsTableRules p = Keeps table_rules (place_count_in_plant p) (breaks_table_rule_at p)
+KeepsTableRules p = Keeps all_table_rules (place_count_in_plant p) (breaks_table_rule_at p)
 
-pub table_rules-kept : (p : PlantLists) → plant_table_rules_broken p ≡ [] → KeepsTableRules p
-table_rules-kept p e = rules-kept table_rules (place_count_in_plant p) (breaks_table_rule_at p) e
+pub all_table_rules-kept : (p : PlantLists) → plant_table_rules_broken p ≡ [] → KeepsTableRules p
+all_table_rules-kept p e = rules-kept all_table_rules (place_count_in_plant p) (breaks_table_rule_at p) e

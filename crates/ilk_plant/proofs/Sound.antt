@@ -8,7 +8,7 @@ use Rattle.ilk_plant.proofs.Neighbours.{next-back, next-known, next-once, next-o
 use Rattle.ilk_plant.proofs.NamesDiffer.{named-once}
 use Rattle.ilk_plant.proofs.Once.{names_differ-from_places}
 use Rattle.ilk_plant.proofs.RoutesOf.{conflicts-other, route-known}
-use Rattle.ilk_plant.proofs.Rules.{network_rules-kept, table_rules-kept}
+use Rattle.ilk_plant.proofs.Rules.{all_network_rules-kept, all_table_rules-kept}
 use Rattle.ilk_plant.proofs.Walks.{never-is_on_up_cycle}
 use Rattle.ilk_plant.specs.Draft.{boards_of_sections_from, names_of_boards, names_of_routes, names_of_sections, plant_from_drafts, numbered_route, numbered_section}
 use Rattle.ilk_plant.specs.Plant.{IsPlant, PlantLists}
@@ -23,8 +23,8 @@ use Rattle.ilk_plant.specs.declared.draft.TableDraft.{TableDraft}
 
 pub sound-IsPlant : (net : NetDraft) (table : TableDraft) → AreSoundDrafts net table → IsPlant (plant_from_drafts net table)
 sound-IsPlant net table sound =
-    let network = network_rules-kept net sound.network in
-    let routes = table_rules-kept (plant_from_drafts net table) sound.routes in
+    let network = all_network_rules-kept net sound.network in
+    let routes = all_table_rules-kept (plant_from_drafts net table) sound.routes in
     let count : length (plant_from_drafts net table).sections ≡ length net.sections = length-map net.sections (λ section. numbered_section (names_of_sections net.sections) (names_of_boards net.sections) section.kind) in
     let names : length (names_of_sections net.sections) ≡ length net.sections = length-map net.sections (λ section. section.name) in
     let boards : length (plant_from_drafts net table).boards ≡ length (names_of_boards net.sections) = length-map (boards_of_sections_from 0 net.sections) (λ named. named.board) ∙ sym (length-map (boards_of_sections_from 0 net.sections)
@@ -61,7 +61,7 @@ sound-IsPlant net table sound =
 pub plant_from_drafts-IsSound : (net : NetDraft) (table : TableDraft) → AreSoundDrafts net table → IsAcyclicFromSoundDrafts (plant_from_drafts net table)
 plant_from_drafts-IsSound net table sound = record {
   plant = sound-IsPlant net table sound;
-  walks = never-is_on_up_cycle net table (network_rules-kept net sound.network);
+  walks = never-is_on_up_cycle net table (all_network_rules-kept net sound.network);
   drafts = record { net = net; table = table; sound = sound; same = refl };
 }
 

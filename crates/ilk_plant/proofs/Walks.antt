@@ -9,7 +9,7 @@ use Rattle.ilk_plant.proofs.Rules.{KeepsNetworkRules}
 use Rattle.ilk_plant.specs.Draft.{names_of_sections, number_or_len, plant_from_drafts}
 use Rattle.ilk_plant.specs.Network.{contains_section, same_direction}
 use Rattle.ilk_base.specs.Option.{is_some_and}
-use Rattle.ilk_plant.specs.NetworkRules.{End, ends_of, is_next_up, reaches_via_below, refers_to_section, is_on_up_cycle}
+use Rattle.ilk_plant.specs.NetworkRules.{End, ends_of, is_next_up, reaches_via_below, end_refers_to_section, is_on_up_cycle}
 use Rattle.ilk_plant.specs.Plant.{next_to}
 use Rattle.ilk_plant.specs.Sound.{IsAcyclic}
 use Rattle.ilk_plant.specs.Shape.{is_connected_chain}
@@ -30,8 +30,8 @@ next-up net table rules x y h =
     let found : (k : ℕ) × (end : End) × (slice_get (ends_of net x) k ≡ Some end) × (end_leads_to (names_of_sections net.sections) Up y end ≡ true) = next-end net table x y Up h in
     let leads = and_parts (same_direction found.1.side Up) (number_or_len (names_of_sections net.sections) found.1.name == y) found.3 in
     let known = end-number net rules x found.0 y found.1 found.2 (eqb-true _ _ leads.1) in
-    let named : refers_to_section net y found.1 ≡ true = ap (λ o. is_some_and o (λ z. z == y)) known.0 ∙ eq-eqb y y refl in
-    list_any-from (λ end. same_direction end.side Up && refers_to_section net y end) (ends_of net x) found.0 found.1 found.2 (both_true leads.0 named)
+    let named : end_refers_to_section net y found.1 ≡ true = ap (λ o. is_some_and o (λ z. z == y)) known.0 ∙ eq-eqb y y refl in
+    list_any-from (λ end. same_direction end.side Up && end_refers_to_section net y end) (ends_of net x) found.0 found.1 found.2 (both_true leads.0 named)
 
 next-section : (net : NetDraft) (table : TableDraft) → KeepsNetworkRules net → (x y : ℕ) (d : Dir) → contains_section y (next_to (plant_from_drafts net table) x d) ≡ true → y < length net.sections
 next-section net table rules x y d h =

@@ -6,9 +6,9 @@ use Rattle.ilk_base.specs.Option.{is_some_and}
 use Rattle.ilk_base.specs.Numbers.{has_number}
 use Rattle.ilk_plant.specs.Broken.{broken_below, broken_at_pairs, place_kind_of}
 use Rattle.ilk_plant.specs.Network.{contains_section, last_of}
-use Rattle.ilk_plant.specs.Plant.{PlantLists, next_to, board_of, section_inward_if_border, is_point_section}
+use Rattle.ilk_plant.specs.Plant.{PlantLists, next_to, board_of, inward_direction_if_border, is_point_section}
 use Rattle.ilk_plant.specs.Shape.{is_connected_chain}
-use Rattle.ilk_plant.specs.TableRules.{place_count_in_plant, points_of, route_fails, sections_locked_for}
+use Rattle.ilk_plant.specs.TableRules.{place_count_in_plant, nonprotecting_points_of, route_fails, sections_locked_for}
 use Rattle.ilk_plant.specs.declared.broken.Broken.{Broken}
 use Rattle.ilk_plant.specs.declared.broken.PlaceKind.{PlaceKind}
 use Rattle.ilk_plant.specs.declared.broken.PlaceKind.TheVariants.{RoutePairs}
@@ -33,8 +33,8 @@ all_but_last path = take (length path - 1) path
 
 -- Returns whether a route keeps C1: its path leads on from the source's section, from neighbour to
 -- neighbour in the route's direction.
-abbrev pub path_continues_from_source : PlantLists → Route → Bool
-path_continues_from_source p route = source_satisfies p route (λ source. is_connected_chain p source.dir source.section route.path)
+abbrev pub is_path_connected_from_source : PlantLists → Route → Bool
+is_path_connected_from_source p route = source_satisfies p route (λ source. is_connected_chain p source.dir source.section route.path)
 
 -- Returns whether a path in direction `d` may end at section `x`. If there is a destination `m`, it
 -- is the board of `x` for direction `d`; otherwise `x` has no neighbour in that direction.
@@ -66,8 +66,8 @@ is_leg_at_position Minus y (Point stem plus minus faces) = minus == y
 
 -- Returns whether `points` lists section `x` in a position in which its point leads to one of
 -- `sections`.
-abbrev pub is_listed_towards_any : PlantLists → List Listed → List ℕ → ℕ → Bool
-is_listed_towards_any p points sections x =
+abbrev pub is_listed_towards_any_section : PlantLists → List Listed → List ℕ → ℕ → Bool
+is_listed_towards_any_section p points sections x =
     list_any (λ listed. (listed.point == x) && list_any (λ y. is_some_and (slice_get p.sections x) (is_leg_at_position listed.at y)) sections) points
 
 -- Returns whether each point on a path is listed in a position that leads to the section before or
@@ -75,14 +75,14 @@ is_listed_towards_any p points sections x =
 abbrev pub points_listed_along_sections : PlantLists → List Listed → ℕ → List ℕ → Bool
 points_listed_along_sections p points before [] = true
 points_listed_along_sections p points before (x ∷ rest) =
-    (not (is_point_section p x) || is_listed_towards_any p points (before ∷ take 1 rest) x) && points_listed_along_sections p points x rest
+    (not (is_point_section p x) || is_listed_towards_any_section p points (before ∷ take 1 rest) x) && points_listed_along_sections p points x rest
 
 -- Returns whether a route keeps C3. Each point on its path is listed in a position that leads to
 -- the section before or after it. Each point on its overlap is listed.
 abbrev pub path_and_overlap_points_listed : PlantLists → Route → Bool
 path_and_overlap_points_listed p route =
     source_satisfies p route (λ source. points_listed_along_sections p route.points source.section route.path)
-    && list_all (λ x. not (is_point_section p x) || contains_section x (points_of route)) route.overlap
+    && list_all (λ x. not (is_point_section p x) || contains_section x (nonprotecting_points_of route)) route.overlap
 
 -- Returns whether a route keeps C4: its overlap leads on from the last path section, from neighbour
 -- to neighbour in the route's direction.
@@ -116,7 +116,7 @@ shares_without_conflict p i j = nat_lt i j && share_locked_section p i j && not 
 
 -- Returns whether section `x` violates C7: it is a border without a board for trains that enter.
 abbrev pub is_border_without_board : PlantLists → ℕ → Bool
-is_border_without_board p x = is_some_and (section_inward_if_border p x) (λ inward. has_no_board p inward x)
+is_border_without_board p x = is_some_and (inward_direction_if_border p x) (λ inward. has_no_board p inward x)
 
 -- Returns whether the source of route `j` is a protecting board of route `i`.
 abbrev pub closes_source_of : PlantLists → ℕ → ℕ → Bool
@@ -128,13 +128,13 @@ closes_source_of p i j =
 abbrev pub protects_without_conflict : PlantLists → ℕ → ℕ → Bool
 protects_without_conflict p i j = closes_source_of p i j && not (lists_as_conflict p i j)
 
-abbrev pub column_rules : List Rule
-column_rules = C1 ∷ C2 ∷ C3 ∷ C4 ∷ C5 ∷ C6 ∷ C7 ∷ C8 ∷ []
+abbrev pub all_column_rules : List Rule
+all_column_rules = C1 ∷ C2 ∷ C3 ∷ C4 ∷ C5 ∷ C6 ∷ C7 ∷ C8 ∷ []
 
 -- Returns whether column rule C1, C2, C3, C4 or C7 is violated at location `i`: a section for C7,
 -- otherwise a route. Other rules are violated at none.
 abbrev pub breaks_column_rule_at : PlantLists → Rule → ℕ → Bool
-breaks_column_rule_at p C1 = route_fails p (path_continues_from_source p)
+breaks_column_rule_at p C1 = route_fails p (is_path_connected_from_source p)
 breaks_column_rule_at p C2 = route_fails p (path_destination_is_first_board p)
 breaks_column_rule_at p C3 = route_fails p (path_and_overlap_points_listed p)
 breaks_column_rule_at p C4 = route_fails p (overlap_is_connected p)
@@ -159,4 +159,4 @@ broken_for_column_rule p rule = at_places (place_kind_of rule)
 
 -- All violations of the column rules, rule by rule.
 abbrev pub column_rules_broken : PlantLists → List Broken
-column_rules_broken p = flat_map (broken_for_column_rule p) column_rules
+column_rules_broken p = flat_map (broken_for_column_rule p) all_column_rules

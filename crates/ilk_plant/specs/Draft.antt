@@ -27,13 +27,13 @@ pub record NamedBoard : Type 0 where
   pub board : Board
 
 -- A list of the board on section `x` for direction `d`, or of none if `None` is its name.
-abbrev pub board_if_named : ℕ → Dir → Option Name → List NamedBoard
-board_if_named x d None = []
-board_if_named x d (Some name) = record { name = name; board = record { section = x; dir = d } } ∷ []
+abbrev pub section_board_if_named : ℕ → Dir → Option Name → List NamedBoard
+section_board_if_named x d None = []
+section_board_if_named x d (Some name) = record { name = name; board = record { section = x; dir = d } } ∷ []
 
 -- The boards on section `x`: that for direction down, then that for up, if they exist.
 abbrev pub boards_on : ℕ → KindDraft → List NamedBoard
-boards_on x (LinearDraft down up board_down board_up) = board_if_named x Down board_down ++ board_if_named x Up board_up
+boards_on x (LinearDraft down up board_down board_up) = section_board_if_named x Down board_down ++ section_board_if_named x Up board_up
 boards_on x (PointDraft stem plus minus faces) = []
 
 -- The boards on a list of sections, in order. The first section of the list has number `x`.

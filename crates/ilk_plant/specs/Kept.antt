@@ -5,8 +5,8 @@ use Rattle.ilk_plant.specs.Plant.{IsPlant, PlantLists, point_number}
 use Rattle.ilk_plant.specs.Sound.{IsFromSoundDrafts, IsAcyclic}
 
 -- For each section the number of the point on it, or `None` if it has no point.
-abbrev pub point_numbers : PlantLists → List (Option ℕ)
-point_numbers p = map (point_number p) (range_with_len 0 (length p.sections))
+abbrev pub point_number_per_section : PlantLists → List (Option ℕ)
+point_number_per_section p = map (point_number p) (range_with_len 0 (length p.sections))
 
 -- Holds for every plant. It has valid names and numbers (`IsPlant`), no walk in one direction
 -- visits a section twice, and it comes from drafts that violate no rule.
@@ -19,4 +19,4 @@ pub record IsAcyclicFromSoundDrafts (p : PlantLists) : Type 0 where
 -- for each section the number of its point.
 pub record IsSoundWithPointNumbers (p : PlantLists) (numbers : List (Option ℕ)) : Type 0 where
   pub sound : IsAcyclicFromSoundDrafts p
-  pub points : numbers ≡ point_numbers p
+  pub points : numbers ≡ point_number_per_section p

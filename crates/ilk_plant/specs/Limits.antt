@@ -17,12 +17,12 @@ neighbour_and_board_names_valid (Linear down up board_down board_up) =
 neighbour_and_board_names_valid (Point stem plus minus faces) = is_name stem && is_name plus && is_name minus
 
 -- Returns whether all names of a section are allowed.
-abbrev pub section_names_valid : SectionDraft → Bool
-section_names_valid section = is_name section.name && neighbour_and_board_names_valid section.kind
+abbrev pub are_names_in_section_valid : SectionDraft → Bool
+are_names_in_section_valid section = is_name section.name && neighbour_and_board_names_valid section.kind
 
 -- Returns whether all names of a route are allowed.
-abbrev pub route_names_valid : RouteDraft → Bool
-route_names_valid route =
+abbrev pub are_names_in_route_valid : RouteDraft → Bool
+are_names_in_route_valid route =
     is_name route.name
     && is_name route.source
     && is_name_if_given route.destination
@@ -52,14 +52,14 @@ section_and_route_counts_allowed sections routes = is_between 1 MAX_SECTIONS sec
 pub record NetworkWithinLimits (net : NetDraft) : Type 0 where
   pub some : 1 ≤ length net.sections
   pub few : length net.sections ≤ MAX_SECTIONS
-  pub named : IsTrue (list_all section_names_valid net.sections)
+  pub named : IsTrue (list_all are_names_in_section_valid net.sections)
 
 -- Holds if a table has at most `MAX_ROUTES` routes, the lists of each are within their limits, and
 -- all names are allowed.
 pub record TableWithinLimits (table : TableDraft) : Type 0 where
   pub few : length table.routes ≤ MAX_ROUTES
   pub each : IsTrue (list_all route_within_limits table.routes)
-  pub named : IsTrue (list_all route_names_valid table.routes)
+  pub named : IsTrue (list_all are_names_in_route_valid table.routes)
 
 -- Holds if a network and its table are within the limits for counts, lists and names.
 pub record WithinLimits (net : NetDraft) (table : TableDraft) : Type 0 where

@@ -35,14 +35,14 @@ pub record End : Type 0 where
   pub name : Name
 
 -- A list of the end on side `side`, or of none if there is no neighbour.
-abbrev pub end_if_neighbour : Dir → Option Name → List End
-end_if_neighbour side None = []
-end_if_neighbour side (Some name) = record { side = side; name = name } ∷ []
+abbrev pub ends_from_optional_neighbour : Dir → Option Name → List End
+ends_from_optional_neighbour side None = []
+ends_from_optional_neighbour side (Some name) = record { side = side; name = name } ∷ []
 
 -- The ends of a section that have neighbours. A point has its legs on the side that it faces, and
 -- its stem on the other.
 abbrev pub ends_of_draft : KindDraft → List End
-ends_of_draft (LinearDraft down up board_down board_up) = end_if_neighbour Down down ++ end_if_neighbour Up up
+ends_of_draft (LinearDraft down up board_down board_up) = ends_from_optional_neighbour Down down ++ ends_from_optional_neighbour Up up
 ends_of_draft (PointDraft stem plus minus faces) =
     record { side = opposite_direction faces; name = stem } ∷ record { side = faces; name = plus } ∷ record { side = faces; name = minus } ∷ []
 
@@ -59,16 +59,16 @@ abbrev pub section_named : NetDraft → Name → Option ℕ
 section_named net name = first_number_named (names_of_sections net.sections) name
 
 -- Returns whether the neighbour at an end is section `x`.
-abbrev pub refers_to_section : NetDraft → ℕ → End → Bool
-refers_to_section net x end = is_some_and (section_named net end.name) (λ y. y == x)
+abbrev pub end_refers_to_section : NetDraft → ℕ → End → Bool
+end_refers_to_section net x end = is_some_and (section_named net end.name) (λ y. y == x)
 
 -- Returns whether the neighbour at an end is a section other than `x`.
 abbrev pub refers_to_another : NetDraft → ℕ → End → Bool
 refers_to_another net x end = is_some_and (section_named net end.name) (λ y. not (y == x))
 
 -- Returns whether section `x` violates N3: a neighbour is not a section, or is `x` itself.
-abbrev pub has_wrong_neighbour : NetDraft → ℕ → Bool
-has_wrong_neighbour net x = list_any (λ end. not (refers_to_another net x end)) (ends_of net x)
+abbrev pub has_unknown_or_self_neighbour : NetDraft → ℕ → Bool
+has_unknown_or_self_neighbour net x = list_any (λ end. not (refers_to_another net x end)) (ends_of net x)
 
 -- Returns whether section `x` violates N4: two of its neighbours have the same name.
 abbrev pub repeats_neighbour : NetDraft → ℕ → Bool
@@ -76,20 +76,20 @@ repeats_neighbour net x = not (names_differ (map (λ end. end.name) (ends_of net
 
 -- Returns whether exactly one of `ends` has section `x` as its neighbour, and that end is on side
 -- `d`.
-abbrev pub names_back_once : NetDraft → ℕ → Dir → List End → Bool
-names_back_once net x d ends =
-    count_by (refers_to_section net x) ends == 1 && list_any (λ end. refers_to_section net x end && same_direction end.side d) ends
+abbrev pub is_named_back_once_on_side : NetDraft → ℕ → Dir → List End → Bool
+is_named_back_once_on_side net x d ends =
+    count_by (end_refers_to_section net x) ends == 1 && list_any (λ end. end_refers_to_section net x end && same_direction end.side d) ends
 
 -- Returns whether an end of section `x` has another section as its neighbour, and that section
 -- doesn't have `x` as its neighbour at exactly one end, on the opposite side.
-abbrev pub end_is_not_named_back : NetDraft → ℕ → End → Bool
-end_is_not_named_back net x end =
-    is_some_and (section_named net end.name) (λ y. not (y == x) && not (names_back_once net x (opposite_direction end.side) (ends_of net y)))
+abbrev pub is_end_not_named_back_once : NetDraft → ℕ → End → Bool
+is_end_not_named_back_once net x end =
+    is_some_and (section_named net end.name) (λ y. not (y == x) && not (is_named_back_once_on_side net x (opposite_direction end.side) (ends_of net y)))
 
 -- Returns whether section `x` violates N5: a neighbour, other than `x`, doesn't have `x` as its
 -- neighbour at exactly one end, on the opposite side.
-abbrev pub is_not_named_back : NetDraft → ℕ → Bool
-is_not_named_back net x = list_any (end_is_not_named_back net x) (ends_of net x)
+abbrev pub is_not_named_back_once : NetDraft → ℕ → Bool
+is_not_named_back_once net x = list_any (is_end_not_named_back_once net x) (ends_of net x)
 
 -- Returns whether a section is linear and has no neighbour.
 abbrev pub is_linear_without_neighbours : KindDraft → Bool
@@ -102,7 +102,7 @@ is_isolated_linear_section net x = is_some_and (slice_get net.sections x) (λ se
 
 -- Returns whether section `y` is a neighbour of section `x` on its up side.
 abbrev pub is_next_up : NetDraft → ℕ → ℕ → Bool
-is_next_up net x y = list_any (λ end. same_direction end.side Up && refers_to_section net y end) (ends_of net x)
+is_next_up net x y = list_any (λ end. same_direction end.side Up && end_refers_to_section net y end) (ends_of net x)
 
 -- Holds if the list continues upwards from section `x`: each section is a neighbour of the one
 -- before on its up side.
@@ -111,12 +111,12 @@ IsWalkUp net x [] = Unit {0}
 IsWalkUp net x (y ∷ rest) = IsTrue (is_next_up net x y) × IsWalkUp net y rest
 
 -- Holds if one or more steps to a neighbour on the up side lead from section `x` to section `y`.
-abbrev pub LeadsUp : NetDraft → ℕ → ℕ → Type 0
-LeadsUp net x y = (walk : List ℕ) × (IsWalkUp net x walk × (last_of walk ≡ Some y))
+abbrev pub SomeWalkLeadsUp : NetDraft → ℕ → ℕ → Type 0
+SomeWalkLeadsUp net x y = (walk : List ℕ) × (IsWalkUp net x walk × (last_of walk ≡ Some y))
 
 -- Holds if one or more steps to a neighbour on the up side lead from section `x` back to it.
 abbrev pub IsOnUpCycle : NetDraft → ℕ → Type 0
-IsOnUpCycle net x = LeadsUp net x x
+IsOnUpCycle net x = SomeWalkLeadsUp net x x
 
 -- Returns whether one or more steps of the relation `step` lead from `x` to `y`, through numbers
 -- below `n` only.
@@ -146,17 +146,17 @@ place_count_in_network net Boards = length (names_of_boards net.sections)
 place_count_in_network net Routes = 0
 place_count_in_network net RoutePairs = 0
 
-abbrev pub network_rules : List Rule
-network_rules = N1 ∷ N2 ∷ N3 ∷ N4 ∷ N5 ∷ N6 ∷ N7 ∷ N8 ∷ []
+abbrev pub all_network_rules : List Rule
+all_network_rules = N1 ∷ N2 ∷ N3 ∷ N4 ∷ N5 ∷ N6 ∷ N7 ∷ N8 ∷ []
 
 -- Returns whether a rule of the network is violated at its location `x`: a board for N2, otherwise
 -- a section.
 abbrev pub breaks_network_rule_at : NetDraft → Rule → ℕ → Bool
 breaks_network_rule_at net N1 = repeats_earlier_name (names_of_sections net.sections)
 breaks_network_rule_at net N2 = repeats_earlier_name (names_of_boards net.sections)
-breaks_network_rule_at net N3 = has_wrong_neighbour net
+breaks_network_rule_at net N3 = has_unknown_or_self_neighbour net
 breaks_network_rule_at net N4 = repeats_neighbour net
-breaks_network_rule_at net N5 = is_not_named_back net
+breaks_network_rule_at net N5 = is_not_named_back_once net
 breaks_network_rule_at net N6 = is_isolated_linear_section net
 breaks_network_rule_at net N7 = is_on_up_cycle net
 breaks_network_rule_at net N8 = has_board_without_neighbour net
@@ -164,4 +164,4 @@ breaks_network_rule_at net _ = λ x. false
 
 -- All violations of the rules of the network, rule by rule.
 abbrev pub network_rules_broken : NetDraft → List Broken
-network_rules_broken net = broken_for_rules network_rules (place_count_in_network net) (breaks_network_rule_at net)
+network_rules_broken net = broken_for_rules all_network_rules (place_count_in_network net) (breaks_network_rule_at net)

@@ -49,8 +49,8 @@ abbrev pub point_count : PlantLists → ℕ
 point_count p = count_by is_point p.sections
 
 -- The direction in which trains enter at section `x`, or `None` if `x` is not a border.
-abbrev pub section_inward_if_border : PlantLists → ℕ → Option Dir
-section_inward_if_border p x = do
+abbrev pub inward_direction_if_border : PlantLists → ℕ → Option Dir
+inward_direction_if_border p x = do
   section ← slice_get p.sections x
   inward_if_border section
 

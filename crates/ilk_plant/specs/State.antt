@@ -28,8 +28,8 @@ abbrev pub is_unlocked_and_vacant : State → ℕ → Bool
 is_unlocked_and_vacant s x = has_lock_state s x Free && not (is_occupied s x)
 
 -- The position in which the point on section `x` is detected, or `None` if `x` has no point.
-abbrev pub detected_position : PlantLists → State → ℕ → Option Lie
-detected_position p s x = do
+abbrev pub detected_position_in_state : PlantLists → State → ℕ → Option Lie
+detected_position_in_state p s x = do
   n ← point_number p x
   point ← slice_get s.points n
   Some point.at

@@ -31,8 +31,8 @@ is_other_route p i r = nat_lt r (length p.routes) && not (r == i)
 abbrev pub path_and_overlap_of : Route → List ℕ
 path_and_overlap_of route = route.path ++ route.overlap
 
-abbrev pub points_of : Route → List ℕ
-points_of route = map (λ listed. listed.point) route.points
+abbrev pub nonprotecting_points_of : Route → List ℕ
+nonprotecting_points_of route = map (λ listed. listed.point) route.points
 
 abbrev pub protecting_points_of : Route → List ℕ
 protecting_points_of route = map (λ listed. listed.point) route.protecting_points
@@ -51,9 +51,9 @@ has_sections_once p route = list_all (is_section p) (path_and_overlap_of route) 
 
 -- Returns whether a route keeps R4: each listed point is a point section of its path or overlap,
 -- and none is listed twice.
-abbrev pub lists_passed_points_once : PlantLists → Route → Bool
-lists_passed_points_once p route =
-    list_all (λ x. is_point_section p x && contains_section x (path_and_overlap_of route)) (points_of route) && numbers_differ (points_of route)
+abbrev pub has_only_passed_points_once : PlantLists → Route → Bool
+has_only_passed_points_once p route =
+    list_all (λ x. is_point_section p x && contains_section x (path_and_overlap_of route)) (nonprotecting_points_of route) && numbers_differ (nonprotecting_points_of route)
 
 -- Returns whether a route keeps R5: its destination is null or a board.
 abbrev pub destination_is_board_or_none : PlantLists → Option ℕ → Bool
@@ -87,15 +87,15 @@ place_count_in_plant p Boards = length p.boards
 place_count_in_plant p Routes = length p.routes
 place_count_in_plant p RoutePairs = length p.routes
 
-abbrev pub table_rules : List Rule
-table_rules = R1 ∷ R2 ∷ R3 ∷ R4 ∷ R5 ∷ R6 ∷ R7 ∷ R8 ∷ []
+abbrev pub all_table_rules : List Rule
+all_table_rules = R1 ∷ R2 ∷ R3 ∷ R4 ∷ R5 ∷ R6 ∷ R7 ∷ R8 ∷ []
 
 -- Returns whether route `i` violates the given rule of the table.
 abbrev pub breaks_table_rule_at : PlantLists → Rule → ℕ → Bool
 breaks_table_rule_at p R1 = repeats_earlier_name p.route_names
 breaks_table_rule_at p R2 = route_fails p (source_is_board p)
 breaks_table_rule_at p R3 = route_fails p (has_sections_once p)
-breaks_table_rule_at p R4 = route_fails p (lists_passed_points_once p)
+breaks_table_rule_at p R4 = route_fails p (has_only_passed_points_once p)
 breaks_table_rule_at p R5 = route_fails p (λ route. destination_is_board_or_none p route.destination)
 breaks_table_rule_at p R6 = λ i. route_fails p (conflicts_are_other_routes_once p i) i
 breaks_table_rule_at p R7 = route_fails p (has_outside_protecting_points_once p)
@@ -104,7 +104,7 @@ breaks_table_rule_at p _ = λ i. false
 
 -- All violations of the rules of the table by a numbered network and table, rule by rule.
 abbrev pub plant_table_rules_broken : PlantLists → List Broken
-plant_table_rules_broken p = broken_for_rules table_rules (place_count_in_plant p) (breaks_table_rule_at p)
+plant_table_rules_broken p = broken_for_rules all_table_rules (place_count_in_plant p) (breaks_table_rule_at p)
 
 -- All violations of the rules of the table by a network and its table, rule by rule.
 abbrev pub table_rules_broken : NetDraft → TableDraft → List Broken

@@ -49,7 +49,7 @@ pub use network::{Board, Dir, Position, Section};
 pub use numbered_drafts::NumberedNetAndTable;
 pub use occupancy::{contains_section, occupied};
 pub use plant::Plant;
-pub use points::{detected_position, is_leg_at_position, point_number_at};
+pub use points::{detected_position_in_state, is_leg_at_position, point_number_at};
 pub use start::start_state;
 pub use state::{Aspect, Hold, Lie, Mode, PointState, RouteState, State, Train};
 pub use table::{Listed, Route};

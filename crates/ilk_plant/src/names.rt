@@ -98,7 +98,7 @@ impl Names {
     }
 
     /// Returns `number_or_len` of the name, or `None` if `name` is `None`.
-    pub fn number_if_named(&self, name: &Option<Text>) -> Option<u32>
+    pub fn number_or_len_if_named(&self, name: &Option<Text>) -> Option<u32>
         ensures { result ≡ option_map (number_or_len self.now) name.now }
     {
         match name {

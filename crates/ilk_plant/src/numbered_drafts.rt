@@ -2,7 +2,7 @@ ghost use Rattle.std.specs.Prelude.{◌≡◌, ◌≤◌, ◌<◌, IfOk, Some, l
 ghost use Rattle.ilk_plant.specs.Draft.{repeats_earlier_name, names_of_routes, plant_from_drafts, numbered_route, numbered_section};
 ghost use Rattle.ilk_plant.specs.TableRules.{place_count_in_plant, is_board, is_other_route, is_section};
 ghost use Rattle.ilk_plant.specs.Plant.{is_point_section};
-ghost use Rattle.ilk_plant.specs.Kept.{point_numbers};
+ghost use Rattle.ilk_plant.specs.Kept.{point_number_per_section};
 ghost use Rattle.ilk_plant.specs.NetNames.{HasBoardsAndNamesOf};
 ghost use Rattle.ilk_plant.specs.declared.limits.TheConstants.{MAX_SECTIONS, MAX_ROUTES};
 
@@ -141,8 +141,11 @@ impl NumberedNetAndTable {
 
     /// Returns for each section its number among the points, if it is one. Fails only if memory
     /// runs out.
-    pub(crate) fn point_numbers(&self, alloc: Global) -> Result<Row<Option<u32>>, AllocError>
-        ensures { IfOk result (λ numbers. numbers ≡ point_numbers self.now) }
+    pub(crate) fn point_number_per_section(
+        &self,
+        alloc: Global,
+    ) -> Result<Row<Option<u32>>, AllocError>
+        ensures { IfOk result (λ numbers. numbers ≡ point_number_per_section self.now) }
     {
         let mut numbers = Row::new(alloc);
         let mut points = 0;

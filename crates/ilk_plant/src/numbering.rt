@@ -1,5 +1,5 @@
 ghost use Rattle.std.specs.Prelude.{◌≡◌, ◌≤◌, ◌<◌, ◌++◌, IfOk, OnOk, length, map};
-ghost use Rattle.ilk_plant.specs.Draft.{boards_of_sections_from, boards_on, names_of_boards, names_of_routes, names_of_sections, number_or_len, numbered_point, numbered_route, numbered_section, board_if_named};
+ghost use Rattle.ilk_plant.specs.Draft.{boards_of_sections_from, boards_on, names_of_boards, names_of_routes, names_of_sections, number_or_len, numbered_point, numbered_route, numbered_section, section_board_if_named};
 ghost use Rattle.ilk_plant.specs.declared.limits.TheConstants.{MAX_BOARDS, MAX_SECTIONS, MAX_ROUTES};
 
 use crate::names::Names;
@@ -52,10 +52,10 @@ fn push_board(
 ) -> Result<(), AllocError>
     ensures names { OnOk result
         (made.new.names
-        ≡ made.old.names ++ map (λ named. named.name) (board_if_named x dir name.now)) }
+        ≡ made.old.names ++ map (λ named. named.name) (section_board_if_named x dir name.now)) }
     ensures boards { OnOk result
         (made.new.boards
-        ≡ made.old.boards ++ map (λ named. named.board) (board_if_named x dir name.now)) }
+        ≡ made.old.boards ++ map (λ named. named.board) (section_board_if_named x dir name.now)) }
 {
     if let Some(name) = name {
         made.names.push(name.copy()?)?;
@@ -130,10 +130,10 @@ fn numbered_section(sections: &Names, boards: &Names, kind: &KindDraft) -> Secti
             board_down,
             board_up,
         } => Section::Linear {
-            down: sections.number_if_named(down),
-            up: sections.number_if_named(up),
-            board_down: boards.number_if_named(board_down),
-            board_up: boards.number_if_named(board_up),
+            down: sections.number_or_len_if_named(down),
+            up: sections.number_or_len_if_named(up),
+            board_down: boards.number_or_len_if_named(board_down),
+            board_up: boards.number_or_len_if_named(board_up),
         },
         KindDraft::Point {
             stem,
@@ -198,7 +198,7 @@ fn numbered_route(
 {
     Ok(Route {
         source: board_names.number_or_len(&route.source),
-        destination: board_names.number_if_named(&route.destination),
+        destination: board_names.number_or_len_if_named(&route.destination),
         path: numbers_of(alloc, section_names, &route.path)?,
         overlap: numbers_of(alloc, section_names, &route.overlap)?,
         points: numbered_points(alloc, section_names, &route.points)?,

@@ -1,6 +1,6 @@
 ghost use Rattle.std.specs.Prelude.{◌≡◌, ◌<◌, length, slice_get, Some, IfOk, IfSome};
 ghost use Rattle.ilk_plant.specs.Sound.{IsFromSoundDrafts, IsAcyclic};
-ghost use Rattle.ilk_plant.specs.Plant.{IsPlant, IsValidRouteOf, board_of, section_inward_if_border, first_number_named, next_to, point_count, point_number};
+ghost use Rattle.ilk_plant.specs.Plant.{IsPlant, IsValidRouteOf, board_of, inward_direction_if_border, first_number_named, next_to, point_count, point_number};
 
 use crate::{Board, Dir, NumberedNetAndTable, Route, Row, Section};
 use std::alloc::{AllocError, Global};
@@ -17,7 +17,7 @@ use std::marker::Model;
 pub struct Plant {
     numbered: NumberedNetAndTable,
     // For each section its number among the points, if it is one.
-    point_numbers: Row<Option<u32>>,
+    point_number_per_section: Row<Option<u32>>,
 }
 
 impl Model for Plant {
@@ -28,7 +28,7 @@ impl Model for Plant {
 
     ghost view = { λ p. p.numbered };
 
-    ghost invariant = { λ p. IsSoundWithPointNumbers p.numbered p.point_numbers };
+    ghost invariant = { λ p. IsSoundWithPointNumbers p.numbered p.point_number_per_section };
 }
 
 impl Plant {
@@ -38,10 +38,10 @@ impl Plant {
         requires { IsFromSoundDrafts numbered }
         ensures { IfOk result (λ plant. plant ≡ numbered) }
     {
-        let point_numbers = numbered.point_numbers(alloc)?;
+        let point_number_per_section = numbered.point_number_per_section(alloc)?;
         Ok(Plant {
             numbered,
-            point_numbers,
+            point_number_per_section,
         })
     }
 
@@ -153,14 +153,14 @@ impl Plant {
         ensures number { result ≡ point_number self.now x }
         ensures known { IfSome result (λ n. n < point_count self.now) }
     {
-        *self.point_numbers.at(x as u64)
+        *self.point_number_per_section.at(x as u64)
     }
 
     /// Returns the direction in which trains enter the network at section `x`, or `None` if `x` is
     /// not a border.
-    pub fn section_inward_if_border(&self, x: u32) -> Option<Dir>
+    pub fn inward_direction_if_border(&self, x: u32) -> Option<Dir>
         requires { x < length self.now.sections }
-        ensures { result ≡ section_inward_if_border self.now x }
+        ensures { result ≡ inward_direction_if_border self.now x }
     {
         self.section(x).inward_if_border()
     }

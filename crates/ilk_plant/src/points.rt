@@ -2,7 +2,7 @@ ghost use Rattle.std.specs.Prelude.{◌≡◌, ◌<◌, IfSome, slice_get};
 ghost use Rattle.ilk_base.specs.Option.{is_some_and};
 ghost use Rattle.ilk_plant.specs.ColumnRules.{is_leg_at_position};
 ghost use Rattle.ilk_plant.specs.Plant.{point_count, point_number};
-ghost use Rattle.ilk_plant.specs.State.{detected_position};
+ghost use Rattle.ilk_plant.specs.State.{detected_position_in_state};
 
 use crate::{Lie, Plant, Position, Section, State};
 
@@ -20,8 +20,8 @@ pub fn point_number_at(plant: &Plant, x: u32) -> Option<u32>
 
 /// Returns the position in which the point on section `x` is detected in state `s`, or `None` if
 /// `x` is not a point section.
-pub fn detected_position(plant: &Plant, s: &State, x: u32) -> Option<Lie>
-    ensures { result ≡ detected_position plant.now s.now x }
+pub fn detected_position_in_state(plant: &Plant, s: &State, x: u32) -> Option<Lie>
+    ensures { result ≡ detected_position_in_state plant.now s.now x }
 {
     let n = point_number_at(plant, x)?;
     let point = s.points.as_slice().get(n as usize)?;

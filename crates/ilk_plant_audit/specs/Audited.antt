@@ -14,8 +14,8 @@ HasAuditedBytes audit bytes = SystemHasFed (system_of_plant audit.plant.now) (go
 
 -- Holds if the answer names the first bad line of the text `bytes` so far, or `More` if none is
 -- bad.
-abbrev pub AnswersFeed : PlantLists → Bytes → Fed → Type 0
-AnswersFeed p bytes fed = IsAnswerAfterBytes (system_of_plant p) (goal_of_plant p) bytes fed
+abbrev pub NamesBadLineSoFar : PlantLists → Bytes → Fed → Type 0
+NamesBadLineSoFar p bytes fed = IsAnswerAfterBytes (system_of_plant p) (goal_of_plant p) bytes fed
 
 -- Holds if `ended` is the answer at the end of a text: the number that it is a certificate of plant
 -- `p` for, or its first bad line.

@@ -13,7 +13,7 @@ pub struct CertAudit<'a> {
 
 impl<'a> CertAudit<'a> {
     ghost use Rattle.std.specs.Prelude.{◌≡◌, ℕ, List, [], ◌++◌, IfOk, OnOk};
-    ghost use Rattle.ilk_plant_audit.specs.Audited.{AnswersEnd, AnswersFeed, HasAuditedBytes};
+    ghost use Rattle.ilk_plant_audit.specs.Audited.{AnswersEnd, NamesBadLineSoFar, HasAuditedBytes};
 
     /// Creates a check for `plant` that has taken no byte. Fails only if memory runs out.
     pub fn new(alloc: Global, plant: &'a Plant) -> Result<CertAudit<'a>, AllocError>
@@ -36,7 +36,7 @@ impl<'a> CertAudit<'a> {
             ((bytes : List ℕ) → HasAuditedBytes self.old bytes
             → HasAuditedBytes self.new (bytes ++ piece.now)) }
         ensures answer { IfOk result (λ fed. (bytes : List ℕ) → HasAuditedBytes self.old bytes
-            → AnswersFeed self.old.plant.now (bytes ++ piece.now) fed) }
+            → NamesBadLineSoFar self.old.plant.now (bytes ++ piece.now) fed) }
     {
         self.audit.feed(piece)
     }

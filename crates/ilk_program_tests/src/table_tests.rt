@@ -1,7 +1,7 @@
 //! The rules of small tables: the check succeeds if memory suffices.
 ghost use Rattle.std.specs.Prelude.{◌≡◌, ◌∷◌, [], IfOk, length, true};
 ghost use Rattle.std.specs.List.{list_all};
-ghost use Rattle.ilk_plant.specs.Limits.{route_within_limits, route_names_valid, section_names_valid};
+ghost use Rattle.ilk_plant.specs.Limits.{route_within_limits, are_names_in_route_valid, are_names_in_section_valid};
 ghost use Rattle.ilk_plant.specs.Name.{is_name, is_name_if_given};
 
 use crate::parts::text;
@@ -22,7 +22,7 @@ fn section(
     requires name { is_name name.now ≡ true }
     requires down { is_name_if_given down ≡ true }
     requires up { is_name_if_given up ≡ true }
-    ensures { IfOk result (λ section. section_names_valid section ≡ true) }
+    ensures { IfOk result (λ section. are_names_in_section_valid section ≡ true) }
 {
     let kind = KindDraft::Linear {
         down,
@@ -55,7 +55,7 @@ fn route(
     requires section { is_name section.now ≡ true }
     requires conflict { is_name conflict.now ≡ true }
     ensures limits { IfOk result (λ route. route_within_limits route ≡ true) }
-    ensures named { IfOk result (λ route. route_names_valid route ≡ true) }
+    ensures named { IfOk result (λ route. are_names_in_route_valid route ≡ true) }
 {
     Ok(RouteDraft {
         name: text(alloc, "r")?,
@@ -73,7 +73,7 @@ fn route(
 // Creates the sections a and b, in a line, without boards.
 fn line(alloc: Global) -> Result<NetDraft, AllocError>
     ensures count { IfOk result (λ net. length net.sections ≡ 2) }
-    ensures named { IfOk result (λ net. list_all section_names_valid net.sections ≡ true) }
+    ensures named { IfOk result (λ net. list_all are_names_in_section_valid net.sections ≡ true) }
 {
     let mut sections = Row::new(alloc);
     sections.push(section(alloc, "a", None, Some(text(alloc, "b")?))?)?;

@@ -27,7 +27,7 @@ use Rattle.ilk_layout.specs.Conditions.{section_point_is_detected}
 use Rattle.ilk_layout.proofs.Valid.{section_point_is_detected-valid, occupancy_is-valid, train_at-valid, value-valid}
 use Rattle.ilk_props.specs.HazardForm.{hazard_in_section, hazard_tree}
 use Rattle.ilk_props.specs.StartForm.{start_tree}
-use Rattle.ilk_props.specs.WellformedForm.{continues_beyond, joined_by_train, leads_to_neighbour, section_demands, section_leads, train_continues_in_neighbour, wellformed_tree}
+use Rattle.ilk_props.specs.WellformedForm.{continues_beyond, joined_by_train, section_leads_to_neighbour, section_demands, section_leads, neighbour_has_train_if_continuing, wellformed_tree}
 use Rattle.ilk_props.proofs.StartHolds.{start-in_ranges}
 
 range-at_value : (values ranges : List ℕ) (i c : ℕ) → in_ranges values ranges ≡ true → slice_get values i ≡ Some c → (range : ℕ) × (slice_get ranges i ≡ Some range) × (c < range)
@@ -69,8 +69,8 @@ module _ (p : PlantLists) (plant : IsPlant p) where
       and_from _ _ (occupancy_is-valid p x (Taken d false false) within)
       (and_from _ _ (occupancy_is-valid p x (if same_direction side d then Taken d true false else Taken d false true) within) refl)
 
-  leads_to_neighbour-valid : (x : ℕ) (side : Dir) (y : ℕ) → tree_valid (ranges_of_plant p) (leads_to_neighbour p x side y) ≡ true
-  leads_to_neighbour-valid x side y = by_section (slice_get p.sections x)
+  section_leads_to_neighbour-valid : (x : ℕ) (side : Dir) (y : ℕ) → tree_valid (ranges_of_plant p) (section_leads_to_neighbour p x side y) ≡ true
+  section_leads_to_neighbour-valid x side y = by_section (slice_get p.sections x)
     where
       by_side : (lies : Tree) (b : Bool) → tree_valid (ranges_of_plant p) lies ≡ true → tree_valid (ranges_of_plant p) (if b then lies else yes) ≡ true
       by_side lies true valid = valid
@@ -84,8 +84,8 @@ module _ (p : PlantLists) (plant : IsPlant p) where
 
   joined-valid : (x : ℕ) (d side : Dir) (y : ℕ) → y < length p.sections → tree_valid (ranges_of_plant p) (joined_by_train p x d side y) ≡ true
   joined-valid x d side y within =
-      and_from _ _ (leads_to_neighbour-valid x side y)
-      (and_from _ _ (leads_to_neighbour-valid y (opposite_direction side) x)
+      and_from _ _ (section_leads_to_neighbour-valid x side y)
+      (and_from _ _ (section_leads_to_neighbour-valid y (opposite_direction side) x)
       (and_from _ _ (continues_beyond-valid y d (opposite_direction side) within) refl))
 
   next-valid : (x : ℕ) (d side : Dir) → tree_valid (ranges_of_plant p) (any_of (trees_from_list (map (joined_by_train p x d side) (next_to p x side)))) ≡ true
@@ -94,7 +94,7 @@ module _ (p : PlantLists) (plant : IsPlant p) where
       ∙ list_all-map (tree_valid (ranges_of_plant p)) (joined_by_train p x d side) (next_to p x side)
       ∙ all-pass (λ y. tree_valid (ranges_of_plant p) (joined_by_train p x d side y)) (next_to p x side) (λ i y at. joined-valid x d side y (plant.neighbours x y side (section-from (next_to p x side) i y at)))
 
-  whole-valid : (x : ℕ) (d side : Dir) → x < length p.sections → tree_valid (ranges_of_plant p) (train_continues_in_neighbour p x d side) ≡ true
+  whole-valid : (x : ℕ) (d side : Dir) → x < length p.sections → tree_valid (ranges_of_plant p) (neighbour_has_train_if_continuing p x d side) ≡ true
   whole-valid x d side within = and_from _ _ (continues_beyond-valid x d side within) (and_from _ _ (next-valid x d side) refl)
 
   demands-valid : (x : ℕ) → x < length p.sections → list_all (tree_valid (ranges_of_plant p)) (section_demands p x) ≡ true

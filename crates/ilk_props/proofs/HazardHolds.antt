@@ -15,7 +15,7 @@ use Rattle.ilk_plant.specs.declared.state.Train.{Train}
 use Rattle.ilk_model.specs.Hazard.{hazard, is_section_hazardous}
 use Rattle.ilk_motion.specs.Body.{is_last_section}
 use Rattle.ilk_layout.specs.Image.{image_of}
-use Rattle.ilk_layout.specs.Occupancy.{is_first, occupancy_or_crash, occupancy_by_train_if_any}
+use Rattle.ilk_layout.specs.Occupancy.{is_first_section, occupancy_or_crash, occupancy_by_train_if_any}
 use Rattle.ilk_layout.specs.Values.{occupancy_value}
 use Rattle.ilk_layout.specs.declared.values.Occupancy.TheVariants.{Taken, Crash}
 use Rattle.ilk_layout.proofs.ConditionValues.{occupancy-holds}
@@ -23,7 +23,7 @@ use Rattle.ilk_props.specs.HazardForm.{hazard_in_section, hazard_tree}
 
 no_crash : (x : ℕ) (o : Option Train) → (occupancy_value (occupancy_by_train_if_any x o) == 9) ≡ false
 no_crash x None = refl
-no_crash x (Some t) = by_value t.dir (is_first x t.body) (is_last_section x t.body)
+no_crash x (Some t) = by_value t.dir (is_first_section x t.body) (is_last_section x t.body)
   where
     by_value : (d : Dir) (tail head : Bool) → (occupancy_value (Taken d tail head) == 9) ≡ false
     by_value Up false false = refl

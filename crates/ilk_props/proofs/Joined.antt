@@ -21,7 +21,7 @@ use Rattle.ilk_plant.proofs.Once.{numbers_differ-places}
 use Rattle.ilk_motion.specs.Ahead.{section_led_to, detected_leg}
 use Rattle.ilk_layout.specs.Wellformed.{section_ahead, mutual_section_ahead, detected_in_values, occupancy_in_values}
 use Rattle.ilk_layout.proofs.Plants.{ahead-neighbours_on}
-use Rattle.ilk_props.specs.WellformedForm.{continues_beyond, joined_by_train, leads_to_neighbour, section_leads}
+use Rattle.ilk_props.specs.WellformedForm.{continues_beyond, joined_by_train, section_leads_to_neighbour, section_leads}
 use Rattle.ilk_props.proofs.Leaves.{goes_on, goes_on-holds, section_point_is_detected-holds, same_lie}
 
 abbrev pub is_at : ℕ → ℕ → Bool
@@ -79,12 +79,12 @@ section_leads-holds p values x Down y (Point stem plus minus Down) differ has =
 section_leads-holds p values x Down y (Point stem plus minus Up) differ has = sym (only (stem == y) has)
 section_leads-holds p values x Up y (Point stem plus minus Down) differ has = sym (only (stem == y) has)
 
-pub leads_to_neighbour-holds : (p : PlantLists) → IsPlant p → (values : List ℕ) (x : ℕ) (side : Dir) (y : ℕ) →
+pub section_leads_to_neighbour-holds : (p : PlantLists) → IsPlant p → (values : List ℕ) (x : ℕ) (side : Dir) (y : ℕ) →
     contains_section y (next_to p x side) ≡ true →
-    tree_holds values (leads_to_neighbour p x side y) ≡ is_some_and (section_ahead p (detected_in_values p values) x side) (is_at y)
-leads_to_neighbour-holds p plant values x side y has = by_section (slice_get p.sections x) refl
+    tree_holds values (section_leads_to_neighbour p x side y) ≡ is_some_and (section_ahead p (detected_in_values p values) x side) (is_at y)
+section_leads_to_neighbour-holds p plant values x side y has = by_section (slice_get p.sections x) refl
   where
-    by_section : (o : Option Section) → slice_get p.sections x ≡ o → tree_holds values (leads_to_neighbour p x side y) ≡ is_some_and (section_ahead p (detected_in_values p values) x side) (is_at y)
+    by_section : (o : Option Section) → slice_get p.sections x ≡ o → tree_holds values (section_leads_to_neighbour p x side y) ≡ is_some_and (section_ahead p (detected_in_values p values) x side) (is_at y)
     by_section None e = let none : false ≡ true = rw e at has in absurd (false≢true none)
     by_section (Some section) e =
         let there : contains_section y (neighbours_on section side) ≡ true = rw e at has in
@@ -138,10 +138,10 @@ module _ (p : PlantLists) (plant : IsPlant p) (values : List ℕ) (x : ℕ) (d s
   each : (i y : ℕ) → slice_get (next_to p x side) i ≡ Some y → tree_holds values (joined_by_train p x d side y) ≡ (is_some_and (section_ahead p (detected_in_values p values) x side) (is_at y) && leads_back y)
   each i y at =
       let has : contains_section y (next_to p x side) ≡ true = list_any-from (λ z. z == y) (next_to p x side) i y at (eq-eqb y y refl) in
-      let one = leads_to_neighbour-holds p plant values x side y has in
-      let two = leads_to_neighbour-holds p plant values y back x (other_side side x y has) in
+      let one = section_leads_to_neighbour-holds p plant values x side y has in
+      let two = section_leads_to_neighbour-holds p plant values y back x (other_side side x y has) in
       let three = goes_on-holds p values y d back in
-      ap (λ (b : Bool). b && (tree_holds values (leads_to_neighbour p y back x) && (tree_holds values (continues_beyond p y d back) && true))) one
+      ap (λ (b : Bool). b && (tree_holds values (section_leads_to_neighbour p y back x) && (tree_holds values (continues_beyond p y d back) && true))) one
       ∙ ap (λ (b : Bool). is_some_and (section_ahead p (detected_in_values p values) x side) (is_at y) && (b && (tree_holds values (continues_beyond p y d back) && true))) two
       ∙ ap (λ (b : Bool). is_some_and (section_ahead p (detected_in_values p values) x side) (is_at y) && (is_some_and (section_ahead p (detected_in_values p values) y back) (is_at x) && (b && true))) three
 

@@ -11,7 +11,7 @@ use Rattle.ilk_plant.specs.declared.state.Lie.{Lie}
 use Rattle.ilk_plant.specs.declared.state.Lie.TheVariants.{Plus, Minus, Moving}
 use Rattle.ilk_layout.specs.Values.{all_occupancies, detected_from_value, detected_value, occupancy_from_value, occupancy_value}
 use Rattle.ilk_layout.specs.Variables.{detected_var, occupancy_var}
-use Rattle.ilk_layout.specs.Wellformed.{train_in_dir_continues_ahead, train_in_dir_continues_behind, detected_in_values, occupancy_in_values}
+use Rattle.ilk_layout.specs.Wellformed.{has_train_continuing_ahead, has_train_continuing_behind, detected_in_values, occupancy_in_values}
 use Rattle.ilk_layout.specs.declared.values.Occupancy.{Occupancy}
 use Rattle.ilk_layout.specs.declared.values.Occupancy.TheVariants.{Vacant, Taken, Crash}
 use Rattle.ilk_layout.specs.Conditions.{section_point_is_detected, occupancy_is}
@@ -76,7 +76,7 @@ occupancy_is-holds p values x o = by_value (slice_get values (occupancy_var p x)
 
 -- Returns whether a section has a train in direction `d` that continues beyond it on this side.
 abbrev pub goes_on : Dir → Dir → Occupancy → Bool
-goes_on d side o = if same_direction side d then train_in_dir_continues_ahead d o else train_in_dir_continues_behind d o
+goes_on d side o = if same_direction side d then has_train_continuing_ahead d o else has_train_continuing_behind d o
 
 abbrev ended : Dir → Dir → Occupancy
 ended d side = if same_direction side d then Taken d true false else Taken d false true

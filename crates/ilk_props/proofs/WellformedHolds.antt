@@ -18,7 +18,7 @@ use Rattle.ilk_plant.specs.declared.network.Dir.{Dir}
 use Rattle.ilk_plant.specs.declared.network.Dir.TheVariants.{Up, Down}
 use Rattle.ilk_plant.specs.declared.state.Lie.{Lie}
 use Rattle.ilk_plant.specs.declared.state.Lie.TheVariants.{Moving}
-use Rattle.ilk_routes.specs.Lies.{is_detected_moving}
+use Rattle.ilk_routes.specs.Lies.{is_lie_moving}
 use Rattle.ilk_layout.specs.Laws.{AreImageOfSafeState}
 use Rattle.ilk_layout.specs.Values.{occupancy_from_value, occupancy_value}
 use Rattle.ilk_layout.specs.Variables.{occupancy_var, ranges_of_plant}
@@ -31,7 +31,7 @@ use Rattle.ilk_layout.specs.Conditions.{section_point_is_detected}
 use Rattle.ilk_layout.proofs.Valid.{length-points_ranges, length-route_ranges}
 use Rattle.ilk_layout.proofs.ConditionValues.{moving-test}
 use Rattle.ilk_props.specs.HazardForm.{hazard_in_section}
-use Rattle.ilk_props.specs.WellformedForm.{no_moving_under_train, joined_by_train, section_demands, train_continues_in_neighbour, wellformed_tree}
+use Rattle.ilk_props.specs.WellformedForm.{no_moving_under_train, joined_by_train, section_demands, neighbour_has_train_if_continuing, wellformed_tree}
 use Rattle.ilk_props.proofs.Leaves.{goes_on, goes_on-holds, section_point_is_detected-holds, occupancy_is-holds, same_lie, same_occupancy}
 use Rattle.ilk_props.proofs.Joined.{next-holds}
 
@@ -121,7 +121,7 @@ asked-fitting (Taken Down true true) moves next = tidy_turned moves true true
 
 module _ (p : PlantLists) (plant : IsPlant p) (values : List ℕ) where
   abbrev moves : ℕ → Bool
-  moves x = is_some_and (detected_in_values p values x) is_detected_moving
+  moves x = is_some_and (detected_in_values p values x) is_lie_moving
 
   abbrev next : ℕ → Dir → Dir → Bool
   next x d side =
@@ -130,7 +130,7 @@ module _ (p : PlantLists) (plant : IsPlant p) (values : List ℕ) where
   moves-holds : (x : ℕ) → tree_holds values (section_point_is_detected p x Moving) ≡ moves x
   moves-holds x = section_point_is_detected-holds p values x Moving ∙ alike (detected_in_values p values x)
     where
-      alike : (o : Option Lie) → is_some_and o (same_lie Moving) ≡ is_some_and o is_detected_moving
+      alike : (o : Option Lie) → is_some_and o (same_lie Moving) ≡ is_some_and o is_lie_moving
       alike None = refl
       alike (Some l) = moving-test l
 
@@ -139,7 +139,7 @@ module _ (p : PlantLists) (plant : IsPlant p) (values : List ℕ) where
       ap (λ (b : Bool). not (not b) || (not (tree_holds values (section_point_is_detected p x Moving)) || false)) (occupancy_is-holds p values x Vacant ∙ ap (λ o. is_some_and o (same_occupancy Vacant)) at)
       ∙ ap (λ (b : Bool). not (not (occupancy_value o == 0)) || (not b || false)) (moves-holds x)
 
-  whole-holds : (x : ℕ) (d side : Dir) (o : Occupancy) → occupancy_in_values p values x ≡ Some o → tree_holds values (train_continues_in_neighbour p x d side) ≡ (not (goes_on d side o) || (next x d side || false))
+  whole-holds : (x : ℕ) (d side : Dir) (o : Occupancy) → occupancy_in_values p values x ≡ Some o → tree_holds values (neighbour_has_train_if_continuing p x d side) ≡ (not (goes_on d side o) || (next x d side || false))
   whole-holds x d side o at =
       ap (λ (b : Bool). not b || (tree_holds values (any_of (trees_from_list (map (joined_by_train p x d side) (next_to p x side)))) || false)) (goes_on-holds p values x d side ∙ ap (λ o. is_some_and o (goes_on d side)) at)
       ∙ ap (λ (b : Bool). not (goes_on d side o) || (b || false)) (next-holds p plant values x d side)
@@ -158,7 +158,7 @@ module _ (p : PlantLists) (plant : IsPlant p) (values : List ℕ) where
       ∙ sym (ap (occupancy_is_consistent p (detected_in_values p values) (occupancy_in_values p values) x) at)
     where
       whole : Dir → Dir → Bool
-      whole d side = tree_holds values (train_continues_in_neighbour p x d side)
+      whole d side = tree_holds values (neighbour_has_train_if_continuing p x d side)
 
       goes : Dir → Dir → Bool
       goes d side = not (goes_on d side o) || (next x d side || false)

@@ -37,23 +37,23 @@ section_leads p x side y (Point stem plus minus faces) =
 
 -- The form "section `x` leads to `y`, its neighbour on side `side`"; false if there is no section
 -- `x`.
-abbrev pub leads_to_neighbour : PlantLists → ℕ → Dir → ℕ → Tree
-leads_to_neighbour p x side y = unwrap_or (option_map (section_leads p x side y) (slice_get p.sections x)) no
+abbrev pub section_leads_to_neighbour : PlantLists → ℕ → Dir → ℕ → Tree
+section_leads_to_neighbour p x side y = unwrap_or (option_map (section_leads p x side y) (slice_get p.sections x)) no
 
 -- The form "`x` and `y`, its neighbour on side `side`, lead to each other, and `y` has a train in
 -- direction `d` that continues to `x`".
 abbrev pub joined_by_train : PlantLists → ℕ → Dir → Dir → ℕ → Tree
 joined_by_train p x d side y =
     all_of (trees_from_list (
-    leads_to_neighbour p x side y
-    ∷ leads_to_neighbour p y (opposite_direction side) x
+    section_leads_to_neighbour p x side y
+    ∷ section_leads_to_neighbour p y (opposite_direction side) x
     ∷ continues_beyond p y d (opposite_direction side)
     ∷ []))
 
 -- The form "if a train in direction `d` continues beyond `x` on side `side`, a neighbour of `x`
 -- there has it too".
-abbrev pub train_continues_in_neighbour : PlantLists → ℕ → Dir → Dir → Tree
-train_continues_in_neighbour p x d side = implies (continues_beyond p x d side) (any_of (trees_from_list (map (joined_by_train p x d side) (next_to p x side))))
+abbrev pub neighbour_has_train_if_continuing : PlantLists → ℕ → Dir → Dir → Tree
+neighbour_has_train_if_continuing p x d side = implies (continues_beyond p x d side) (any_of (trees_from_list (map (joined_by_train p x d side) (next_to p x side))))
 
 -- The form "the point on section `x` is not moving under a train".
 abbrev pub no_moving_under_train : PlantLists → ℕ → Tree
@@ -65,12 +65,12 @@ no_hazard_or_moving_point p x = negation (hazard_in_section p x) ∷ no_moving_u
 
 -- The forms "a train in direction `d` that continues beyond `x` is in a neighbour too", for each
 -- side of `x`.
-abbrev pub train_continues_both_ways : PlantLists → ℕ → Dir → List Tree
-train_continues_both_ways p x d = train_continues_in_neighbour p x d Up ∷ train_continues_in_neighbour p x d Down ∷ []
+abbrev pub neighbours_have_train_if_continuing : PlantLists → ℕ → Dir → List Tree
+neighbours_have_train_if_continuing p x d = neighbour_has_train_if_continuing p x d Up ∷ neighbour_has_train_if_continuing p x d Down ∷ []
 
 -- All conditions on section `x` for values to be well-formed.
 abbrev pub section_demands : PlantLists → ℕ → List Tree
-section_demands p x = no_hazard_or_moving_point p x ++ (train_continues_both_ways p x Up ++ train_continues_both_ways p x Down)
+section_demands p x = no_hazard_or_moving_point p x ++ (neighbours_have_train_if_continuing p x Up ++ neighbours_have_train_if_continuing p x Down)
 
 -- The form "the values are well-formed": the conditions on all sections.
 abbrev pub wellformed_tree : PlantLists → Tree

@@ -53,7 +53,7 @@ fn goes_on_at(alloc: Global, plant: &Plant, x: u32, d: Dir, side: Dir) -> Result
 
 fn leads_by_lie(plant: &Plant, x: u32, side: Dir, y: u32) -> Form
     requires { x < length plant.now.sections }
-    ensures { tree_of result ≡ forms.leads_to_neighbour plant.now x side y }
+    ensures { tree_of result ≡ forms.section_leads_to_neighbour plant.now x side y }
 {
     match *plant.section(x) {
         Section::Linear { .. } => Form::Yes,
@@ -132,7 +132,7 @@ fn next_has_train(
     Ok(Form::Or(some))
 }
 
-fn train_continues_in_neighbour(
+fn neighbour_has_train_if_continuing(
     alloc: Global,
     plant: &Plant,
     x: u32,
@@ -141,7 +141,7 @@ fn train_continues_in_neighbour(
 ) -> Result<Form, AllocError>
     requires { x < length plant.now.sections }
     ensures { IfOk result (λ made. tree_of made ≡
-        forms.train_continues_in_neighbour plant.now x d side) }
+        forms.neighbour_has_train_if_continuing plant.now x d side) }
 {
     let goes_on = goes_on_at(alloc, plant, x, d, side)?;
     let next = next_has_train(alloc, plant, x, d, side)?;
@@ -183,10 +183,11 @@ fn push_train_demands(
     requires { x < length plant.now.sections }
     ensures { OnOk result
         (map tree_of demands.new.items
-        ≡ map tree_of demands.old.items ++ forms.train_continues_both_ways plant.now x d) }
+        ≡ map tree_of demands.old.items
+        ++ forms.neighbours_have_train_if_continuing plant.now x d) }
 {
-    demands.push(train_continues_in_neighbour(alloc, plant, x, d, Dir::Up)?)?;
-    demands.push(train_continues_in_neighbour(alloc, plant, x, d, Dir::Down)?)?;
+    demands.push(neighbour_has_train_if_continuing(alloc, plant, x, d, Dir::Up)?)?;
+    demands.push(neighbour_has_train_if_continuing(alloc, plant, x, d, Dir::Down)?)?;
     Ok(())
 }
 

@@ -21,7 +21,7 @@ use Rattle.ilk_model.specs.declared.event.Event.{Event}
 use Rattle.ilk_layout.specs.Image.{image_of}
 use Rattle.ilk_layout.specs.Laws.{AreImageOfSafeState}
 use Rattle.ilk_behave.specs.Behaviour.{system_of_plant}
-use Rattle.ilk_unroll.specs.Goal.{CopyDemand, PlainGoal, demands_of, must_fail_in, must_hold_below, must_hold_in, step_count}
+use Rattle.ilk_unroll.specs.Goal.{CopyDemand, PlainGoal, demands_of, demand_form_fails_in_copy, demands_form_holds_below_copy, demand_form_holds_in_copy, step_count}
 use Rattle.ilk_unroll.specs.Run.{is_wanted_run, demand_is_met_by_run, run_firing_rules}
 use Rattle.ilk_unroll.specs.declared.queries.Wanted.{Wanted}
 use Rattle.ilk_unroll.specs.declared.queries.Wanted.TheVariants.{Hazard, Breach, Step}
@@ -32,7 +32,7 @@ use Rattle.ilk_queries.specs.Walk.{states_from}
 use Rattle.ilk_queries.proofs.Demands.{all-more, below-met, holds-met}
 use Rattle.ilk_queries.proofs.Queries.{breach-met, hazard-met, shaped-at, step-met}
 use Rattle.ilk_queries.proofs.Walks.{none-is, run-states, states-begin, states-many, states-run, states-shaped, to-events, to-rules}
-use Rattle.ilk_model.specs.Meets.{keeps_all_families}
+use Rattle.ilk_model.specs.Meets.{meets_all_families}
 
 run-many : (system : PlainSystem) (values : List ℕ) (rules : List ℕ) (lists : List (List ℕ)) → run_firing_rules system values rules ≡ Some lists → length lists ≡ suc (length rules)
 run-many system values [] lists e = ap length (sym (same_Some (values ∷ []) lists e))
@@ -80,9 +80,9 @@ module _ (p : PlantLists) (steps : RulesStepLikeEvents p) (g : PlainGoal) (goal 
       let begins = (goal.begins (image_of p s) (goal.in_range s shape)).1 (ap (image_of p) asked.0) in
       made (Hazard n) s events led.0 shape led.1 asked.1 safe (hazard-met p steps g goal n led.0 s t w.shaped w.first last (omega arith) ∙ and_from _ _ begins (and_from _ _ safe found.2))
   to-wanted (Breach n) s events shape asked =
-      let found = some-and (run p s events) (λ t. is_none (hazard p t) && not (keeps_all_families p t)) asked.2 in
+      let found = some-and (run p s events) (λ t. is_none (hazard p t) && not (meets_all_families p t)) asked.2 in
       let t = found.0 in
-      let parts = and_parts (is_none (hazard p t)) (not (keeps_all_families p t)) found.2 in
+      let parts = and_parts (is_none (hazard p t)) (not (meets_all_families p t)) found.2 in
       let led = run-states p s t events found.1 in
       let w = walked s events led.0 n shape led.1 asked.1 in
       let many = w.many in
@@ -100,7 +100,7 @@ module _ (p : PlantLists) (steps : RulesStepLikeEvents p) (g : PlainGoal) (goal 
       let leaves : first_breaks_invariant_at p n states ≡ true = ap (λ k. first_breaks_invariant_at p k states) (sym asked.1) ∙ found.2 in
       let parts = and_parts (list_all (meets_invariant p) (take n states)) (is_some_and (slice_get states n) (λ t. not (meets_invariant p t))) leaves in
       let end = some-and (slice_get states n) (λ t. not (meets_invariant p t)) parts.1 in
-      let safe : list_all (state_has_no_hazard p) (take n states) ≡ true = list_all-weaken (meets_invariant p) (state_has_no_hazard p) (λ t meets. (and_parts (state_has_no_hazard p t) (keeps_all_families p t) meets).0) (take n states) parts.0 in
+      let safe : list_all (state_has_no_hazard p) (take n states) ≡ true = list_all-weaken (meets_invariant p) (state_has_no_hazard p) (λ t meets. (and_parts (state_has_no_hazard p t) (meets_all_families p t) meets).0) (take n states) parts.0 in
       made (Step n) s events states shape found.1 asked.1 safe (step-met p steps g goal n states end.0 w.shaped end.1 (omega arith) ∙ leaves)
 
   abbrev pub IsBeginning : Wanted → State → Type 0
@@ -108,11 +108,12 @@ module _ (p : PlantLists) (steps : RulesStepLikeEvents p) (g : PlainGoal) (goal 
   IsBeginning (Breach n) s = s ≡ start p
   IsBeginning (Step n) s = HasShape p s
 
-  wellformed-first : (n : ℕ) (lists : List (List ℕ)) (more : List CopyDemand) → n ≤ length lists → list_all (demand_is_met_by_run lists) (must_hold_below g.wellformed n ++ more) ≡ true → list_all (form_holds_for_values g.wellformed)
+  wellformed-first : (n : ℕ) (lists : List (List ℕ)) (more : List CopyDemand) → n ≤ length lists → list_all (demand_is_met_by_run lists) (demands_form_holds_below_copy g.wellformed n ++ more) ≡ true → list_all (form_holds_for_values g.wellformed)
       (take n lists) ≡ true
   wellformed-first n lists more within met =
       sym (below-met lists g.wellformed n within)
-      ∙ (and_parts (list_all (demand_is_met_by_run lists) (must_hold_below g.wellformed n)) (list_all (demand_is_met_by_run lists) more) (sym (list_all-append (demand_is_met_by_run lists) (must_hold_below g.wellformed n) more) ∙ met)).0
+      ∙ (and_parts (list_all (demand_is_met_by_run lists) (demands_form_holds_below_copy g.wellformed n)) (list_all (demand_is_met_by_run lists) more)
+      (sym (list_all-append (demand_is_met_by_run lists) (demands_form_holds_below_copy g.wellformed n) more) ∙ met)).0
 
   record Led (q : Wanted) (s : State) (rules : List ℕ) : Type 0 where
     events : List Event
@@ -148,8 +149,8 @@ module _ (p : PlantLists) (steps : RulesStepLikeEvents p) (g : PlainGoal) (goal 
       let w = wants (system_of_plant p) g (Hazard n) (image_of p s) rules wanted in
       let size = run-many (system_of_plant p) (image_of p s) rules w.run w.is in
       let count = w.many in
-      let rest = (and_parts (demand_is_met_by_run w.run (must_hold_in 0 g.start)) (list_all (demand_is_met_by_run w.run) (must_hold_below g.wellformed n ++ must_hold_in n g.hazard ∷ [])) w.met).1 in
-      let l = led (Hazard n) s rules shape w (wellformed-first n w.run (must_hold_in n g.hazard ∷ []) (omega arith) rest) in
+      let rest = (and_parts (demand_is_met_by_run w.run (demand_form_holds_in_copy 0 g.start)) (list_all (demand_is_met_by_run w.run) (demands_form_holds_below_copy g.wellformed n ++ demand_form_holds_in_copy n g.hazard ∷ [])) w.met).1 in
+      let l = led (Hazard n) s rules shape w (wellformed-first n w.run (demand_form_holds_in_copy n g.hazard ∷ []) (omega arith) rest) in
       let many = l.many in
       let end = item_at l.states n (omega arith) in
       let parts = and_parts _ _ (sym (hazard-met p steps g goal n l.states s end.0 l.shaped l.first end.1 (omega arith)) ∙ l.met) in
@@ -160,8 +161,8 @@ module _ (p : PlantLists) (steps : RulesStepLikeEvents p) (g : PlainGoal) (goal 
       let w = wants (system_of_plant p) g (Breach n) (image_of p s) rules wanted in
       let size = run-many (system_of_plant p) (image_of p s) rules w.run w.is in
       let count = w.many in
-      let broken : CopyDemand = must_fail_in n (all_of (trees_from_list g.families)) in
-      let rest = (and_parts (demand_is_met_by_run w.run (must_hold_in 0 g.start)) (list_all (demand_is_met_by_run w.run) (must_hold_below g.wellformed (n + 1) ++ broken ∷ [])) w.met).1 in
+      let broken : CopyDemand = demand_form_fails_in_copy n (all_of (trees_from_list g.families)) in
+      let rest = (and_parts (demand_is_met_by_run w.run (demand_form_holds_in_copy 0 g.start)) (list_all (demand_is_met_by_run w.run) (demands_form_holds_below_copy g.wellformed (n + 1) ++ broken ∷ [])) w.met).1 in
       let well = wellformed-first (n + 1) w.run (broken ∷ []) (omega arith) rest in
       let found = item_at w.run n (omega arith) in
       let fewer =
@@ -175,17 +176,17 @@ module _ (p : PlantLists) (steps : RulesStepLikeEvents p) (g : PlainGoal) (goal 
       let parts = and_parts _ _ (sym (breach-met p steps g goal n l.states s end.0 l.shaped l.first end.1 (omega arith)) ∙ l.met) in
       let inner = and_parts (list_all (state_has_no_hazard p) (take (n + 1) l.states)) (not (list_all (tree_holds (image_of p end.0)) g.families)) parts.1 in
       let safe = and_parts (list_all (state_has_no_hazard p) (take n l.states)) (state_has_no_hazard p end.0) (sym (safe-more p l.states n end.0 end.1) ∙ inner.0) in
-      let kept : not (keeps_all_families p end.0) ≡ true = ap not (sym (goal.kept end.0 (shaped-at p l.states n end.0 l.shaped end.1) (none-is (hazard p end.0) safe.1))) ∙ inner.1 in
+      let kept : not (meets_all_families p end.0) ≡ true = ap not (sym (goal.kept end.0 (shaped-at p l.states n end.0 l.shaped end.1) (none-is (hazard p end.0) safe.1))) ∙ inner.1 in
       let ends : run p s l.events ≡ Some end.0 = states-run p s l.events l.states l.is (ap (λ k. list_all (state_has_no_hazard p) (take k l.states)) l.count ∙ safe.0) ∙ ap (slice_get l.states) l.count ∙ end.1 in
-      (l.events, l.by_rules, (begins, l.count, ap (λ o. is_some_and o (λ t. is_none (hazard p t) && not (keeps_all_families p t))) ends ∙ and_from _ _ safe.1 kept))
+      (l.events, l.by_rules, (begins, l.count, ap (λ o. is_some_and o (λ t. is_none (hazard p t) && not (meets_all_families p t))) ends ∙ and_from _ _ safe.1 kept))
   to-asked (Step n) s rules shape begins wanted =
       let w = wants (system_of_plant p) g (Step n) (image_of p s) rules wanted in
       let size = run-many (system_of_plant p) (image_of p s) rules w.run w.is in
       let count = w.many in
-      let left : CopyDemand = must_fail_in n (all_of (trees_from_list (negation g.hazard ∷ g.families))) in
-      let families : List CopyDemand = flat_map (λ form. must_hold_below form n) g.families in
-      let before = (and_parts (list_all (demand_is_met_by_run w.run) (must_hold_below g.wellformed n ++ families)) (list_all (demand_is_met_by_run w.run) (left ∷ []))
-      (sym (list_all-append (demand_is_met_by_run w.run) (must_hold_below g.wellformed n ++ families) (left ∷ [])) ∙ w.met)).0 in
+      let left : CopyDemand = demand_form_fails_in_copy n (all_of (trees_from_list (negation g.hazard ∷ g.families))) in
+      let families : List CopyDemand = flat_map (λ form. demands_form_holds_below_copy form n) g.families in
+      let before = (and_parts (list_all (demand_is_met_by_run w.run) (demands_form_holds_below_copy g.wellformed n ++ families)) (list_all (demand_is_met_by_run w.run) (left ∷ []))
+      (sym (list_all-append (demand_is_met_by_run w.run) (demands_form_holds_below_copy g.wellformed n ++ families) (left ∷ [])) ∙ w.met)).0 in
       let l = led (Step n) s rules shape w (wellformed-first n w.run families (omega arith) before) in
       let many = l.many in
       let end = item_at l.states n (omega arith) in
@@ -204,30 +205,30 @@ module _ (p : PlantLists) (steps : RulesStepLikeEvents p) (g : PlainGoal) (goal 
   Begins (Step zero) first = Unit {0}
   Begins (Step (suc n)) first = AreImageOfSafeState p first
 
-  start-first : (q : Wanted) (first rules : List ℕ) (more : List CopyDemand) → demands_of g q ≡ must_hold_in 0 g.start ∷ more → is_wanted_run (system_of_plant p) g q first rules ≡ true → first ≡ image_of p (start p)
+  start-first : (q : Wanted) (first rules : List ℕ) (more : List CopyDemand) → demands_of g q ≡ demand_form_holds_in_copy 0 g.start ∷ more → is_wanted_run (system_of_plant p) g q first rules ≡ true → first ≡ image_of p (start p)
   start-first q first rules more same wanted =
       let w = wants (system_of_plant p) g q first rules wanted in
       let begin = run-begins first rules w.run w.is in
       let at0 : slice_get w.run 0 ≡ Some first = ap (λ (u : List (List ℕ)). slice_get u 0) begin.1 in
-      let all : list_all (demand_is_met_by_run w.run) (must_hold_in 0 g.start ∷ more) ≡ true = ap (list_all (demand_is_met_by_run w.run)) (sym same) ∙ w.met in
-      let here = (and_parts (demand_is_met_by_run w.run (must_hold_in 0 g.start)) (list_all (demand_is_met_by_run w.run) more) all).0 in
+      let all : list_all (demand_is_met_by_run w.run) (demand_form_holds_in_copy 0 g.start ∷ more) ≡ true = ap (list_all (demand_is_met_by_run w.run)) (sym same) ∙ w.met in
+      let here = (and_parts (demand_is_met_by_run w.run (demand_form_holds_in_copy 0 g.start)) (list_all (demand_is_met_by_run w.run) more) all).0 in
       (goal.begins first w.in_range).0 (sym (holds-met w.run 0 first g.start at0) ∙ here)
 
   pub first-values : (q : Wanted) (first rules : List ℕ) → is_wanted_run (system_of_plant p) g q first rules ≡ true → Begins q first
-  first-values (Hazard n) first rules wanted = start-first (Hazard n) first rules (must_hold_below g.wellformed n ++ must_hold_in n g.hazard ∷ []) refl wanted
-  first-values (Breach n) first rules wanted = start-first (Breach n) first rules (must_hold_below g.wellformed (n + 1) ++ must_fail_in n (all_of (trees_from_list g.families)) ∷ []) refl wanted
+  first-values (Hazard n) first rules wanted = start-first (Hazard n) first rules (demands_form_holds_below_copy g.wellformed n ++ demand_form_holds_in_copy n g.hazard ∷ []) refl wanted
+  first-values (Breach n) first rules wanted = start-first (Breach n) first rules (demands_form_holds_below_copy g.wellformed (n + 1) ++ demand_form_fails_in_copy n (all_of (trees_from_list g.families)) ∷ []) refl wanted
   first-values (Step zero) first rules wanted = tt
   first-values (Step (suc n)) first rules wanted =
       let w = wants (system_of_plant p) g (Step (suc n)) first rules wanted in
       let size = run-many (system_of_plant p) first rules w.run w.is in
       let count = w.many in
-      let left : CopyDemand = must_fail_in (suc n) (all_of (trees_from_list (negation g.hazard ∷ g.families))) in
-      let families : List CopyDemand = flat_map (λ form. must_hold_below form (suc n)) g.families in
+      let left : CopyDemand = demand_form_fails_in_copy (suc n) (all_of (trees_from_list (negation g.hazard ∷ g.families))) in
+      let families : List CopyDemand = flat_map (λ form. demands_form_holds_below_copy form (suc n)) g.families in
       let before =
-      (and_parts (list_all (demand_is_met_by_run w.run) (must_hold_below g.wellformed (suc n) ++ families))
+      (and_parts (list_all (demand_is_met_by_run w.run) (demands_form_holds_below_copy g.wellformed (suc n) ++ families))
       (list_all (demand_is_met_by_run w.run) (left ∷ []))
       (sym
-      (list_all-append (demand_is_met_by_run w.run) (must_hold_below g.wellformed (suc n) ++ families)
+      (list_all-append (demand_is_met_by_run w.run) (demands_form_holds_below_copy g.wellformed (suc n) ++ families)
       (left ∷ [])) ∙ w.met)).0 in
       let well = wellformed-first (suc n) w.run families (omega arith) before in
       let begin = run-begins first rules w.run w.is in

@@ -18,9 +18,9 @@ use Rattle.ilk_props.specs.WellformedForm.{wellformed_tree}
 use Rattle.ilk_unroll.specs.Goal.{goal_valid}
 use Rattle.ilk_queries.specs.Goal.{goal_of_plant}
 use Rattle.ilk_queries.specs.Lifting.{GoalFormsMatchPlant}
-use Rattle.ilk_model.specs.Meets.{keeps_all_families}
+use Rattle.ilk_model.specs.Meets.{meets_all_families}
 
-all-kept : (p : PlantLists) → ((j : ℕ) → TreeMeansFamily p j (family_tree p j)) → (s : State) → IsWellFormedAndSafe p s → list_all (tree_holds (image_of p s)) (family_trees p) ≡ keeps_all_families p s
+all-kept : (p : PlantLists) → ((j : ℕ) → TreeMeansFamily p j (family_tree p j)) → (s : State) → IsWellFormedAndSafe p s → list_all (tree_holds (image_of p s)) (family_trees p) ≡ meets_all_families p s
 all-kept p kept s calm =
     rw (kept 1 s calm, kept 2 s calm, kept 3 s calm, kept 4 s calm, kept 5 s calm, kept 6 s calm, kept 7 s calm, kept 8 s calm, kept 9 s calm) refl
 

@@ -13,14 +13,14 @@ use Rattle.ilk_plant.specs.declared.state.State.{State}
 use Rattle.ilk_model.specs.Hazard.{hazard}
 use Rattle.ilk_model.specs.declared.hazards.HazardAt.{HazardAt}
 use Rattle.ilk_layout.specs.Image.{image_of}
-use Rattle.ilk_unroll.specs.Goal.{CopyDemand, PlainGoal, demands_of, must_fail_in, must_hold_below, must_hold_in}
+use Rattle.ilk_unroll.specs.Goal.{CopyDemand, PlainGoal, demands_of, demand_form_fails_in_copy, demands_form_holds_below_copy, demand_form_holds_in_copy}
 use Rattle.ilk_unroll.specs.Run.{demand_is_met_by_run}
 use Rattle.ilk_unroll.specs.declared.queries.Wanted.TheVariants.{Hazard, Breach, Step}
 use Rattle.ilk_queries.specs.Asked.{first_breaks_invariant_at, meets_invariant}
 use Rattle.ilk_queries.specs.Lifting.{AllHaveShape, GoalFormsMatchPlant, RulesStepLikeEvents, form_holds_for_values, state_has_no_hazard}
 use Rattle.ilk_queries.proofs.Demands.{all-below-met, all-hold, below-met, fails-met, holds-met, swapped}
 use Rattle.ilk_queries.proofs.Walks.{wellformed-before}
-use Rattle.ilk_model.specs.Meets.{keeps_all_families}
+use Rattle.ilk_model.specs.Meets.{meets_all_families}
 
 pub shaped-at : (p : PlantLists) (states : List State) (n : ℕ) (t : State) → AllHaveShape p states → slice_get states n ≡ Some t → HasShape p t
 shaped-at p [] n t shaped at = cc
@@ -42,9 +42,9 @@ module _ (p : PlantLists) (steps : RulesStepLikeEvents p) (g : PlainGoal) (goal 
       let start = holds-met lists 0 (image_of p s) g.start at0 in
       let below = below-met lists g.wellformed n long ∙ wellformed-before p steps g goal n states shaped in
       let end = holds-met lists n (image_of p t) g.hazard atn ∙ goal.hazards t (shaped-at p states n t shaped last) in
-      ap (λ b. b && list_all (demand_is_met_by_run lists) (must_hold_below g.wellformed n ++ must_hold_in n g.hazard ∷ [])) start
-      ∙ ap (λ b. form_holds_for_values g.start (image_of p s) && b) (list_all-append (demand_is_met_by_run lists) (must_hold_below g.wellformed n) (must_hold_in n g.hazard ∷ [])
-      ∙ ap (λ b. b && (demand_is_met_by_run lists (must_hold_in n g.hazard) && true)) below
+      ap (λ b. b && list_all (demand_is_met_by_run lists) (demands_form_holds_below_copy g.wellformed n ++ demand_form_holds_in_copy n g.hazard ∷ [])) start
+      ∙ ap (λ b. form_holds_for_values g.start (image_of p s) && b) (list_all-append (demand_is_met_by_run lists) (demands_form_holds_below_copy g.wellformed n) (demand_form_holds_in_copy n g.hazard ∷ [])
+      ∙ ap (λ b. b && (demand_is_met_by_run lists (demand_form_holds_in_copy n g.hazard) && true)) below
       ∙ ap (λ b. list_all (state_has_no_hazard p) (take n states) && b) (and-true _ ∙ end))
 
   families-before : (n : ℕ) (states : List State) → AllHaveShape p states →
@@ -72,7 +72,7 @@ module _ (p : PlantLists) (steps : RulesStepLikeEvents p) (g : PlainGoal) (goal 
       here : (s : State) → HasShape p s → (state_has_no_hazard p s && list_all (tree_holds (image_of p s)) g.families) ≡ meets_invariant p s
       here s shape = by_hazard (hazard p s) refl
         where
-          by_hazard : (o : Option HazardAt) → hazard p s ≡ o → (is_none o && list_all (tree_holds (image_of p s)) g.families) ≡ (is_none o && keeps_all_families p s)
+          by_hazard : (o : Option HazardAt) → hazard p s ≡ o → (is_none o && list_all (tree_holds (image_of p s)) g.families) ≡ (is_none o && meets_all_families p s)
           by_hazard None none = goal.kept s shape none
           by_hazard (Some h) some = refl
 
@@ -81,7 +81,7 @@ module _ (p : PlantLists) (steps : RulesStepLikeEvents p) (g : PlainGoal) (goal 
       all-hold (image_of p t) (negation g.hazard ∷ g.families)
       ∙ ap (λ b. not b && list_all (tree_holds (image_of p t)) g.families) (goal.hazards t shape) ∙ by_hazard (hazard p t) refl
     where
-      by_hazard : (o : Option HazardAt) → hazard p t ≡ o → (not (is_some o) && list_all (tree_holds (image_of p t)) g.families) ≡ (is_none o && keeps_all_families p t)
+      by_hazard : (o : Option HazardAt) → hazard p t ≡ o → (not (is_some o) && list_all (tree_holds (image_of p t)) g.families) ≡ (is_none o && meets_all_families p t)
       by_hazard None none = goal.kept t shape none
       by_hazard (Some h) some = refl
 
@@ -95,15 +95,15 @@ module _ (p : PlantLists) (steps : RulesStepLikeEvents p) (g : PlainGoal) (goal 
       && not (list_all (tree_holds (image_of p t)) g.families)))
   breach-met n states s t shaped first last within =
       let lists : List (List ℕ) = map (image_of p) states in
-      let broken : CopyDemand = must_fail_in n (all_of (trees_from_list g.families)) in
+      let broken : CopyDemand = demand_form_fails_in_copy n (all_of (trees_from_list g.families)) in
       let at0 : slice_get lists 0 ≡ Some (image_of p s) = slice_get-map (image_of p) states 0 ∙ rw first refl in
       let atn : slice_get lists n ≡ Some (image_of p t) = slice_get-map (image_of p) states n ∙ rw last refl in
       let long : n + 1 ≤ length lists = subst (λ k. n + 1 ≤ k) (sym (length-map states (image_of p))) within in
       let start = holds-met lists 0 (image_of p s) g.start at0 in
       let below = below-met lists g.wellformed (n + 1) long ∙ wellformed-before p steps g goal (n + 1) states shaped in
       let end = fails-met lists n (image_of p t) (all_of (trees_from_list g.families)) atn ∙ ap not (all-hold (image_of p t) g.families) in
-      ap (λ b. b && list_all (demand_is_met_by_run lists) (must_hold_below g.wellformed (n + 1) ++ broken ∷ [])) start
-      ∙ ap (λ b. form_holds_for_values g.start (image_of p s) && b) (list_all-append (demand_is_met_by_run lists) (must_hold_below g.wellformed (n + 1)) (broken ∷ [])
+      ap (λ b. b && list_all (demand_is_met_by_run lists) (demands_form_holds_below_copy g.wellformed (n + 1) ++ broken ∷ [])) start
+      ∙ ap (λ b. form_holds_for_values g.start (image_of p s) && b) (list_all-append (demand_is_met_by_run lists) (demands_form_holds_below_copy g.wellformed (n + 1)) (broken ∷ [])
       ∙ ap (λ b. b && (demand_is_met_by_run lists broken && true)) below
       ∙ ap (λ b. list_all (state_has_no_hazard p) (take (n + 1) states) && b) (and-true _ ∙ end))
 
@@ -111,8 +111,8 @@ module _ (p : PlantLists) (steps : RulesStepLikeEvents p) (g : PlainGoal) (goal 
       (Step n)) ≡ first_breaks_invariant_at p n states
   step-met n states t shaped last within =
       let lists : List (List ℕ) = map (image_of p) states in
-      let left : CopyDemand = must_fail_in n (all_of (trees_from_list (negation g.hazard ∷ g.families))) in
-      let families : List CopyDemand = flat_map (λ form. must_hold_below form n) g.families in
+      let left : CopyDemand = demand_form_fails_in_copy n (all_of (trees_from_list (negation g.hazard ∷ g.families))) in
+      let families : List CopyDemand = flat_map (λ form. demands_form_holds_below_copy form n) g.families in
       let atn : slice_get lists n ≡ Some (image_of p t) = slice_get-map (image_of p) states n ∙ rw last refl in
       let long : n ≤ length lists = subst (λ k. n ≤ k) (sym (length-map states (image_of p))) within in
       let below = below-met lists g.wellformed n long ∙ wellformed-before p steps g goal n states shaped in
@@ -120,9 +120,9 @@ module _ (p : PlantLists) (steps : RulesStepLikeEvents p) (g : PlainGoal) (goal 
       all-below-met lists g.families n long ∙ swapped (take n lists) g.families ∙ ap (list_all (λ values. list_all (tree_holds values) g.families)) (take-map (image_of p) n states) in
       let end = fails-met lists n (image_of p t) (all_of (trees_from_list (negation g.hazard ∷ g.families))) atn ∙ ap not (invariant-form t (shaped-at p states n t shaped last)) in
       let right : first_breaks_invariant_at p n states ≡ (list_all (meets_invariant p) (take n states) && not (meets_invariant p t)) = rw last refl in
-      list_all-append (demand_is_met_by_run lists) (must_hold_below g.wellformed n ++ families) (left ∷ [])
+      list_all-append (demand_is_met_by_run lists) (demands_form_holds_below_copy g.wellformed n ++ families) (left ∷ [])
       ∙ ap (λ b. b && (demand_is_met_by_run lists left && true))
-      (list_all-append (demand_is_met_by_run lists) (must_hold_below g.wellformed n) families
+      (list_all-append (demand_is_met_by_run lists) (demands_form_holds_below_copy g.wellformed n) families
       ∙ ap (λ b. b && list_all (demand_is_met_by_run lists) families) below
       ∙ ap (λ b. list_all (state_has_no_hazard p) (take n states) && b) kept ∙ families-before n states shaped)
       ∙ ap (λ b. list_all (meets_invariant p) (take n states) && b) (and-true _ ∙ end) ∙ sym right

@@ -6,7 +6,7 @@ use Rattle.ilk_plant.specs.Shape.{HasShape}
 use Rattle.ilk_plant.specs.Start.{start}
 use Rattle.ilk_plant.specs.declared.state.State.{State}
 use Rattle.ilk_model.specs.Hazard.{hazard}
-use Rattle.ilk_model.specs.Meets.{keeps_all_families}
+use Rattle.ilk_model.specs.Meets.{meets_all_families}
 use Rattle.ilk_model.specs.Run.{run}
 use Rattle.ilk_model.specs.declared.event.Event.{Event}
 use Rattle.ilk_unroll.specs.declared.queries.Wanted.{Wanted}
@@ -16,7 +16,7 @@ use Rattle.ilk_queries.specs.Walk.{states_from}
 -- Returns whether the well-formed state `s` meets the invariant: it has no hazard and keeps all
 -- families.
 abbrev pub meets_invariant : PlantLists → State → Bool
-meets_invariant p s = is_none (hazard p s) && keeps_all_families p s
+meets_invariant p s = is_none (hazard p s) && meets_all_families p s
 
 -- Returns whether these events are a run from `s` that ends in a hazard.
 abbrev pub ends_in_hazard : PlantLists → State → List Event → Bool
@@ -25,7 +25,7 @@ ends_in_hazard p s events = is_some_and (run p s events) (λ t. is_some (hazard 
 -- Returns whether these events are a run from `s` that ends without hazard in a state that breaks a
 -- family.
 abbrev pub ends_in_breach : PlantLists → State → List Event → Bool
-ends_in_breach p s events = is_some_and (run p s events) (λ t. is_none (hazard p t) && not (keeps_all_families p t))
+ends_in_breach p s events = is_some_and (run p s events) (λ t. is_none (hazard p t) && not (meets_all_families p t))
 
 -- Returns whether the first `n` states of the list meet the invariant and the next one does not.
 abbrev pub first_breaks_invariant_at : PlantLists → ℕ → List State → Bool

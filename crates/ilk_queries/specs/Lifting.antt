@@ -16,7 +16,7 @@ use Rattle.ilk_layout.specs.Laws.{AreImageOfSafeState}
 use Rattle.ilk_layout.specs.Variables.{ranges_of_plant}
 use Rattle.ilk_behave.specs.Behaviour.{event_of_rule, system_of_plant}
 use Rattle.ilk_unroll.specs.Goal.{PlainGoal}
-use Rattle.ilk_model.specs.Meets.{keeps_all_families}
+use Rattle.ilk_model.specs.Meets.{meets_all_families}
 
 -- Holds if in each well-formed state without hazard the rules of the plant's finite system lead to
 -- the same states as the events, and events keep states well-formed.
@@ -34,7 +34,7 @@ pub record GoalFormsMatchPlant (p : PlantLists) (g : PlainGoal) : Type 0 where
   pub begins : (values : List ℕ) → in_ranges values (ranges_of_plant p) ≡ true → (tree_holds values g.start ≡ true) ↔ (values ≡ image_of p (start p))
   pub wellformed : (values : List ℕ) → in_ranges values (ranges_of_plant p) ≡ true → (tree_holds values g.wellformed ≡ true) ↔ AreImageOfSafeState p values
   pub hazards : (s : State) → HasShape p s → tree_holds (image_of p s) g.hazard ≡ is_some (hazard p s)
-  pub kept : (s : State) → HasShape p s → hazard p s ≡ None → list_all (tree_holds (image_of p s)) g.families ≡ keeps_all_families p s
+  pub kept : (s : State) → HasShape p s → hazard p s ≡ None → list_all (tree_holds (image_of p s)) g.families ≡ meets_all_families p s
   pub in_range : (s : State) → HasShape p s → in_ranges (image_of p s) (ranges_of_plant p) ≡ true
 
 -- The events of the rules with these numbers, in order; `None` if a rule has no event.

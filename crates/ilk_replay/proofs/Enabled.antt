@@ -6,7 +6,7 @@ use Rattle.std.proofs.lemmas.Option.{slice_get_within}
 use Rattle.ilk_base.specs.Option.{is_some_and, then_some}
 use Rattle.ilk_base.proofs.Options.{bind_some}
 use Rattle.ilk_plant.specs.Network.{is_point}
-use Rattle.ilk_plant.specs.Plant.{PlantLists, section_inward_if_border, is_point_section, point_number}
+use Rattle.ilk_plant.specs.Plant.{PlantLists, inward_direction_if_border, is_point_section, point_number}
 use Rattle.ilk_plant.specs.declared.network.Section.{Section}
 use Rattle.ilk_plant.specs.declared.state.State.{State}
 use Rattle.ilk_plant.specs.declared.state.Train.{Train}
@@ -40,7 +40,7 @@ enabled-about p s t (Release r) e = item-named p.routes r _ t e
 enabled-about p s t (Finish r) e = item-named p.routes r _ t e
 enabled-about p s t (Throw x) e = point-named p x _ t e
 enabled-about p s t (Settle x) e = point-named p x _ t e
-enabled-about p s t (Enter x) e = let inward = bind_some (section_inward_if_border p x) _ t e in item-named p.sections x _ inward.0 inward.1
+enabled-about p s t (Enter x) e = let inward = bind_some (inward_direction_if_border p x) _ t e in item-named p.sections x _ inward.0 inward.1
 enabled-about p s t (Head x) e =
     let first = bind_some {A = ℕ} (position (has_head_at x) s.trains) _ t e in
     let train = bind_some {A = Train} (slice_get s.trains first.0) _ t first.2 in

@@ -18,7 +18,7 @@ use Rattle.ilk_model.specs.declared.event.Event.{Event}
 use Rattle.ilk_replay.specs.EventLine.{event_from_line}
 use Rattle.ilk_replay.specs.FirstBad.{IsFirstBadLineOfRun}
 use Rattle.ilk_lines.specs.Lines.{Bytes, unterminated_tail, lines_of}
-use Rattle.ilk_lines.specs.Reading.{ParsedPrefix, expect_first_line, expect_end_of_text, item_values_from_lines, parsed_prefix, indices_of_items}
+use Rattle.ilk_lines.specs.Reading.{ParsedPrefix, expect_first_line, expect_end_of_text, item_values_from_lines, parsed_prefix, indices_of_list}
 use Rattle.ilk_lines.proofs.FirstBad.{ReadsWritten, end_by_line, end_then, first_exactly, from_text}
 use Rattle.ilk_lines.proofs.ByLine.{FailsAt, Fills, HasLine, IsByLine, Reader, after_by_line, each_by_line, each_then, fails_first, fails_next, leading_by_line, leading_then}
 use Rattle.ilk_base.proofs.Results.{bind-assoc, err_is, ok_no_err}
@@ -26,7 +26,7 @@ use Rattle.ilk_base.proofs.Lists.{item_at}
 use Rattle.ilk_base.proofs.Ranges.{range_within}
 use Rattle.ilk_replay.specs.RunText.{board_line, point_line, route_line, run_lines, run_text, section_line}
 use Rattle.ilk_replay.specs.StateLine.{board_from_line, lock_from_line, point_from_line, route_from_line, train_from_line}
-use Rattle.ilk_replay.specs.StateTold.{BeginningAndEventLines, point_sections_in_order, state_from_lines}
+use Rattle.ilk_replay.specs.StateTold.{FirstStateAndEventLines, point_sections_in_order, full_state_from_lines}
 use Rattle.ilk_replay.specs.Told.{beginning_from_lines, events_from_lines, run_from_text, run_from_lines}
 use Rattle.ilk_replay.specs.Writable.{IsRunOfPlant}
 use Rattle.ilk_replay.specs.declared.told.Tale.{Tale}
@@ -56,7 +56,7 @@ events_by_line p first from_start n =
     ∙ (λ i. expect_first_line (codes "end") events.number events.lines >>= (λ more. bind-assoc (expect_end_of_text (events.number + 1) more bytes) (λ none. Ok events.values) (run_of first from_start) i)))) in
     subst (IsByLine n) (λ i lines bytes. same lines bytes i) (leading_by_line (event_from_line p) (codes "end") n next refl (λ events. end_by_line (told_of first from_start events)))
 
-abbrev with_events : PlantLists → Bytes → BeginningAndEventLines → Result Told ℕ
+abbrev with_events : PlantLists → Bytes → FirstStateAndEventLines → Result Told ℕ
 with_events p bytes b = events_from_lines p b.number b.lines bytes >>= run_of b.first b.from_start
 
 abbrev trains_read : PlantLists → List RouteState → List PointState → List Aspect → ParsedPrefix Hold → Bytes → Result Told ℕ
@@ -64,21 +64,21 @@ trains_read p routes points boards locks bytes =
     leading_then (train_from_line p) (codes "events") locks.number (λ trains. events_read p (record { routes = routes; points = points; boards = boards; locks = locks.values; trains = trains }) false) locks.lines bytes
 
 abbrev locks_read : PlantLists → List RouteState → List PointState → ParsedPrefix Aspect → Bytes → Result Told ℕ
-locks_read p routes points boards bytes = each_then (lock_from_line p) (indices_of_items p.sections) boards.number (trains_read p routes points boards.values) boards.lines bytes
+locks_read p routes points boards bytes = each_then (lock_from_line p) (indices_of_list p.sections) boards.number (trains_read p routes points boards.values) boards.lines bytes
 
 abbrev boards_read : PlantLists → List RouteState → ParsedPrefix PointState → Bytes → Result Told ℕ
-boards_read p routes points bytes = each_then (board_from_line p) (indices_of_items p.boards) points.number (locks_read p routes points.values) points.lines bytes
+boards_read p routes points bytes = each_then (board_from_line p) (indices_of_list p.boards) points.number (locks_read p routes points.values) points.lines bytes
 
 abbrev points_read : PlantLists → ParsedPrefix RouteState → Bytes → Result Told ℕ
 points_read p routes bytes = each_then (point_from_line p) (point_sections_in_order p) routes.number (boards_read p routes.values) routes.lines bytes
 
 abbrev state_read : PlantLists → Reader Told
-state_read p = each_then (route_from_line p) (indices_of_items p.routes) 3 (points_read p)
+state_read p = each_then (route_from_line p) (indices_of_list p.routes) 3 (points_read p)
 
-state_parts : (p : PlantLists) (lines : List Bytes) (bytes : Bytes) → (state_from_lines p lines >>= with_events p bytes) ≡ state_read p lines bytes
+state_parts : (p : PlantLists) (lines : List Bytes) (bytes : Bytes) → (full_state_from_lines p lines >>= with_events p bytes) ≡ state_read p lines bytes
 state_parts p lines bytes =
-    bind-assoc (item_values_from_lines (route_from_line p) (indices_of_items p.routes) 3 lines) _ (with_events p bytes)
-    ∙ (λ i. item_values_from_lines (route_from_line p) (indices_of_items p.routes) 3 lines >>= (λ routes. points_part routes i))
+    bind-assoc (item_values_from_lines (route_from_line p) (indices_of_list p.routes) 3 lines) _ (with_events p bytes)
+    ∙ (λ i. item_values_from_lines (route_from_line p) (indices_of_list p.routes) 3 lines >>= (λ routes. points_part routes i))
   where
     trains_part : (routes : List RouteState) (points : List PointState) (boards : List Aspect) (locks : ParsedPrefix Hold) → ((do
       trains ← Ok (parsed_prefix (train_from_line p) locks.number locks.lines)
@@ -89,28 +89,28 @@ state_parts p lines bytes =
         bind-assoc (expect_first_line (codes "events") trains.number trains.lines) (λ more. Ok (made routes points boards locks.values trains.values (trains.number + 1) more)) (with_events p bytes)
 
     locks_part : (routes : List RouteState) (points : List PointState) (boards : ParsedPrefix Aspect) → ((do
-      locks ← item_values_from_lines (lock_from_line p) (indices_of_items p.sections) boards.number boards.lines
+      locks ← item_values_from_lines (lock_from_line p) (indices_of_list p.sections) boards.number boards.lines
       trains ← Ok (parsed_prefix (train_from_line p) locks.number locks.lines)
       more ← expect_first_line (codes "events") trains.number trains.lines
       Ok (made routes points boards.values locks.values trains.values (trains.number + 1) more)) >>= with_events p bytes) ≡ locks_read p routes points boards bytes
     locks_part routes points boards =
-        bind-assoc (item_values_from_lines (lock_from_line p) (indices_of_items p.sections) boards.number boards.lines) _ (with_events p bytes)
-        ∙ (λ i. item_values_from_lines (lock_from_line p) (indices_of_items p.sections) boards.number boards.lines >>= (λ locks. trains_part routes points boards.values locks i))
+        bind-assoc (item_values_from_lines (lock_from_line p) (indices_of_list p.sections) boards.number boards.lines) _ (with_events p bytes)
+        ∙ (λ i. item_values_from_lines (lock_from_line p) (indices_of_list p.sections) boards.number boards.lines >>= (λ locks. trains_part routes points boards.values locks i))
 
     boards_part : (routes : List RouteState) (points : ParsedPrefix PointState) → ((do
-      boards ← item_values_from_lines (board_from_line p) (indices_of_items p.boards) points.number points.lines
-      locks ← item_values_from_lines (lock_from_line p) (indices_of_items p.sections) boards.number boards.lines
+      boards ← item_values_from_lines (board_from_line p) (indices_of_list p.boards) points.number points.lines
+      locks ← item_values_from_lines (lock_from_line p) (indices_of_list p.sections) boards.number boards.lines
       trains ← Ok (parsed_prefix (train_from_line p) locks.number locks.lines)
       more ← expect_first_line (codes "events") trains.number trains.lines
       Ok (made routes points.values boards.values locks.values trains.values (trains.number + 1) more)) >>= with_events p bytes) ≡ boards_read p routes points bytes
     boards_part routes points =
-        bind-assoc (item_values_from_lines (board_from_line p) (indices_of_items p.boards) points.number points.lines) _ (with_events p bytes)
-        ∙ (λ i. item_values_from_lines (board_from_line p) (indices_of_items p.boards) points.number points.lines >>= (λ boards. locks_part routes points.values boards i))
+        bind-assoc (item_values_from_lines (board_from_line p) (indices_of_list p.boards) points.number points.lines) _ (with_events p bytes)
+        ∙ (λ i. item_values_from_lines (board_from_line p) (indices_of_list p.boards) points.number points.lines >>= (λ boards. locks_part routes points.values boards i))
 
     points_part : (routes : ParsedPrefix RouteState) → ((do
       points ← item_values_from_lines (point_from_line p) (point_sections_in_order p) routes.number routes.lines
-      boards ← item_values_from_lines (board_from_line p) (indices_of_items p.boards) points.number points.lines
-      locks ← item_values_from_lines (lock_from_line p) (indices_of_items p.sections) boards.number boards.lines
+      boards ← item_values_from_lines (board_from_line p) (indices_of_list p.boards) points.number points.lines
+      locks ← item_values_from_lines (lock_from_line p) (indices_of_list p.sections) boards.number boards.lines
       trains ← Ok (parsed_prefix (train_from_line p) locks.number locks.lines)
       more ← expect_first_line (codes "events") trains.number trains.lines
       Ok (made routes.values points.values boards.values locks.values trains.values (trains.number + 1) more)) >>= with_events p bytes) ≡ points_read p routes bytes
@@ -118,7 +118,7 @@ state_parts p lines bytes =
         bind-assoc (item_values_from_lines (point_from_line p) (point_sections_in_order p) routes.number routes.lines) _ (with_events p bytes)
         ∙ (λ i. item_values_from_lines (point_from_line p) (point_sections_in_order p) routes.number routes.lines >>= (λ points. boards_part routes.values points i))
 
-route_has_line : (p : PlantLists) → IsPlant p → (i x : ℕ) → slice_get (indices_of_items p.routes) i ≡ Some x → HasLine (route_from_line p) x
+route_has_line : (p : PlantLists) → IsPlant p → (i x : ℕ) → slice_get (indices_of_list p.routes) i ≡ Some x → HasLine (route_from_line p) x
 route_has_line p plant i x at =
     let place = range_within (length p.routes) i x at in
     let route = item_at p.routes x place.1 in
@@ -127,18 +127,18 @@ route_has_line p plant i x at =
 point_has_line : (p : PlantLists) → IsPlant p → (i x : ℕ) → slice_get (point_sections_in_order p) i ≡ Some x → HasLine (point_from_line p) x
 point_has_line p plant i x at = (point_line p x plus_point_state, plus_point_state, point_back p plant x plus_point_state (point_known p i x at))
 
-board_has_line : (p : PlantLists) → IsPlant p → (i x : ℕ) → slice_get (indices_of_items p.boards) i ≡ Some x → HasLine (board_from_line p) x
+board_has_line : (p : PlantLists) → IsPlant p → (i x : ℕ) → slice_get (indices_of_list p.boards) i ≡ Some x → HasLine (board_from_line p) x
 board_has_line p plant i x at = (board_line p x Closed, Closed, board_back p plant x Closed (range_within (length p.boards) i x at).1)
 
-lock_has_line : (p : PlantLists) → IsPlant p → (i x : ℕ) → slice_get (indices_of_items p.sections) i ≡ Some x → HasLine (lock_from_line p) x
+lock_has_line : (p : PlantLists) → IsPlant p → (i x : ℕ) → slice_get (indices_of_list p.sections) i ≡ Some x → HasLine (lock_from_line p) x
 lock_has_line p plant i x at = (section_line p x Free, Free, lock_back p plant x Free (range_within (length p.sections) i x at).1)
 
 state_by_line : (p : PlantLists) → IsPlant p → IsByLine 3 (state_read p)
 state_by_line p plant =
-    each_by_line (route_from_line p) (indices_of_items p.routes) 3 (points_read p) (route_has_line p plant) (λ routes.
+    each_by_line (route_from_line p) (indices_of_list p.routes) 3 (points_read p) (route_has_line p plant) (λ routes.
     each_by_line (point_from_line p) (point_sections_in_order p) _ (boards_read p routes) (point_has_line p plant) (λ points.
-    each_by_line (board_from_line p) (indices_of_items p.boards) _ (locks_read p routes points) (board_has_line p plant) (λ boards.
-    each_by_line (lock_from_line p) (indices_of_items p.sections) _ (trains_read p routes points boards) (lock_has_line p plant) (λ locks.
+    each_by_line (board_from_line p) (indices_of_list p.boards) _ (locks_read p routes points) (board_has_line p plant) (λ boards.
+    each_by_line (lock_from_line p) (indices_of_list p.sections) _ (trains_read p routes points boards) (lock_has_line p plant) (λ locks.
     leading_by_line (train_from_line p) (codes "events") _ (λ trains. events_read p (record { routes = routes; points = points; boards = boards; locks = locks; trains = trains }) false) refl (λ trains n.
     events_by_line p (record { routes = routes; points = points; boards = boards; locks = locks; trains = trains }) false n)))))
 
@@ -147,7 +147,8 @@ begin_read p lines bytes = beginning_from_lines p lines >>= with_events p bytes
 
 begins : (p : PlantLists) → Bytes → List Bytes → Bytes → Bool → Bool → Result Told ℕ
 begins p line more bytes is_start is_state =
-    cond {A = Result BeginningAndEventLines ℕ} is_start (Ok (record { first = start p; from_start = true; number = 3; lines = more })) (cond {A = Result BeginningAndEventLines ℕ} is_state (state_from_lines p more) (Err 2)) >>= with_events p bytes
+    cond {A = Result FirstStateAndEventLines ℕ} is_start (Ok (record { first = start p; from_start = true; number = 3; lines = more }))
+    (cond {A = Result FirstStateAndEventLines ℕ} is_state (full_state_from_lines p more) (Err 2)) >>= with_events p bytes
 
 begin_by_line : (p : PlantLists) → IsPlant p → IsByLine 2 (begin_read p)
 unfolding begins

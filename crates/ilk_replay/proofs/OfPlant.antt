@@ -14,7 +14,7 @@ use Rattle.ilk_plant.specs.Shape.{HasShape}
 use Rattle.ilk_plant.specs.declared.network.Section.{Section}
 use Rattle.ilk_model.specs.declared.event.Event.{Event}
 use Rattle.ilk_lines.specs.Lines.{Bytes, unterminated_tail, lines_of}
-use Rattle.ilk_lines.specs.Reading.{expect_first_line, expect_end_of_text, item_values_from_lines, leading_values, indices_of_items}
+use Rattle.ilk_lines.specs.Reading.{expect_first_line, expect_end_of_text, item_values_from_lines, leading_values, indices_of_list}
 use Rattle.ilk_lines.specs.Words.{split_at_first_space}
 use Rattle.ilk_base.proofs.Results.{bind_ok, ok_is}
 use Rattle.ilk_base.proofs.Options.{bind_some, or_cases}
@@ -23,7 +23,7 @@ use Rattle.ilk_replay.specs.EventLine.{event_from_line, point_named}
 use Rattle.ilk_replay.specs.EventSubjects.{event_with_keyword_and_subject}
 use Rattle.ilk_replay.specs.RunText.{run_text}
 use Rattle.ilk_replay.specs.StateLine.{board_from_line, lock_from_line, point_from_line, route_from_line, train_from_line}
-use Rattle.ilk_replay.specs.StateTold.{BeginningAndEventLines, point_sections_in_order, state_from_lines}
+use Rattle.ilk_replay.specs.StateTold.{FirstStateAndEventLines, point_sections_in_order, full_state_from_lines}
 use Rattle.ilk_replay.specs.Told.{beginning_from_lines, events_from_lines, run_from_text, run_from_lines, run_from_start}
 use Rattle.ilk_replay.specs.Writable.{HasNoBadLine, IsSubjectOfPlant, IsEventSubjectOfPlant, IsRunOfPlant, IsRunText, IsTextOfRun}
 use Rattle.ilk_replay.specs.declared.event_line.Subject.{Subject}
@@ -82,18 +82,18 @@ events_from_lines-about p plant n lines bytes events e =
     let end = bind_ok (expect_end_of_text (n + length found + 1) v.0 bytes) _ events v.2 in
     subst (All (IsEventSubjectOfPlant p)) (ok_is end.2) (leading_all (event_from_line p) (IsEventSubjectOfPlant p) (event_from_line-about p plant) lines)
 
-abbrev BeginsWell : PlantLists → BeginningAndEventLines → Type 0
+abbrev BeginsWell : PlantLists → FirstStateAndEventLines → Type 0
 BeginsWell p b = HasShape p b.first × (b.from_start ≡ true → b.first ≡ start p)
 
 from_neither : {P : Type 0} → false ≡ true → P
 from_neither e = cc
 
-state_from_lines-begins : (p : PlantLists) (lines : List Bytes) (b : BeginningAndEventLines) → state_from_lines p lines ≡ Ok b → BeginsWell p b
-state_from_lines-begins p lines b e =
-    let r = bind_ok (item_values_from_lines (route_from_line p) (indices_of_items p.routes) 3 lines) _ b e in
+full_state_from_lines-begins : (p : PlantLists) (lines : List Bytes) (b : FirstStateAndEventLines) → full_state_from_lines p lines ≡ Ok b → BeginsWell p b
+full_state_from_lines-begins p lines b e =
+    let r = bind_ok (item_values_from_lines (route_from_line p) (indices_of_list p.routes) 3 lines) _ b e in
     let q = bind_ok (item_values_from_lines (point_from_line p) (point_sections_in_order p) r.0.number r.0.lines) _ b r.2 in
-    let m = bind_ok (item_values_from_lines (board_from_line p) (indices_of_items p.boards) q.0.number q.0.lines) _ b q.2 in
-    let k = bind_ok (item_values_from_lines (lock_from_line p) (indices_of_items p.sections) m.0.number m.0.lines) _ b m.2 in
+    let m = bind_ok (item_values_from_lines (board_from_line p) (indices_of_list p.boards) q.0.number q.0.lines) _ b q.2 in
+    let k = bind_ok (item_values_from_lines (lock_from_line p) (indices_of_list p.sections) m.0.number m.0.lines) _ b m.2 in
     let trains = leading_values (train_from_line p) k.0.lines in
     let v = bind_ok (expect_first_line (codes "events") (k.0.number + length trains) (drop (length trains) k.0.lines)) _ b k.2 in
     let same : made r.0.values q.0.values m.0.values k.0.values trains (k.0.number + length trains + 1) v.0 ≡ b = ok_is v.2 in
@@ -103,18 +103,18 @@ state_from_lines-begins p lines b e =
     k.0.lines k.0.lines r.1 q.1 m.1 k.1 refl in
     subst (BeginsWell p) same (shape, λ other. from_neither other)
 
-beginning_from_lines-begins : (p : PlantLists) (lines : List Bytes) (b : BeginningAndEventLines) → beginning_from_lines p lines ≡ Ok b → BeginsWell p b
+beginning_from_lines-begins : (p : PlantLists) (lines : List Bytes) (b : FirstStateAndEventLines) → beginning_from_lines p lines ≡ Ok b → BeginsWell p b
 beginning_from_lines-begins p [] b e = cc
 beginning_from_lines-begins p (line ∷ more) b e = by_start (bytes_eq line (codes "start")) e
   where
-    by_state : (c : Bool) → cond {A = Result BeginningAndEventLines ℕ} c (state_from_lines p more) (Err 2) ≡ Ok b → BeginsWell p b
-    by_state true that = state_from_lines-begins p more b that
+    by_state : (c : Bool) → cond {A = Result FirstStateAndEventLines ℕ} c (full_state_from_lines p more) (Err 2) ≡ Ok b → BeginsWell p b
+    by_state true that = full_state_from_lines-begins p more b that
     by_state false that = cc
 
-    starts : BeginningAndEventLines
+    starts : FirstStateAndEventLines
     starts = record { first = start p; from_start = true; number = 3; lines = more }
 
-    by_start : (c : Bool) → cond {A = Result BeginningAndEventLines ℕ} c (Ok starts) (cond {A = Result BeginningAndEventLines ℕ} (bytes_eq line (codes "state")) (state_from_lines p more) (Err 2)) ≡ Ok b → BeginsWell p b
+    by_start : (c : Bool) → cond {A = Result FirstStateAndEventLines ℕ} c (Ok starts) (cond {A = Result FirstStateAndEventLines ℕ} (bytes_eq line (codes "state")) (full_state_from_lines p more) (Err 2)) ≡ Ok b → BeginsWell p b
     by_start true that = subst (BeginsWell p) (ok_is that) (start-shape p, λ from. refl)
     by_start false that = by_state (bytes_eq line (codes "state")) that
 

@@ -16,25 +16,26 @@ use Rattle.ilk_model.specs.declared.event.Event.{Event}
 use Rattle.ilk_model.specs.declared.event.Event.TheVariants.{Mark, Allocate, Lock, Sense, Release, Finish, Throw, Settle, Enter, Head, Tail, Leave, Cancel}
 use Rattle.ilk_replay.specs.EventLine.{event_from_line, event_from_keyword_and_name, point_named}
 use Rattle.ilk_replay.specs.EventSubjects.{event_with_keyword_and_subject}
-use Rattle.ilk_replay.specs.RunText.{event_line, name_with_number}
+use Rattle.ilk_replay.specs.RunText.{event_line, name_at_index_or_empty}
 use Rattle.ilk_replay.specs.Writable.{IsEventSubjectOfPlant}
 use Rattle.ilk_replay.specs.declared.event_line.Subject.{Subject}
 use Rattle.ilk_replay.specs.declared.event_line.Subject.TheVariants.{Route, Point, Section as AtSection}
 use Rattle.ilk_replay.proofs.Written.{of_point, of_section}
 
-pub named_back : (names : List Bytes) (i : ℕ) → names_differ names ≡ true → i < length names → first_number_named names (name_with_number names i) ≡ Some i
+pub named_back : (names : List Bytes) (i : ℕ) → names_differ names ≡ true → i < length names → first_number_named names (name_at_index_or_empty names i) ≡ Some i
 named_back names i once within =
     let here : slice_get names i ≡ Some (get_or names i []) = slice_get-get_or names i [] within in
-    first_number_named-own names (name_with_number names i) i (names_differ-places names once) (here ∙ ap Some (sym (ap (λ (o : Option Bytes). unwrap_or o []) here)))
+    first_number_named-own names (name_at_index_or_empty names i) i (names_differ-places names once) (here ∙ ap Some (sym (ap (λ (o : Option Bytes). unwrap_or o []) here)))
 
 no_event : {X : Type 0} (o : Option X) (word : Bytes) (about : X → Subject) → ((x : X) → event_with_keyword_and_subject word (about x) ≡ None) → (o >>= (λ x. event_with_keyword_and_subject word (about x))) ≡ None
 no_event None word about none = refl
 no_event (Some x) word about none = none x
 
-route_back : (p : PlantLists) (word : Bytes) (r : ℕ) (event : Event) → IsPlant p → r < length p.routes → event_with_keyword_and_subject word (Route r) ≡ Some event → event_from_keyword_and_name p word (name_with_number p.route_names r) ≡ Some event
+route_back : (p : PlantLists) (word : Bytes) (r : ℕ) (event : Event) → IsPlant p → r < length p.routes → event_with_keyword_and_subject word (Route r) ≡ Some event → event_from_keyword_and_name p word (name_at_index_or_empty p.route_names r)
+    ≡ Some event
 route_back p word r event plant within tells =
     let named = plant.routes_named in
-    let name : Bytes = name_with_number p.route_names r in
+    let name : Bytes = name_at_index_or_empty p.route_names r in
     let first : first_number_named p.route_names name ≡ Some r = named_back p.route_names r plant.route_names_differ (omega arith) in
     ap (λ (o : Option ℕ). option_or (o >>= (λ x. event_with_keyword_and_subject word (Route x))) (option_or (of_point p word name) (of_section p word name))) first
     ∙ ap (λ (o : Option Event). option_or o (option_or (of_point p word name) (of_section p word name))) tells
@@ -48,10 +49,10 @@ found_point p x e = by_section (slice_get p.sections x) refl e
 
 point_back : (p : PlantLists) (word : Bytes) (x : ℕ) (event : Event) → IsPlant p →
     is_point_section p x ≡ true → ((r : ℕ) → event_with_keyword_and_subject word (Route r) ≡ None) →
-    event_with_keyword_and_subject word (Point x) ≡ Some event → event_from_keyword_and_name p word (name_with_number p.section_names x) ≡ Some event
+    event_with_keyword_and_subject word (Point x) ≡ Some event → event_from_keyword_and_name p word (name_at_index_or_empty p.section_names x) ≡ Some event
 point_back p word x event plant at none tells =
     let named = plant.sections_named in
-    let name : Bytes = name_with_number p.section_names x in
+    let name : Bytes = name_at_index_or_empty p.section_names x in
     let found = found_point p x at in
     let within = slice_get_within p.sections x found.0 found.1 in
     let first : first_number_named p.section_names name ≡ Some x = named_back p.section_names x plant.section_names_differ (omega arith) in
@@ -64,10 +65,10 @@ point_back p word x event plant at none tells =
 
 section_back : (p : PlantLists) (word : Bytes) (x : ℕ) (event : Event) → IsPlant p → x < length p.sections →
     ((r : ℕ) → event_with_keyword_and_subject word (Route r) ≡ None) → ((y : ℕ) → event_with_keyword_and_subject word (Point y) ≡ None) →
-    event_with_keyword_and_subject word (AtSection x) ≡ Some event → event_from_keyword_and_name p word (name_with_number p.section_names x) ≡ Some event
+    event_with_keyword_and_subject word (AtSection x) ≡ Some event → event_from_keyword_and_name p word (name_at_index_or_empty p.section_names x) ≡ Some event
 section_back p word x event plant within none none_point tells =
     let named = plant.sections_named in
-    let name : Bytes = name_with_number p.section_names x in
+    let name : Bytes = name_at_index_or_empty p.section_names x in
     let first : first_number_named p.section_names name ≡ Some x = named_back p.section_names x plant.section_names_differ (omega arith) in
     ap (λ (o : Option Event). option_or o (option_or (of_point p word name) (of_section p word name))) (no_event (first_number_named p.route_names name) word Route none)
     ∙ ap (λ (o : Option Event). option_or o (of_section p word name)) (no_event (point_named p name) word Point none_point)

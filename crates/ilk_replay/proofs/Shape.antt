@@ -19,7 +19,7 @@ use Rattle.ilk_plant.specs.declared.state.Train.{Train}
 use Rattle.ilk_plant.specs.declared.table.Route.{Route}
 use Rattle.ilk_lines.specs.Decimal.{decimal_up_to}
 use Rattle.ilk_lines.specs.Lines.{Bytes}
-use Rattle.ilk_lines.specs.Reading.{item_values_from_lines, leading_values, indices_of_items}
+use Rattle.ilk_lines.specs.Reading.{item_values_from_lines, leading_values, indices_of_list}
 use Rattle.ilk_lines.specs.Words.{split_at_first_space, words_of}
 use Rattle.ilk_lines.proofs.Decimals.{decimal-within}
 use Rattle.ilk_lines.proofs.EachTold.{each_ok, value_at}
@@ -73,28 +73,28 @@ train_body p line train e =
 pub shaped : (p : PlantLists) →
     (routes : List RouteState) (points : List PointState) (boards : List Aspect) (locks : List Hold)
     (trains : List Train) (n1 m1 n2 m2 n3 m3 n4 m4 : ℕ) (l1 k1 l2 k2 l3 k3 l4 k4 l5 : List Bytes) →
-    item_values_from_lines (route_from_line p) (indices_of_items p.routes) n1 l1
+    item_values_from_lines (route_from_line p) (indices_of_list p.routes) n1 l1
     ≡ Ok (record { values = routes; number = m1; lines = k1 }) →
     item_values_from_lines (point_from_line p) (point_sections_in_order p) n2 l2
     ≡ Ok (record { values = points; number = m2; lines = k2 }) →
-    item_values_from_lines (board_from_line p) (indices_of_items p.boards) n3 l3
+    item_values_from_lines (board_from_line p) (indices_of_list p.boards) n3 l3
     ≡ Ok (record { values = boards; number = m3; lines = k3 }) →
-    item_values_from_lines (lock_from_line p) (indices_of_items p.sections) n4 l4
+    item_values_from_lines (lock_from_line p) (indices_of_list p.sections) n4 l4
     ≡ Ok (record { values = locks; number = m4; lines = k4 }) →
     trains ≡ leading_values (train_from_line p) l5 →
     HasShape p (record { routes = routes; points = points; boards = boards; locks = locks; trains = trains })
 shaped p routes points boards locks trains n1 m1 n2 m2 n3 m3 n4 m4 l1 k1 l2 k2 l3 k3 l4 k4 l5 a b c d e =
-    let ra = each_ok (route_from_line p) (indices_of_items p.routes) n1 l1 (record { values = routes; number = m1; lines = k1 }) a in
+    let ra = each_ok (route_from_line p) (indices_of_list p.routes) n1 l1 (record { values = routes; number = m1; lines = k1 }) a in
     let rb = each_ok (point_from_line p) (point_sections_in_order p) n2 l2 (record { values = points; number = m2; lines = k2 }) b in
-    let rc = each_ok (board_from_line p) (indices_of_items p.boards) n3 l3 (record { values = boards; number = m3; lines = k3 }) c in
-    let rd = each_ok (lock_from_line p) (indices_of_items p.sections) n4 l4 (record { values = locks; number = m4; lines = k4 }) d in
+    let rc = each_ok (board_from_line p) (indices_of_list p.boards) n3 l3 (record { values = boards; number = m3; lines = k3 }) c in
+    let rd = each_ok (lock_from_line p) (indices_of_list p.sections) n4 l4 (record { values = locks; number = m4; lines = k4 }) d in
     record {
       routes = ra.1 ∙ length-range_with_len 0 (length p.routes);
       points = rb.1 ∙ point_sections_in_order-length p;
       boards = rc.1 ∙ length-range_with_len 0 (length p.boards);
       locks = rd.1 ∙ length-range_with_len 0 (length p.sections);
       counts = λ r route now here at.
-          (let v = value_at (route_from_line p) (indices_of_items p.routes) l1 r now (ap (λ xs. slice_get xs r) (sym ra.0) ∙ at) in
+          (let v = value_at (route_from_line p) (indices_of_list p.routes) l1 r now (ap (λ xs. slice_get xs r) (sym ra.0) ∙ at) in
           let same : v.0 ≡ r = range_get 0 (length p.routes) r v.0 v.2 ∙ zero-add r in
           route_within p v.0 v.1 now route v.3 (ap (slice_get p.routes) same ∙ here));
       bodies = ap (list_all (has_nonempty_connected_body p)) e ∙ list_all-from_All (has_nonempty_connected_body p) (leading_values (train_from_line p) l5) (leading_all (train_from_line p) (λ t. has_nonempty_connected_body p t ≡ true)

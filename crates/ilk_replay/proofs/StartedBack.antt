@@ -21,14 +21,14 @@ use Rattle.ilk_replay.specs.declared.event_line.Subject.{Subject}
 use Rattle.ilk_replay.specs.declared.event_line.Subject.TheVariants.{Route, Point, Section}
 use Rattle.ilk_replay.specs.EventLine.{event_from_line}
 use Rattle.ilk_replay.specs.Told.{events_from_lines, run_from_text, run_from_lines, run_from_start}
-use Rattle.ilk_replay.specs.RunText.{event_line, name_with_number, run_text, subject_name}
+use Rattle.ilk_replay.specs.RunText.{event_line, name_at_index_or_empty, run_text, subject_name}
 use Rattle.ilk_replay.specs.Writable.{IsEventSubjectOfPlant}
 use Rattle.ilk_replay.proofs.PlainNames.{HasPlainNames}
 use Rattle.ilk_replay.specs.declared.told.Tale.TheVariants.{Told as IsTold}
 use Rattle.ilk_replay.proofs.WrittenRun.{answered}
 use Rattle.ilk_replay.proofs.ReadBack.{event_back}
 
-pub name_lacks : (c : ℕ) (names : List Bytes) (i : ℕ) → All (LacksByte c) names → LacksByte c (name_with_number names i)
+pub name_lacks : (c : ℕ) (names : List Bytes) (i : ℕ) → All (LacksByte c) names → LacksByte c (name_at_index_or_empty names i)
 name_lacks c names i plain = by_place (slice_get names i) refl
   where
     by_place : (o : Option Bytes) → slice_get names i ≡ o → LacksByte c (unwrap_or o [])

@@ -5,7 +5,7 @@ use Rattle.std.specs.List.{list_all}
 use Rattle.ilk_base.proofs.Lists.{drop_from}
 use Rattle.ilk_base.proofs.Tested.{All-tested}
 use Rattle.ilk_lines.specs.Lines.{Bytes}
-use Rattle.ilk_lines.specs.Reading.{indices_of_items}
+use Rattle.ilk_lines.specs.Reading.{indices_of_list}
 use Rattle.ilk_lines.specs.Written.{lines_of_items, text_of}
 use Rattle.ilk_base.proofs.Ranges.{passing_within}
 use Rattle.ilk_plant.specs.Plant.{PlantLists, is_point_section}
@@ -16,7 +16,7 @@ use Rattle.ilk_plant.specs.Words.{direction_word}
 use Rattle.ilk_replay.proofs.Shape.{point_sections_in_order-length}
 use Rattle.ilk_replay.proofs.StateBack.{body_known}
 use Rattle.ilk_plant.specs.Plant.{IsPlant}
-use Rattle.ilk_replay.specs.RunText.{board_line, name_with_number, point_line, route_line, section_line, state_lines, train_line}
+use Rattle.ilk_replay.specs.RunText.{board_line, name_at_index_or_empty, point_line, route_line, section_line, full_state_lines, train_line}
 use Rattle.ilk_replay.specs.StateTold.{point_sections_in_order}
 use Rattle.ilk_lines.proofs.TextLines.{text_of-append}
 
@@ -52,19 +52,19 @@ trains-are p [] = refl
 trains-are p (train ∷ trains) = ap (λ (t : Bytes). (train_line p train ++ 10 ∷ []) ++ t) (trains-are p trains)
 
 pub state_is : (p : PlantLists) (s : State) (start : Bytes) →
-    ((((start ++ text_of (lines_of_items (route_line p) (indices_of_items p.routes) s.routes))
+    ((((start ++ text_of (lines_of_items (route_line p) (indices_of_list p.routes) s.routes))
     ++ text_of (lines_of_items (point_line p) (point_sections_in_order p) s.points))
-    ++ text_of (lines_of_items (board_line p) (indices_of_items p.boards) s.boards))
-    ++ text_of (lines_of_items (section_line p) (indices_of_items p.sections) s.locks))
+    ++ text_of (lines_of_items (board_line p) (indices_of_list p.boards) s.boards))
+    ++ text_of (lines_of_items (section_line p) (indices_of_list p.sections) s.locks))
     ++ flat_map (λ train. train_line p train ++ 10 ∷ []) s.trains
-    ≡ start ++ text_of (state_lines p s)
+    ≡ start ++ text_of (full_state_lines p s)
 state_is p s start =
-    let a : List Bytes = lines_of_items (route_line p) (indices_of_items p.routes) s.routes in
+    let a : List Bytes = lines_of_items (route_line p) (indices_of_list p.routes) s.routes in
     let b : List Bytes = lines_of_items (point_line p) (point_sections_in_order p) s.points in
-    let c : List Bytes = lines_of_items (board_line p) (indices_of_items p.boards) s.boards in
-    let d : List Bytes = lines_of_items (section_line p) (indices_of_items p.sections) s.locks in
+    let c : List Bytes = lines_of_items (board_line p) (indices_of_list p.boards) s.boards in
+    let d : List Bytes = lines_of_items (section_line p) (indices_of_list p.sections) s.locks in
     let e : List Bytes = map (train_line p) s.trains in
-    let parts : text_of (state_lines p s) ≡ (((text_of a ++ text_of b) ++ text_of c) ++ text_of d) ++ text_of e =
+    let parts : text_of (full_state_lines p s) ≡ (((text_of a ++ text_of b) ++ text_of c) ++ text_of d) ++ text_of e =
     text_of-append (((a ++ b) ++ c) ++ d) e
     ∙ ap (λ (t : Bytes). t ++ text_of e) (text_of-append ((a ++ b) ++ c) d ∙ ap (λ (t : Bytes). t ++ text_of d) (text_of-append (a ++ b) c ∙ ap (λ (t : Bytes). t ++ text_of c) (text_of-append a b))) in
     ap (λ (t : Bytes). ((((start ++ text_of a) ++ text_of b) ++ text_of c) ++ text_of d) ++ t) (trains-are p s.trains)
@@ -73,8 +73,9 @@ state_is p s start =
     regroup : (z a b c d e : Bytes) → ((((z ++ a) ++ b) ++ c) ++ d) ++ e ≡ z ++ ((((a ++ b) ++ c) ++ d) ++ e)
     regroup z a b c d e = simp append_assoc
 
-pub train_is : (p : PlantLists) (train : Train) (start : Bytes) → ((start ++ (codes "train " ++ direction_word train.dir)) ++ flat_map (λ x. 32 ∷ name_with_number p.section_names x) train.body) ++ codes "\n" ≡ start ++ (train_line p train ++ 10 ∷ [])
-train_is p train start = regroup start (codes "train ") (direction_word train.dir) (flat_map (λ x. 32 ∷ name_with_number p.section_names x) train.body) (codes "\n")
+pub train_is : (p : PlantLists) (train : Train) (start : Bytes) → ((start ++ (codes "train " ++ direction_word train.dir)) ++ flat_map (λ x. 32 ∷ name_at_index_or_empty p.section_names x) train.body) ++ codes "\n" ≡ start
+    ++ (train_line p train ++ 10 ∷ [])
+train_is p train start = regroup start (codes "train ") (direction_word train.dir) (flat_map (λ x. 32 ∷ name_at_index_or_empty p.section_names x) train.body) (codes "\n")
   where
     regroup : (z a b c d : Bytes) → ((z ++ (a ++ b)) ++ c) ++ d ≡ z ++ ((a ++ (b ++ c)) ++ d)
     regroup z a b c d = simp append_assoc

@@ -6,10 +6,10 @@ use Rattle.std.proofs.lemmas.List.Quantifiers.{position-Some}
 use Rattle.std.proofs.lemmas.Option.{unwrap_or-slice_get, cond_some}
 use Rattle.std.proofs.lemmas.Slice.Eq.{bytes_eq-Decides}
 use Rattle.ilk_lines.specs.Lines.{Bytes}
-use Rattle.ilk_lines.specs.Words.{strip_first_word, split_at_first_space}
+use Rattle.ilk_lines.specs.Words.{strip_word_and_space, split_at_first_space}
 use Rattle.ilk_lines.specs.Written.{join_word_and_rest}
 use Rattle.ilk_base.proofs.Options.{bind_some, or_cases}
-use Rattle.ilk_lines.proofs.LineWords.{strip_first_word-joins, split_at_first_space-joins}
+use Rattle.ilk_lines.proofs.LineWords.{strip_word_and_space-joins, split_at_first_space-joins}
 use Rattle.ilk_replay.proofs.WordTables.{Each, first_value_with_word-each, first_value_with_word-word}
 use Rattle.ilk_base.specs.Option.{◌>>=◌}
 use Rattle.ilk_plant.specs.Network.{is_point}
@@ -19,14 +19,14 @@ use Rattle.ilk_replay.specs.EventLine.{event_from_line, event_from_keyword_and_n
 use Rattle.ilk_model.specs.EventWords.{event_word}
 use Rattle.ilk_replay.specs.EventSubjects.{event_with_keyword_and_subject, events_about, subject}
 use Rattle.ilk_replay.specs.StateLine.{rest_after_kind_and_name}
-use Rattle.ilk_replay.specs.RunText.{event_line, name_with_number, subject_name}
+use Rattle.ilk_replay.specs.RunText.{event_line, name_at_index_or_empty, subject_name}
 use Rattle.ilk_replay.specs.declared.event_line.Subject.{Subject}
 use Rattle.ilk_replay.specs.declared.event_line.Subject.TheVariants.{Route, Point, Section}
 
 pub rest_after_kind_and_name-joins : (kind name line text : Bytes) → rest_after_kind_and_name kind name line ≡ Some text → line ≡ join_word_and_rest kind (join_word_and_rest name text)
 rest_after_kind_and_name-joins kind name line text e =
-    let a = bind_some (strip_first_word kind line) _ text e in
-    strip_first_word-joins kind line a.0 a.1 ∙ ap (join_word_and_rest kind) (strip_first_word-joins name a.0 text a.2)
+    let a = bind_some (strip_word_and_space kind line) _ text e in
+    strip_word_and_space-joins kind line a.0 a.1 ∙ ap (join_word_and_rest kind) (strip_word_and_space-joins name a.0 text a.2)
 
 pub all_about : (about : Subject) → Each (λ event. subject event ≡ about) (events_about about)
 all_about (Route r) = (refl, (refl, (refl, (refl, (refl, (refl, (refl, tt)))))))
@@ -41,7 +41,7 @@ event_with_keyword_and_subject-line p word about event e =
     ap (λ w. join_word_and_rest w (subject_name p about)) (first_value_with_word-word event_word (events_about about) word event e)
     ∙ ap (λ s. join_word_and_rest (event_word event) (subject_name p s)) (sym (event_with_keyword_and_subject-about word about event e))
 
-pub named-name : (names : List Bytes) (name : Bytes) (i : ℕ) → first_number_named names name ≡ Some i → name ≡ name_with_number names i
+pub named-name : (names : List Bytes) (name : Bytes) (i : ℕ) → first_number_named names name ≡ Some i → name ≡ name_at_index_or_empty names i
 named-name names name i e =
     let found = position-Some (bytes_eq name) names i [] e in
     (bytes_eq-Decides name (get_or names i [])).0 found.1 ∙ sym (unwrap_or-slice_get names i [])
@@ -66,7 +66,7 @@ of_point-line p word name event e =
     let c = bind_some (first_number_named p.section_names name) _ b.0 b.1 in
     let d = bind_some (slice_get p.sections c.0) _ b.0 c.2 in
     let same : c.0 ≡ b.0 = (cond_some (is_point d.0) c.0 b.0 d.2).1 in
-    ap (join_word_and_rest word) (named-name p.section_names name c.0 c.1 ∙ ap (name_with_number p.section_names) same) ∙ event_with_keyword_and_subject-line p word (Point b.0) event b.2
+    ap (join_word_and_rest word) (named-name p.section_names name c.0 c.1 ∙ ap (name_at_index_or_empty p.section_names) same) ∙ event_with_keyword_and_subject-line p word (Point b.0) event b.2
 
 of_section-line : (p : PlantLists) (word name : Bytes) (event : Event) → of_section p word name ≡ Some event → join_word_and_rest word name ≡ event_line p event
 of_section-line p word name event e =

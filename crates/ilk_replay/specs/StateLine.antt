@@ -2,7 +2,7 @@
 use Rattle.std.specs.Prelude.{ℕ, Option, Some, List, [], ◌∷◌, codes, length, slice_get}
 use Rattle.ilk_lines.specs.Decimal.{decimal_up_to}
 use Rattle.ilk_lines.specs.Lines.{Bytes}
-use Rattle.ilk_lines.specs.Words.{strip_first_word, split_at_first_space, words_of}
+use Rattle.ilk_lines.specs.Words.{strip_word_and_space, split_at_first_space, words_of}
 use Rattle.ilk_base.specs.Option.{◌>>=◌, then_some}
 use Rattle.ilk_plant.specs.Plant.{PlantLists, first_number_named}
 use Rattle.ilk_plant.specs.Shape.{has_nonempty_connected_body}
@@ -18,8 +18,8 @@ use Rattle.ilk_plant.specs.Words.{aspect_from_word, direction_from_word, hold_fr
 -- `None` if the line doesn't begin so.
 abbrev pub rest_after_kind_and_name : Bytes → Bytes → Bytes → Option Bytes
 rest_after_kind_and_name kind name line = do
-  rest ← strip_first_word kind line
-  strip_first_word name rest
+  rest ← strip_word_and_space kind line
+  strip_word_and_space name rest
 
 -- Returns a route's state from a text: its mode, then its counts `seen` and `rel`, each at most
 -- `limit`. Returns `None` for any other text.
@@ -86,7 +86,7 @@ sections_named p (name ∷ more) = do
 -- names. Returns `None` for any other line.
 abbrev pub dir_and_names_from_words : Bytes → Option (Dir × Bytes)
 dir_and_names_from_words line = do
-  rest ← strip_first_word (codes "train") line
+  rest ← strip_word_and_space (codes "train") line
   words ← split_at_first_space rest
   dir ← direction_from_word words.0
   Some (dir, words.1)

@@ -3,7 +3,7 @@ ghost use Rattle.ilk_replay.specs.StateLine.{board_from_line, lock_from_line, po
 ghost use Rattle.ilk_lines.specs.Words.{words_of};
 
 use crate::names::section_named;
-use ilk_lines::{decimal_up_to, split_at_first_space, split_off_first_word, strip_first_word};
+use ilk_lines::{decimal_up_to, split_at_first_space, split_off_first_word, strip_word_and_space};
 use ilk_plant::{
     Aspect, Dir, Hold, Lie, Mode, Plant, PointState, Position, RouteState, Row, Train,
 };
@@ -13,7 +13,7 @@ fn said_of<'a>(kind: &[u8], name: &[u8], line: &'a [u8]) -> Option<&'a [u8]>
     ensures { option_map (λ text. text.now) result ≡
         rest_after_kind_and_name kind.now name.now line.now }
 {
-    strip_first_word(strip_first_word(line, kind)?, name)
+    strip_word_and_space(strip_word_and_space(line, kind)?, name)
 }
 
 fn route_said(limit: u32, text: &[u8]) -> Option<RouteState>
@@ -109,7 +109,7 @@ fn sections_named(
 fn train_said(line: &[u8]) -> Option<(Dir, &[u8])>
     ensures { option_map (λ said. (said.0, said.1.now)) result ≡ dir_and_names_from_words line.now }
 {
-    let rest = strip_first_word(line, b"train")?;
+    let rest = strip_word_and_space(line, b"train")?;
     let (dir, names) = split_at_first_space(rest)?;
     Some((Dir::from_word(dir)?, names))
 }

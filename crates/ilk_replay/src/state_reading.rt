@@ -1,10 +1,10 @@
 ghost use Rattle.std.specs.Prelude.{◌≡◌, IfOk, OnOk};
 ghost use Rattle.std.specs.List.{range_with_len};
 ghost use Rattle.ilk_lines.specs.Answers.{PrefixMatchesUnlessOutOfMemory, parsed_prefix_from_parts};
-ghost use Rattle.ilk_lines.specs.Reading.{item_values_from_lines, parsed_prefix, indices_of_items};
+ghost use Rattle.ilk_lines.specs.Reading.{item_values_from_lines, parsed_prefix, indices_of_list};
 ghost use Rattle.ilk_plant.specs.Shape.{HasShape};
 ghost use Rattle.ilk_replay.specs.StateLine.{board_from_line, lock_from_line, point_from_line, route_from_line, train_from_line};
-ghost use Rattle.ilk_replay.specs.StateTold.{point_sections_in_order, state_from_lines};
+ghost use Rattle.ilk_replay.specs.StateTold.{point_sections_in_order, full_state_from_lines};
 ghost use Rattle.ilk_replay.specs.Reading.{StateReadMatchesDefinition};
 
 use crate::state_line::{
@@ -45,7 +45,7 @@ fn read_routes(
     lines: &mut Lines,
 ) -> Result<Row<RouteState>, LineFault>
     ensures told { PrefixMatchesUnlessOutOfMemory
-        (item_values_from_lines (route_from_line plant.now) (indices_of_items plant.now.routes)
+        (item_values_from_lines (route_from_line plant.now) (indices_of_list plant.now.routes)
         lines.old.number
         lines.old.lines) lines.new result }
     ensures after { OnOk result (lines.new.after ≡ lines.old.after) }
@@ -81,7 +81,7 @@ fn read_points(
 
 fn read_boards(alloc: Global, plant: &Plant, lines: &mut Lines) -> Result<Row<Aspect>, LineFault>
     ensures told { PrefixMatchesUnlessOutOfMemory
-        (item_values_from_lines (board_from_line plant.now) (indices_of_items plant.now.boards)
+        (item_values_from_lines (board_from_line plant.now) (indices_of_list plant.now.boards)
         lines.old.number
         lines.old.lines) lines.new result }
     ensures after { OnOk result (lines.new.after ≡ lines.old.after) }
@@ -97,7 +97,7 @@ fn read_boards(alloc: Global, plant: &Plant, lines: &mut Lines) -> Result<Row<As
 
 fn read_locks(alloc: Global, plant: &Plant, lines: &mut Lines) -> Result<Row<Hold>, LineFault>
     ensures told { PrefixMatchesUnlessOutOfMemory
-        (item_values_from_lines (lock_from_line plant.now) (indices_of_items plant.now.sections)
+        (item_values_from_lines (lock_from_line plant.now) (indices_of_list plant.now.sections)
         lines.old.number
         lines.old.lines) lines.new result }
     ensures after { OnOk result (lines.new.after ≡ lines.old.after) }
@@ -127,7 +127,7 @@ pub(crate) fn read_state(
     lines: &mut Lines,
 ) -> Result<State, LineFault>
     requires { lines.old.number ≡ 3 }
-    ensures told { StateReadMatchesDefinition (state_from_lines plant.now lines.old.lines)
+    ensures told { StateReadMatchesDefinition (full_state_from_lines plant.now lines.old.lines)
         lines.new result }
     ensures after { OnOk result (lines.new.after ≡ lines.old.after) }
     ensures shape { IfOk result (HasShape plant.now) }

@@ -1,8 +1,8 @@
 ghost use Rattle.std.specs.Prelude.{◌≡◌, ◌<◌, ◌++◌, ◌∷◌, [], All, flat_map, length, string_bytes, OnOk};
-ghost use Rattle.ilk_lines.specs.Reading.{indices_of_items};
+ghost use Rattle.ilk_lines.specs.Reading.{indices_of_list};
 ghost use Rattle.ilk_lines.specs.Written.{lines_of_items, text_of};
 ghost use Rattle.ilk_plant.specs.Shape.{HasShape};
-ghost use Rattle.ilk_replay.specs.RunText.{board_line, name_with_number, point_line, route_line, section_line, state_lines, train_line};
+ghost use Rattle.ilk_replay.specs.RunText.{board_line, name_at_index_or_empty, point_line, route_line, section_line, full_state_lines, train_line};
 ghost use Rattle.ilk_replay.specs.StateTold.{point_sections_in_order};
 
 use crate::state_reading::point_sections_in_order;
@@ -53,7 +53,7 @@ fn push_name(text: &mut String, plant: &Plant, x: u32) -> Result<(), AllocError>
     requires { x < length plant.now.sections }
     ensures { OnOk result
         (string_bytes text.new ≡ string_bytes text.old ++
-        32 ∷ name_with_number plant.now.section_names x) }
+        32 ∷ name_at_index_or_empty plant.now.section_names x) }
 {
     write!(text, " {}", plant.section_name(x))
 }
@@ -63,7 +63,7 @@ fn push_names(text: &mut String, plant: &Plant, body: &[u32]) -> Result<(), Allo
     ensures { OnOk result
         (string_bytes text.new
         ≡ string_bytes text.old
-        ++ flat_map (λ x. 32 ∷ name_with_number plant.now.section_names x) body.now) }
+        ++ flat_map (λ x. 32 ∷ name_at_index_or_empty plant.now.section_names x) body.now) }
 {
     for x in body {
         push_name(text, plant, *x)?;
@@ -89,7 +89,7 @@ fn push_routes(text: &mut String, plant: &Plant, routes: &Row<RouteState>) -> Re
         (string_bytes text.new
         ≡ string_bytes text.old
         ++ text_of
-        (lines_of_items (route_line plant.now) (indices_of_items plant.now.routes) routes.now)) }
+        (lines_of_items (route_line plant.now) (indices_of_list plant.now.routes) routes.now)) }
 {
     for r in 0..plant.routes() {
         push_route(text, plant, r, routes.at(r as u64))?;
@@ -123,7 +123,7 @@ fn push_boards(text: &mut String, plant: &Plant, boards: &Row<Aspect>) -> Result
         (string_bytes text.new
         ≡ string_bytes text.old
         ++ text_of
-        (lines_of_items (board_line plant.now) (indices_of_items plant.now.boards) boards.now)) }
+        (lines_of_items (board_line plant.now) (indices_of_list plant.now.boards) boards.now)) }
 {
     for m in 0..plant.boards() {
         push_board(text, plant, m, *boards.at(m as u64))?;
@@ -137,7 +137,7 @@ fn push_sections(text: &mut String, plant: &Plant, locks: &Row<Hold>) -> Result<
         (string_bytes text.new
         ≡ string_bytes text.old
         ++ text_of
-        (lines_of_items (section_line plant.now) (indices_of_items plant.now.sections)
+        (lines_of_items (section_line plant.now) (indices_of_list plant.now.sections)
         locks.now)) }
 {
     for x in 0..plant.sections() {
@@ -169,7 +169,8 @@ pub(crate) fn push_state(
 ) -> Result<(), AllocError>
     requires { HasShape plant.now s.now }
     ensures { OnOk result
-        (string_bytes text.new ≡ string_bytes text.old ++ text_of (state_lines plant.now s.now)) }
+        (string_bytes text.new ≡ string_bytes text.old
+        ++ text_of (full_state_lines plant.now s.now)) }
 {
     plant.prove_is_plant();
     push_routes(text, plant, &s.routes)?;

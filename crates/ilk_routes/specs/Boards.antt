@@ -1,6 +1,6 @@
 -- The aspects of boards, and the boards that must stay closed for a route.
 use Rattle.std.specs.Prelude.{ℕ, Bool, true, false, ◌&&◌, length, slice_get}
-use Rattle.ilk_base.specs.Each.{any_below}
+use Rattle.ilk_base.specs.Each.{is_true_for_any_below}
 use Rattle.ilk_base.specs.Option.{is_some_and}
 use Rattle.ilk_base.specs.Numbers.{has_number}
 use Rattle.ilk_plant.specs.Plant.{PlantLists}
@@ -26,4 +26,4 @@ is_protecting_board p q m = is_some_and (slice_get p.routes q) (λ route. has_nu
 
 -- Returns whether some Locked route lists board `m` as a protecting board.
 abbrev pub is_protecting_locked_route : PlantLists → State → ℕ → Bool
-is_protecting_locked_route p s m = any_below (length p.routes) (λ q. has_mode s q Locked && is_protecting_board p q m)
+is_protecting_locked_route p s m = is_true_for_any_below (length p.routes) (λ q. has_mode s q Locked && is_protecting_board p q m)

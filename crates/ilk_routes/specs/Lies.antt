@@ -3,7 +3,7 @@ use Rattle.std.specs.Prelude.{ℕ, Bool, true, false, Option, None, List, [], �
 use Rattle.std.specs.Option.{option_or}
 use Rattle.ilk_base.specs.Option.{is_some_and, then_some}
 use Rattle.ilk_plant.specs.Plant.{PlantLists, point_number}
-use Rattle.ilk_plant.specs.State.{detected_position}
+use Rattle.ilk_plant.specs.State.{detected_position_in_state}
 use Rattle.ilk_plant.specs.declared.network.Position.{Position}
 use Rattle.ilk_plant.specs.declared.network.Position.TheVariants.{Plus, Minus}
 use Rattle.ilk_plant.specs.declared.state.Lie.{Lie}
@@ -14,10 +14,10 @@ use Rattle.ilk_plant.specs.declared.table.Listed.{Listed}
 use Rattle.ilk_base.specs.Numbered.{map_numbered}
 
 -- Returns whether a detected position is moving.
-abbrev pub is_detected_moving : Lie → Bool
-is_detected_moving LiesPlus = false
-is_detected_moving LiesMinus = false
-is_detected_moving Moving = true
+abbrev pub is_lie_moving : Lie → Bool
+is_lie_moving LiesPlus = false
+is_lie_moving LiesMinus = false
+is_lie_moving Moving = true
 
 -- The detected position, plus or minus, that equals a commanded position.
 abbrev pub lie_from_position : Position → Lie
@@ -31,8 +31,8 @@ is_lie_at_position LiesMinus Minus = true
 is_lie_at_position lie position = false
 
 -- Returns whether the point in `listed` is detected in the position listed there.
-abbrev pub is_detected_as_listed : PlantLists → State → Listed → Bool
-is_detected_as_listed p s listed = is_some_and (detected_position p s listed.point) (λ lie. is_lie_at_position lie listed.at)
+abbrev pub is_point_detected_as_listed : PlantLists → State → Listed → Bool
+is_point_detected_as_listed p s listed = is_some_and (detected_position_in_state p s listed.point) (λ lie. is_lie_at_position lie listed.at)
 
 -- Returns whether `listed` lists the point with number `n`.
 abbrev pub is_entry_for_point : PlantLists → ℕ → Listed → Bool

@@ -13,7 +13,7 @@ use Rattle.ilk_plant.specs.declared.state.State.{State}
 use Rattle.ilk_plant.specs.declared.table.Route.{Route}
 use Rattle.ilk_routes.specs.Boards.{has_aspect, is_protecting_locked_route}
 use Rattle.ilk_routes.specs.Claims.{sections_outside_path, required_points}
-use Rattle.ilk_routes.specs.Lies.{is_detected_as_listed, with_commands}
+use Rattle.ilk_routes.specs.Lies.{is_point_detected_as_listed, with_commands}
 use Rattle.ilk_routes.specs.Locks.{with_locks}
 use Rattle.ilk_routes.specs.Modes.{is_allocating_or_locked, same_mode}
 use Rattle.ilk_plant.specs.Network.{last_of}
@@ -50,7 +50,7 @@ after_allocate p s r = do
 -- boards are Closed, and no Locked route has its source as a protecting board.
 abbrev pub can_lock_if_allocating : PlantLists → State → Route → Bool
 can_lock_if_allocating p s route =
-    list_all (is_detected_as_listed p s) (required_points route)
+    list_all (is_point_detected_as_listed p s) (required_points route)
     && list_all (λ m. has_aspect s m Closed) route.protecting_boards
     && not (is_protecting_locked_route p s route.source)
 

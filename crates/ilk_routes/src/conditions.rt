@@ -9,14 +9,14 @@ ghost use Rattle.ilk_plant.specs.declared.state.Mode.TheVariants.{Locked};
 ghost use Rattle.ilk_routes.specs.Boards.{has_aspect, is_protecting_locked_route, is_protecting_board};
 ghost use Rattle.ilk_plant.specs.TableRules.{sections_locked_for};
 ghost use Rattle.ilk_routes.specs.Claims.{required_points};
-ghost use Rattle.ilk_routes.specs.Lies.{is_detected_moving, lie_from_position, is_detected_as_listed, is_lie_at_position};
+ghost use Rattle.ilk_routes.specs.Lies.{is_lie_moving, lie_from_position, is_point_detected_as_listed, is_lie_at_position};
 ghost use Rattle.ilk_routes.specs.Modes.{has_mode, is_allocating_or_locked};
 ghost use Rattle.ilk_routes.specs.Routes.{can_allocate_if_marked, can_lock_if_allocating};
 
 use ilk_base::has_number;
 use ilk_plant::{
-    Aspect, Lie, Listed, Mode, Plant, Position, Route, RouteState, Row, State, detected_position,
-    is_unlocked_and_vacant,
+    Aspect, Lie, Listed, Mode, Plant, Position, Route, RouteState, Row, State,
+    detected_position_in_state, is_unlocked_and_vacant,
 };
 
 /// Returns whether route `r` is in mode `mode`.
@@ -91,8 +91,8 @@ pub fn last_of(sections: &Row<u32>) -> u32
 }
 
 /// Returns whether the detected position `lie` is moving.
-pub(crate) fn is_detected_moving(lie: Lie) -> bool
-    ensures { result ≡ is_detected_moving lie }
+pub(crate) fn is_lie_moving(lie: Lie) -> bool
+    ensures { result ≡ is_lie_moving lie }
 {
     lie == Lie::Moving
 }
@@ -115,26 +115,26 @@ pub(crate) fn is_lie_at_position(lie: Lie, position: Position) -> bool
 }
 
 /// Returns whether the point in `listed` is detected in the position listed there.
-pub fn is_detected_as_listed(plant: &Plant, s: &State, listed: &Listed) -> bool
-    ensures { result ≡ is_detected_as_listed plant.now s.now listed.now }
+pub fn is_point_detected_as_listed(plant: &Plant, s: &State, listed: &Listed) -> bool
+    ensures { result ≡ is_point_detected_as_listed plant.now s.now listed.now }
 {
-    match detected_position(plant, s, listed.point) {
+    match detected_position_in_state(plant, s, listed.point) {
         Some(lie) => is_lie_at_position(lie, listed.at),
         None => false,
     }
 }
 
 fn all_lie_as_listed(plant: &Plant, s: &State, points: &Row<Listed>) -> bool
-    ensures { result ≡ list_all (is_detected_as_listed plant.now s.now) points.now }
+    ensures { result ≡ list_all (is_point_detected_as_listed plant.now s.now) points.now }
 {
     points
         .as_slice()
         .iter()
-        .all(|listed| is_detected_as_listed(plant, s, listed))
+        .all(|listed| is_point_detected_as_listed(plant, s, listed))
 }
 
 fn all_wanted_lie(plant: &Plant, s: &State, route: &Route) -> bool
-    ensures { result ≡ list_all (is_detected_as_listed plant.now s.now)
+    ensures { result ≡ list_all (is_point_detected_as_listed plant.now s.now)
         (required_points route.now) }
 {
     all_lie_as_listed(plant, s, &route.points)

@@ -16,7 +16,7 @@ mod points;
 mod routes;
 
 pub use conditions::{
-    all_boards_closed, has_aspect, is_detected_as_listed, is_protecting_board, last_of,
+    all_boards_closed, has_aspect, is_point_detected_as_listed, is_protecting_board, last_of,
     lie_from_position,
 };
 pub use points::{step_settle, step_throw};

@@ -2,7 +2,7 @@ ghost use Rattle.std.specs.Prelude.{◌≡◌, is_some, unwrap_or};
 ghost use Rattle.ilk_plant.specs.Shape.{HasShape};
 ghost use Rattle.ilk_routes.specs.Points.{after_settle, after_throw};
 
-use crate::conditions::{is_detected_moving, is_lie_at_position, lie_from_position};
+use crate::conditions::{is_lie_at_position, is_lie_moving, lie_from_position};
 use ilk_plant::{Lie, Plant, State, point_number_at};
 
 fn throw(plant: &Plant, s: &mut State, p: u32) -> bool
@@ -14,7 +14,7 @@ fn throw(plant: &Plant, s: &mut State, p: u32) -> bool
         return false;
     };
     let point = *s.points.at(n as u64);
-    if is_detected_moving(point.at) || is_lie_at_position(point.at, point.to) {
+    if is_lie_moving(point.at) || is_lie_at_position(point.at, point.to) {
         return false;
     }
     s.points.at_mut(n as u64).at = Lie::Moving;
@@ -30,7 +30,7 @@ fn settle(plant: &Plant, s: &mut State, p: u32) -> bool
         return false;
     };
     let point = *s.points.at(n as u64);
-    if !is_detected_moving(point.at) {
+    if !is_lie_moving(point.at) {
         return false;
     }
     s.points.at_mut(n as u64).at = lie_from_position(point.to);

@@ -17,8 +17,8 @@ use Rattle.ilk_log.specs.Fresh.{other_lits}
 use Rattle.ilk_log.proofs.Closed.{Within, lone-is}
 use Rattle.ilk_learn.proofs.Derived.{false-from, false-at, has-negated_lit, unit-one}
 use Rattle.ilk_learn.proofs.Members.{kept-at, kept-from}
-use Rattle.ilk_rup.specs.Accepted.{FollowsByHints}
-use Rattle.ilk_rup.specs.Alike.{AreEquivalent, HasConsequencesOf, SomeHintsEndInConflict}
+use Rattle.ilk_rup.specs.Accepted.{FollowsBySomeHints}
+use Rattle.ilk_rup.specs.Alike.{AreEquivalent, HasConsequencesOf, HasHintsToConflict}
 
 pub ends-first : (cs : List (List Literal)) (set next : List Literal) (h : ℕ) (hints : List ℕ) → after_hint cs set h ≡ Some next → hints_end_in_conflict cs next hints ≡ true → hints_end_in_conflict cs set (h ∷ hints) ≡ true
 ends-first cs set next h [] t e = absurd (true≢false (sym e))
@@ -26,15 +26,15 @@ ends-first cs set next h (k ∷ hints) t e = ap (λ (o : Option (List Literal)).
 
 -- Hints end whenever more is set, and `l` is among it.
 abbrev EndsWith : List (List Literal) → List Literal → Literal → Type 0
-EndsWith ds all l = (top : List Literal) → Within all top → has_lit l top ≡ true → SomeHintsEndInConflict ds top
+EndsWith ds all l = (top : List Literal) → Within all top → has_lit l top ≡ true → HasHintsToConflict ds top
 
 -- Hints over `ds` replace clause `d`: they end if it is false, and they can set its forced literal.
 pub record Behind (ds : List (List Literal)) (d : List Literal) : Type 0 where
-  pub ends : (set : List Literal) → is_falsified set d ≡ true → SomeHintsEndInConflict ds set
-  pub forces : (set all : List Literal) (l : Literal) → Within set all → unit_lit set d ≡ Some l → EndsWith ds all l → SomeHintsEndInConflict ds all
+  pub ends : (set : List Literal) → is_falsified set d ≡ true → HasHintsToConflict ds set
+  pub forces : (set all : List Literal) (l : Literal) → Within set all → unit_lit set d ≡ Some l → EndsWith ds all l → HasHintsToConflict ds all
 
 pub covered : (ds cs : List (List Literal)) → ((i : ℕ) (d : List Literal) → slice_get cs i ≡ Some d → Behind ds d) → (hints : List ℕ) (set all : List Literal) → Within set all → hints_end_in_conflict cs set hints ≡ true →
-    SomeHintsEndInConflict ds all
+    HasHintsToConflict ds all
 covered ds cs b [] set all w e = absurd (true≢false (sym e))
 covered ds cs b (zero ∷ []) set all w e = absurd (true≢false (sym e))
 covered ds cs b (suc i ∷ []) set all w e = (let r = some-and (slice_get cs i) (is_falsified set) e in (b i r.0 r.1).ends all (false-from all r.0 (λ m h. w (negated_lit m) (false-at set r.0 m r.2 h))))
@@ -72,16 +72,16 @@ alone all l = (let e : same_lit l l ≡ true = same-lit l in rw e refl)
 only : (l x : Literal) → has_lit x (l ∷ []) ≡ true → x ≡ l
 only l x h = elim (or_cases (same_lit x l) false h) [ inl e ↦ lit-is x l e | inr e ↦ absurd (true≢false (sym e)) ]
 
-ends-at : (ds : List (List Literal)) (i : ℕ) (d set : List Literal) → slice_get ds i ≡ Some d → is_falsified set d ≡ true → SomeHintsEndInConflict ds set
+ends-at : (ds : List (List Literal)) (i : ℕ) (d set : List Literal) → slice_get ds i ≡ Some d → is_falsified set d ≡ true → HasHintsToConflict ds set
 ends-at ds i d set at f = (suc i ∷ [], rw at f)
 
-ends-unit : (ds : List (List Literal)) (i : ℕ) (d all : List Literal) (l : Literal) → slice_get ds i ≡ Some d → unit_lit all d ≡ Some l → EndsWith ds all l → SomeHintsEndInConflict ds all
+ends-unit : (ds : List (List Literal)) (i : ℕ) (d all : List Literal) (l : Literal) → slice_get ds i ≡ Some d → unit_lit all d ≡ Some l → EndsWith ds all l → HasHintsToConflict ds all
 ends-unit ds i d all l at u k =
     let e = k (l ∷ all) (λ m h. or_right (same_lit m l) (has_lit m all) h) (own l all) in
     (suc i ∷ e.0, ends-first ds all (l ∷ all) (suc i) e.0 (rw at (rw u refl)) e.1)
 
 ends-forced : (ds : List (List Literal)) (i : ℕ) (d all : List Literal) (l : Literal) → slice_get ds i ≡ Some d → has_distinct_vars d ≡ true → has_lit l d ≡ true → is_falsified all (other_lits l d) ≡ true → EndsWith ds all l →
-    SomeHintsEndInConflict ds all
+    HasHintsToConflict ds all
 ends-forced ds i d all l at differ h o k = elim (cases_Bool (has_lit (negated_lit l) all)) [
   | inl t ↦ ends-at ds i d all at (all-false all d l o t)
   | inr t ↦ elim (cases_Bool (has_lit l all)) [
@@ -140,7 +140,7 @@ behind-alone ds i l c at h = record {
 
 cleared : (ds : List (List Literal)) (ms all : List Literal) →
     ((m : Literal) → has_lit m ms ≡ true → (i : ℕ) × (slice_get ds i ≡ Some (negated_lit m ∷ []))) →
-    ((top : List Literal) → Within all top → is_falsified top ms ≡ true → SomeHintsEndInConflict ds top) → SomeHintsEndInConflict ds all
+    ((top : List Literal) → Within all top → is_falsified top ms ≡ true → HasHintsToConflict ds top) → HasHintsToConflict ds all
 cleared ds [] all b k = k all (λ m h. h) refl
 cleared ds (m ∷ ms) all b k =
     let u = b m (own m ms) in
@@ -181,7 +181,7 @@ alike-more cs ds xs k = record { there = covers-more ds cs k.there; back = cover
   where
     covers-more : (ds cs : List (List Literal)) → HasConsequencesOf ds cs → HasConsequencesOf (ds ++ xs) (cs ++ xs)
     covers-more ds cs c = λ more set e.
-        (let P : List (List Literal) → Type 0 = λ ys. SomeHintsEndInConflict ys set in
+        (let P : List (List Literal) → Type 0 = λ ys. HasHintsToConflict ys set in
         subst P (sym (append_assoc ds xs more)) (c (xs ++ more) set (subst P (append_assoc cs xs more) e)))
 
 alike-spare : (cs : List (List Literal)) (d : List Literal) → ((more : List (List Literal)) → Behind (cs ++ more) d) → AreEquivalent (cs ++ d ∷ []) cs
@@ -212,26 +212,26 @@ alike-same cs c d v w f g = record { there = one c d w f g; back = one d c v g f
           subst P b.1 (behind-same ((cs ++ d ∷ []) ++ more) (length cs) d c (at-before (cs ++ d ∷ []) more (length cs) d (last-at cs d)) w f g))
     ])
 
-pub follows-alike : (n : ℕ) (cs ds : List (List Literal)) (c : List Literal) → AreEquivalent cs ds → FollowsByHints n cs c → FollowsByHints n ds c
+pub follows-alike : (n : ℕ) (cs ds : List (List Literal)) (c : List Literal) → AreEquivalent cs ds → FollowsBySomeHints n cs c → FollowsBySomeHints n ds c
 follows-alike n cs ds c k h =
     let p = and_parts (is_clause_over n c && has_distinct_vars c) (hints_end_in_conflict cs (negated_clause c) h.0) h.1 in
-    let P : List (List Literal) → Type 0 = λ ys. SomeHintsEndInConflict ys (negated_clause c) in
+    let P : List (List Literal) → Type 0 = λ ys. HasHintsToConflict ys (negated_clause c) in
     let e = subst P (append-nil ds) (k.there [] (negated_clause c) (subst P (sym (append-nil cs)) (h.0, p.1))) in
     (e.0, and_from (is_clause_over n c && has_distinct_vars c) (hints_end_in_conflict ds (negated_clause c) e.0) p.0 e.1)
 
-ends-any : (cs more : List (List Literal)) (set : List Literal) → SomeHintsEndInConflict cs [] → SomeHintsEndInConflict (cs ++ more) set
+ends-any : (cs more : List (List Literal)) (set : List Literal) → HasHintsToConflict cs [] → HasHintsToConflict (cs ++ more) set
 ends-any cs more set e = covered (cs ++ more) cs (λ i x at. behind-own (cs ++ more) i x (at-before cs more i x at)) e.0 [] set (λ m x. absurd (true≢false (sym x))) e.1
 
-pub follows-any : (n : ℕ) (cs : List (List Literal)) (c : List Literal) → is_clause_over n c ≡ true → has_distinct_vars c ≡ true → FollowsByHints n cs [] → FollowsByHints n cs c
+pub follows-any : (n : ℕ) (cs : List (List Literal)) (c : List Literal) → is_clause_over n c ≡ true → has_distinct_vars c ≡ true → FollowsBySomeHints n cs [] → FollowsBySomeHints n cs c
 follows-any n cs c w d h =
-    let P : List (List Literal) → Type 0 = λ ys. SomeHintsEndInConflict ys (negated_clause c) in
+    let P : List (List Literal) → Type 0 = λ ys. HasHintsToConflict ys (negated_clause c) in
     let e = subst P (append-nil cs) (ends-any cs [] (negated_clause c) h) in
     (e.0, and_from (is_clause_over n c && has_distinct_vars c) (hints_end_in_conflict cs (negated_clause c) e.0) (and_from (is_clause_over n c) (has_distinct_vars c) w d) e.1)
 
-pub alike-ended : (n : ℕ) (cs : List (List Literal)) (c : List Literal) → FollowsByHints n cs [] → AreEquivalent (cs ++ c ∷ []) cs
+pub alike-ended : (n : ℕ) (cs : List (List Literal)) (c : List Literal) → FollowsBySomeHints n cs [] → AreEquivalent (cs ++ c ∷ []) cs
 alike-ended n cs c h = alike-spare cs c (λ more. record { ends = λ set f. ends-any cs more set h; forces = λ set all l w u k. ends-any cs more all h })
 
-pub follows-known : (n : ℕ) (cs : List (List Literal)) (i : ℕ) (l : Literal) (c : List Literal) → slice_get cs i ≡ Some (l ∷ []) → has_lit l c ≡ true → is_clause_over n c ≡ true → has_distinct_vars c ≡ true → FollowsByHints n cs c
+pub follows-known : (n : ℕ) (cs : List (List Literal)) (i : ℕ) (l : Literal) (c : List Literal) → slice_get cs i ≡ Some (l ∷ []) → has_lit l c ≡ true → is_clause_over n c ≡ true → has_distinct_vars c ≡ true → FollowsBySomeHints n cs c
 follows-known n cs i l c at h w d =
     let e = ends-at cs i (l ∷ []) (negated_clause c) at (and_from (has_lit (negated_lit l) (negated_clause c)) true (has-negated_lit c l h) refl) in
     (e.0, and_from (is_clause_over n c && has_distinct_vars c) (hints_end_in_conflict cs (negated_clause c) e.0) (and_from (is_clause_over n c) (has_distinct_vars c) w d) e.1)

@@ -4,7 +4,7 @@ use Rattle.std.specs.Prelude.{flat_map, ◌==◌}
 use Rattle.std.specs.List.{filter, onto_first, slice_split}
 use Rattle.std.proofs.lemmas.Bool.{cases_Bool}
 use Rattle.ilk_lines.specs.Lines.{Bytes, parts_at}
-use Rattle.ilk_rup.specs.RefutationText.{is_blank, is_comment, is_empty_word, line_words, text_words, words_in}
+use Rattle.ilk_rup.specs.RefutationText.{is_blank, is_comment, is_empty_word, words_unless_comment, text_words, words_in}
 
 abbrev some : List Bytes → ℕ
 some parts = length (filter (λ part. not (is_empty_word part)) parts)
@@ -44,10 +44,10 @@ lines-fit : (text : Bytes) → all-words (parts_at 10 text) ≤ length text
 lines-fit [] = omega arith
 lines-fit (x ∷ text) = split-all (x == 10) x (parts_at 10 text) (length text) (lines-fit text)
 
-fewer : (lines : List Bytes) → length (flat_map line_words lines) ≤ all-words lines
+fewer : (lines : List Bytes) → length (flat_map words_unless_comment lines) ≤ all-words lines
 fewer [] = omega arith
 fewer (line ∷ lines) =
-    let a = length-append (line_words line) (flat_map line_words lines) in
+    let a = length-append (words_unless_comment line) (flat_map words_unless_comment lines) in
     let b = length-append (words_in line) (flat_map words_in lines) in
     let m = fewer lines in
     elim (cases_Bool (is_comment line)) [
@@ -55,23 +55,23 @@ fewer (line ∷ lines) =
       | inr t ↦ same line lines (rw t refl) a b m
     ]
   where
-    fit : (line : Bytes) (lines : List Bytes) → length (line_words line) ≡ 0 →
-        length (line_words line ++ flat_map line_words lines)
-        ≡ length (line_words line) + length (flat_map line_words lines) →
+    fit : (line : Bytes) (lines : List Bytes) → length (words_unless_comment line) ≡ 0 →
+        length (words_unless_comment line ++ flat_map words_unless_comment lines)
+        ≡ length (words_unless_comment line) + length (flat_map words_unless_comment lines) →
         length (words_in line ++ flat_map words_in lines)
         ≡ length (words_in line) + length (flat_map words_in lines) →
-        length (flat_map line_words lines) ≤ length (flat_map words_in lines) →
-        length (line_words line ++ flat_map line_words lines)
+        length (flat_map words_unless_comment lines) ≤ length (flat_map words_in lines) →
+        length (words_unless_comment line ++ flat_map words_unless_comment lines)
         ≤ length (words_in line ++ flat_map words_in lines)
     fit line lines z a b m = omega (arith, z, a, b, m)
 
-    same : (line : Bytes) (lines : List Bytes) → length (line_words line) ≡ length (words_in line) →
-        length (line_words line ++ flat_map line_words lines)
-        ≡ length (line_words line) + length (flat_map line_words lines) →
+    same : (line : Bytes) (lines : List Bytes) → length (words_unless_comment line) ≡ length (words_in line) →
+        length (words_unless_comment line ++ flat_map words_unless_comment lines)
+        ≡ length (words_unless_comment line) + length (flat_map words_unless_comment lines) →
         length (words_in line ++ flat_map words_in lines)
         ≡ length (words_in line) + length (flat_map words_in lines) →
-        length (flat_map line_words lines) ≤ length (flat_map words_in lines) →
-        length (line_words line ++ flat_map line_words lines)
+        length (flat_map words_unless_comment lines) ≤ length (flat_map words_in lines) →
+        length (words_unless_comment line ++ flat_map words_unless_comment lines)
         ≤ length (words_in line ++ flat_map words_in lines)
     same line lines z a b m = omega (arith, z, a, b, m)
 

@@ -10,7 +10,7 @@ use Rattle.ilk_log.specs.Derived.{hints_end_in_conflict, negated_clause}
 use Rattle.ilk_log.specs.Fresh.{other_lits}
 use Rattle.ilk_learn.proofs.Derived.{false-from, false-at, unit-one, has-negated_lit, negated_lit-of}
 use Rattle.ilk_learn.proofs.Members.{kept-at, no-var, same-var, var-of}
-use Rattle.ilk_rup.specs.Needs.{AreNeededAfterClause, HintsFalsifyGivenNeeded, unit_hints_of_needed}
+use Rattle.ilk_rup.specs.Needs.{AreNeededLitsAfterClause, HintsFalsifyGivenNeededLits, unit_hints_of_needed}
 use Rattle.ilk_rup.proofs.Alike.{ends-first}
 use Rattle.ilk_rup.proofs.Signs.{var-either}
 
@@ -26,7 +26,7 @@ not-in m xs f = elim (cases_Bool (has_lit m xs)) [ inl t ↦ absurd (f t) | inr 
 pub shows-start : (cs : List (List Literal)) (all set d needed : List Literal) (i : ℕ) →
     slice_get cs i ≡ Some d → has_distinct_vars all ≡ true →
     ((m : Literal) → has_lit m d ≡ true → (has_lit m set ≡ true) ⊎ (has_lit (negated_lit m) all ≡ true)) →
-    AreNeededAfterClause set d [] needed → HintsFalsifyGivenNeeded cs all all set needed (suc i ∷ [])
+    AreNeededLitsAfterClause set d [] needed → HintsFalsifyGivenNeededLits cs all all set needed (suc i ∷ [])
 shows-start cs all set d needed i at differ f n = record {
   apart = λ x h. elim (n.made x h) [ inl y ↦ absurd (true≢false (sym y)) | inr y ↦ y.1 ];
   within = within;
@@ -54,8 +54,8 @@ pub record Next (before more : List Literal) (l : Literal) : Type 0 where
   pub only : (m : Literal) → has_lit m more ≡ true → (has_lit m before ≡ true) ⊎ (m ≡ l)
   pub unset : has_var l.var before ≡ false
 
-pub shows-skip : (cs : List (List Literal)) (all before more set needed : List Literal) (l : Literal) (hints : List ℕ) → Next before more l → has_lit l needed ≡ false → HintsFalsifyGivenNeeded cs all more set needed hints
-    → HintsFalsifyGivenNeeded cs all before set needed hints
+pub shows-skip : (cs : List (List Literal)) (all before more set needed : List Literal) (l : Literal) (hints : List ℕ) → Next before more l → has_lit l needed ≡ false → HintsFalsifyGivenNeededLits cs all more set needed hints
+    → HintsFalsifyGivenNeededLits cs all before set needed hints
 shows-skip cs all before more set needed l hints n u s = record {
   apart = s.apart;
   within = s.within;
@@ -71,8 +71,8 @@ pub shows-step :
     Next before more l → has_lit l needed ≡ true → slice_get cs r ≡ Some d → has_distinct_vars d ≡ true →
     has_lit l d ≡ true → is_falsified before (other_lits l d) ≡ true → has_var l.var set ≡ false →
     has_distinct_vars all ≡ true → ((m : Literal) → has_lit m before ≡ true → has_lit m all ≡ true) →
-    AreNeededAfterClause set d needed next → HintsFalsifyGivenNeeded cs all more set needed hints →
-    HintsFalsifyGivenNeeded cs all before set next (suc r ∷ hints)
+    AreNeededLitsAfterClause set d needed next → HintsFalsifyGivenNeededLits cs all more set needed hints →
+    HintsFalsifyGivenNeededLits cs all before set next (suc r ∷ hints)
 shows-step cs all before more set needed next d l r hints n u at differ own falsified away once inside k s = record {
   apart = λ x h. elim (k.made x h) [ inl y ↦ s.apart x y | inr y ↦ y.1 ];
   within = within;
@@ -180,7 +180,7 @@ take-units cs units hints now (l ∷ ls) d f e =
 pub shows-end :
     (cs : List (List Literal)) (all before set needed : List Literal) (units hints : List ℕ)
     (c : List Literal) →
-    HintsFalsifyGivenNeeded cs all before set needed hints → has_distinct_vars needed ≡ true →
+    HintsFalsifyGivenNeededLits cs all before set needed hints → has_distinct_vars needed ≡ true →
     ((x : Literal) (k : ℕ) → has_lit x needed ≡ true → get_or units x.var 0 ≡ suc k →
     (slice_get cs k ≡ Some (x ∷ [])) × (has_lit x set ≡ false) × (has_lit x before ≡ true)) →
     ((x : Literal) → has_lit x needed ≡ true → has_lit x before ≡ true →

@@ -8,7 +8,7 @@ use Rattle.ilk_cnf.specs.Formula.{is_tautology}
 use Rattle.ilk_cnf.proofs.Gates.{negated_lit-negated_lit}
 use Rattle.ilk_cnf.proofs.SameLiterals.{same-lit, lit-is}
 use Rattle.ilk_lines.specs.Lines.{Bytes}
-use Rattle.ilk_rup.specs.RefutationText.{with_word_in_first, is_end, items_of, literal_of, literals_of}
+use Rattle.ilk_rup.specs.RefutationText.{with_word_in_first, is_item_end_word, split_words_into_items, literal_of, literals_of}
 use Rattle.ilk_rup.specs.Items.{more}
 
 -- The first item, after some words and literals were read.
@@ -16,7 +16,7 @@ pub record Before (n : ℕ) (words now : List Bytes) (ls : List Literal) : Type 
   pub front : List Bytes
   pub whole : words ≡ front ++ now
   pub lits : (w : Bytes) (ws : List Bytes) → literals_of n (front ++ w ∷ ws) ≡ option_map (λ ms. ls ++ ms) (literals_of n (w ∷ ws))
-  pub items : (w : Bytes) (ws item : List Bytes) (rest : List (List Bytes)) → items_of (w ∷ ws) ≡ item ∷ rest → items_of (front ++ w ∷ ws) ≡ (front ++ item) ∷ rest
+  pub items : (w : Bytes) (ws item : List Bytes) (rest : List (List Bytes)) → split_words_into_items (w ∷ ws) ≡ item ∷ rest → split_words_into_items (front ++ w ∷ ws) ≡ (front ++ item) ∷ rest
 
 pub before-start : (n : ℕ) (words : List Bytes) → Before n words words []
 before-start n words = record {
@@ -37,40 +37,41 @@ first-lits n word w ws l ls e = ap (λ (o : Option Literal). option_map (λ ms. 
     go None = refl
     go (Some ms) = ap (λ (xs : List Literal). Some xs) (sym (append_assoc ls (l ∷ []) ms))
 
-pub before-next : (n : ℕ) (words rest : List Bytes) (word : Bytes) (ls : List Literal) (l : Literal) → Before n words (word ∷ rest) ls → is_end word ≡ false → literal_of n word ≡ Some l → Before n words rest (ls ++ l ∷ [])
+pub before-next : (n : ℕ) (words rest : List Bytes) (word : Bytes) (ls : List Literal) (l : Literal) → Before n words (word ∷ rest) ls → is_item_end_word word ≡ false → literal_of n word ≡ Some l → Before n words rest (ls ++ l ∷ [])
 before-next n words rest word ls l b e k = record {
   front = b.front ++ word ∷ [];
   whole = b.whole ∙ sym (append_assoc b.front (word ∷ []) rest);
   lits = λ w ws. ap (literals_of n) (append_assoc b.front (word ∷ []) (w ∷ ws)) ∙ b.lits word (w ∷ ws) ∙ first-lits n word w ws l ls k;
-  items = λ w ws item more h. (let inner : items_of (word ∷ (w ∷ ws)) ≡ (word ∷ item) ∷ more = rw e (ap (with_word_in_first word) h) in
-      ap items_of (append_assoc b.front (word ∷ []) (w ∷ ws)) ∙ b.items word (w ∷ ws) (word ∷ item) more inner ∙ ap (λ (xs : List Bytes). xs ∷ more) (sym (append_assoc b.front (word ∷ []) item)));
+  items = λ w ws item more h. (let inner : split_words_into_items (word ∷ (w ∷ ws)) ≡ (word ∷ item) ∷ more = rw e (ap (with_word_in_first word) h) in
+      ap split_words_into_items (append_assoc b.front (word ∷ []) (w ∷ ws)) ∙ b.items word (w ∷ ws) (word ∷ item) more inner ∙ ap (λ (xs : List Bytes). xs ∷ more) (sym (append_assoc b.front (word ∷ []) item)));
 }
 
-pub read-end : (n : ℕ) (words rest : List Bytes) (word : Bytes) (ls : List Literal) → Before n words (word ∷ rest) ls → is_end word ≡ true → (item : List Bytes) × (items_of words ≡ item ∷ items_of rest) × (literals_of n item ≡ Some ls)
+pub read-end : (n : ℕ) (words rest : List Bytes) (word : Bytes) (ls : List Literal) → Before n words (word ∷ rest) ls → is_item_end_word word ≡ true → (item : List Bytes) × (split_words_into_items words ≡ item ∷ split_words_into_items rest)
+    × (literals_of n item ≡ Some ls)
 read-end n words rest word ls b e =
-    let inner : items_of (word ∷ rest) ≡ (word ∷ []) ∷ items_of rest = rw e refl in
+    let inner : split_words_into_items (word ∷ rest) ≡ (word ∷ []) ∷ split_words_into_items rest = rw e refl in
     let last : literals_of n (word ∷ []) ≡ Some [] = rw e refl in (
       b.front ++ word ∷ [],
-      ap items_of b.whole ∙ b.items word rest (word ∷ []) (items_of rest) inner,
+      ap split_words_into_items b.whole ∙ b.items word rest (word ∷ []) (split_words_into_items rest) inner,
       b.lits word [] ∙ ap (option_map (λ ms. ls ++ ms)) last ∙ ap (λ (xs : List Literal). Some xs) (append-nil ls),
     )
 
-pub first-item : (word : Bytes) (rest : List Bytes) → is_end word ≡ false → (tail : List Bytes) × (items : List (List Bytes)) × (items_of (word ∷ rest) ≡ (word ∷ tail) ∷ items)
-first-item word rest e = go (items_of rest) refl
+pub first-item : (word : Bytes) (rest : List Bytes) → is_item_end_word word ≡ false → (tail : List Bytes) × (items : List (List Bytes)) × (split_words_into_items (word ∷ rest) ≡ (word ∷ tail) ∷ items)
+first-item word rest e = go (split_words_into_items rest) refl
   where
-    go : (xs : List (List Bytes)) → items_of rest ≡ xs → (tail : List Bytes) × (items : List (List Bytes)) × (items_of (word ∷ rest) ≡ (word ∷ tail) ∷ items)
+    go : (xs : List (List Bytes)) → split_words_into_items rest ≡ xs → (tail : List Bytes) × (items : List (List Bytes)) × (split_words_into_items (word ∷ rest) ≡ (word ∷ tail) ∷ items)
     go [] h = ([], [], rw e (ap (with_word_in_first word) h))
     go (item ∷ items) h = (item, items, rw e (ap (with_word_in_first word) h))
 
 pub read-bad : (n : ℕ) (words rest : List Bytes) (word : Bytes) (ls : List Literal) →
-    Before n words (word ∷ rest) ls → is_end word ≡ false → literal_of n word ≡ None →
-    (item : List Bytes) × (items : List (List Bytes)) × (items_of words ≡ item ∷ items) ×
+    Before n words (word ∷ rest) ls → is_item_end_word word ≡ false → literal_of n word ≡ None →
+    (item : List Bytes) × (items : List (List Bytes)) × (split_words_into_items words ≡ item ∷ items) ×
     (literals_of n item ≡ None)
 read-bad n words rest word ls b e k =
     let f = first-item word rest e in (
       b.front ++ word ∷ f.0,
       f.1,
-      ap items_of b.whole ∙ b.items word rest (word ∷ f.0) f.1 f.2,
+      ap split_words_into_items b.whole ∙ b.items word rest (word ∷ f.0) f.1 f.2,
       b.lits word f.0 ∙ ap (option_map (λ ms. ls ++ ms)) (bad f.0),
     )
   where
@@ -78,13 +79,14 @@ read-bad n words rest word ls b e k =
     bad [] = rw e refl
     bad (w ∷ ws) = ap (λ (o : Option Literal). o >>= λ x. literals_of n (w ∷ ws) >>= λ xs. Some (x ∷ xs)) k
 
-pub read-cut : (n : ℕ) (words : List Bytes) (word : Bytes) (ls : List Literal) → Before n words (word ∷ []) ls → is_end word ≡ false → (item : List Bytes) × (items : List (List Bytes)) × (items_of words ≡ item ∷ items) × (literals_of n item ≡ None)
+pub read-cut : (n : ℕ) (words : List Bytes) (word : Bytes) (ls : List Literal) → Before n words (word ∷ []) ls → is_item_end_word word ≡ false → (item : List Bytes) × (items : List (List Bytes)) × (split_words_into_items words ≡ item ∷ items)
+    × (literals_of n item ≡ None)
 read-cut n words word ls b e =
-    let inner : items_of (word ∷ []) ≡ (word ∷ []) ∷ [] = rw e refl in
+    let inner : split_words_into_items (word ∷ []) ≡ (word ∷ []) ∷ [] = rw e refl in
     let last : literals_of n (word ∷ []) ≡ None = rw e refl in (
       b.front ++ word ∷ [],
       [],
-      ap items_of b.whole ∙ b.items word [] (word ∷ []) [] inner,
+      ap split_words_into_items b.whole ∙ b.items word [] (word ∷ []) [] inner,
       b.lits word [] ∙ ap (option_map (λ ms. ls ++ ms)) last,
     )
 

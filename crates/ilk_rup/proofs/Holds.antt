@@ -12,8 +12,8 @@ use Rattle.ilk_rup.proofs.Alike.{alike-join, alike-self}
 use Rattle.ilk_base.proofs.Ranges.{below_or_past}
 use Rattle.ilk_cnf.specs.Literal.{Literal, has_lit, negated_lit}
 use Rattle.ilk_cnf.specs.Formula.{Formula}
-use Rattle.ilk_arena.specs.Arena.{ArenaLists}
-use Rattle.ilk_watches.specs.Chained.{IsClauses, IsClauseAdded, SameClauses}
+use Rattle.ilk_arena.specs.Arena.{ArenaContent}
+use Rattle.ilk_watches.specs.Chained.{AreValidNumberedClauses, IsClauseAdded, SameClauses}
 use Rattle.ilk_watches.specs.Reasons.{nth_clause_or_empty, is_conflict, clause_forces_lit}
 use Rattle.ilk_log.specs.declared.step.Step.{Step}
 use Rattle.ilk_log.specs.Derived.{is_derived}
@@ -29,7 +29,7 @@ use Rattle.ilk_rup.specs.declared.base.DerivationState.{DerivationState}
 use Rattle.ilk_rup.specs.Alike.{AreEquivalent}
 use Rattle.ilk_rup.specs.LitSet.{LitSetList}
 use Rattle.ilk_rup.specs.Needs.{IsFalseBySetAndEntries, EntryHasReason, AreUnitHintsByVar}
-use Rattle.ilk_rup.specs.Standing.{IsBaseInvariant, KeepsConsequences, AreClausesLogged, KeepsConsequencesTrailAndConflicts, IsBeforeClosure, IsClosedOrRefuted}
+use Rattle.ilk_rup.specs.Standing.{IsBaseInvariant, KeepsConsequences, AreFormulaAndDerivedClauses, KeepsConsequencesTrailAndConflicts, IsValidClosedOrNot, IsClosedOrRefuted}
 use Rattle.ilk_rup.proofs.Keeping.{forced-more, known-more, logged-more}
 
 take-kept : (es fs : List Entry) (i : ℕ) → take (length es) fs ≡ es → i ≤ length es → take i fs ≡ take i es
@@ -51,7 +51,7 @@ known-propagated units cs es fs n k p h = record {
 }
 
 pub held-propagated :
-    (f : Formula) (a b : ArenaLists) (t u : TrailList) (q r : PropagationProgress) (units : List ℕ) (named : ℕ)
+    (f : Formula) (a b : ArenaContent) (t u : TrailList) (q r : PropagationProgress) (units : List ℕ) (named : ℕ)
     (log : List Step) →
     IsBaseInvariant f a t q units named log → SameClauses a b → u ≡ record t { entries = u.entries } →
     ExtendsByPropagation a.clauses t.entries u.entries → IsPropagationInvariant b u.entries r.head r.settled →
@@ -60,7 +60,7 @@ held-propagated f a b t u q r units named log h same is p queue =
     let cs = sym same.clauses in
     let F : List (List Literal) → Type 0 = λ xs. (i : ℕ) → EntryHasReason xs u.entries i in
     let K : List (List Literal) → Type 0 = λ xs. AreUnitHintsByVar units xs u.entries f.vars named in
-    let L : List (List Literal) → Type 0 = λ xs. AreClausesLogged f xs log in
+    let L : List (List Literal) → Type 0 = λ xs. AreFormulaAndDerivedClauses f xs log in
     record {
       vars = same.vars ∙ h.vars;
       trail_vars = ap (λ (x : TrailList). x.vars) is ∙ h.trail_vars;
@@ -71,23 +71,23 @@ held-propagated f a b t u q r units named log h same is p queue =
       logged = subst L cs h.logged;
     }
 
-pub loose-propagated : (k : DerivationState) (b : ArenaLists) (u : TrailList) (r : PropagationProgress) → IsBeforeClosure k →
+pub loose-propagated : (k : DerivationState) (b : ArenaContent) (u : TrailList) (r : PropagationProgress) → IsValidClosedOrNot k →
     SameClauses k.clauses b → u ≡ record k.trail { entries = u.entries } →
     ExtendsByPropagation k.clauses.clauses k.trail.entries u.entries → IsPropagationInvariant b u.entries r.head r.settled →
-    IsBeforeClosure (record k { clauses = b; trail = u; queue = r })
+    IsValidClosedOrNot (record k { clauses = b; trail = u; queue = r })
 loose-propagated k b u r h same is p queue = record {
   held = held-propagated k.formula.now k.clauses b k.trail u k.queue r k.explainer.units.items k.explainer.named k.log h.held same is p queue;
   needed_vars = h.needed_vars;
   set_vars = h.set_vars;
 }
 
-pub added-clauses : (a b : ArenaLists) (c : List Literal) → IsClauseAdded a c b → b.clauses ≡ a.clauses ++ c ∷ []
-added-clauses a b c k = ap (λ (x : ArenaLists). x.clauses) k.is
+pub added-clauses : (a b : ArenaContent) (c : List Literal) → IsClauseAdded a c b → b.clauses ≡ a.clauses ++ c ∷ []
+added-clauses a b c k = ap (λ (x : ArenaContent). x.clauses) k.is
 
 pub held-named :
-    (f : Formula) (a b : ArenaLists) (t : TrailList) (q : PropagationProgress) (units : List ℕ) (named count : ℕ)
+    (f : Formula) (a b : ArenaContent) (t : TrailList) (q : PropagationProgress) (units : List ℕ) (named count : ℕ)
     (log : List Step) (e : Entry) (hints : List ℕ) →
-    IsBaseInvariant f a t q units named log → IsClauses a → IsClauses b → IsClauseAdded a (e.lit ∷ []) b → IsTrail t →
+    IsBaseInvariant f a t q units named log → AreValidNumberedClauses a → AreValidNumberedClauses b → IsClauseAdded a (e.lit ∷ []) b → IsTrail t →
     slice_get t.entries named ≡ Some e →
     is_derived f.vars a.clauses (record { clause = e.lit ∷ []; hints = hints }) ≡ true →
     e.lit.var < length units → count ≡ length b.clauses →
@@ -98,10 +98,10 @@ held-named f a b t q units named count log e hints h ka kb added trail at derive
     let cs = sym is in
     let F : List (List Literal) → Type 0 = λ xs. (i : ℕ) → EntryHasReason xs t.entries i in
     let K : List (List Literal) → Type 0 = λ xs. AreUnitHintsByVar (set units e.lit.var count) xs t.entries f.vars (named + 1) in
-    let L : List (List Literal) → Type 0 = λ xs. AreClausesLogged f xs (log ++ record { clause = e.lit ∷ []; hints = hints } ∷ []) in
+    let L : List (List Literal) → Type 0 = λ xs. AreFormulaAndDerivedClauses f xs (log ++ record { clause = e.lit ∷ []; hints = hints } ∷ []) in
     let long = length-append a.clauses ((e.lit ∷ []) ∷ []) in
     record {
-      vars = ap (λ (x : ArenaLists). x.vars) added.is ∙ h.vars;
+      vars = ap (λ (x : ArenaContent). x.vars) added.is ∙ h.vars;
       trail_vars = h.trail_vars;
       level = h.level;
       queued = queue-with_clause_added a b t.entries q.head q.settled (e.lit ∷ []) h.queued ka kb added tt;
@@ -116,7 +116,7 @@ zeros n v k e = elim (below_or_past v n) [
   | inr b ↦ (let long = length-replicate {A = ℕ} n 0 in let z : 0 ≡ suc k = sym (get_or_past (replicate n 0) v 0 (omega (arith, b, long))) ∙ e in omega (arith, z))
 ]
 
-pub held-start : (f : Formula) (a : ArenaLists) → a.vars ≡ f.vars → a.clauses ≡ f.clauses → IsBaseInvariant f a (record { vars = f.vars; entries = [] }) (record { head = 0; settled = 0 }) (replicate (f.vars + 1) 0) 0 []
+pub held-start : (f : Formula) (a : ArenaContent) → a.vars ≡ f.vars → a.clauses ≡ f.clauses → IsBaseInvariant f a (record { vars = f.vars; entries = [] }) (record { head = 0; settled = 0 }) (replicate (f.vars + 1) 0) 0 []
 held-start f a vars is = record {
   vars = vars;
   trail_vars = refl;
@@ -150,7 +150,7 @@ refute-explains cs es k c h e =
 pub alike-twice : (a b c : DerivationState) → KeepsConsequences a b → KeepsConsequences b c → KeepsConsequences a c
 alike-twice a b c j k = record { formula = k.formula ∙ j.formula; alike = alike-join a.clauses.clauses b.clauses.clauses c.clauses.clauses j.alike k.alike }
 
-pub alike-propagated : (k : DerivationState) (b : ArenaLists) (u : TrailList) (r : PropagationProgress) → SameClauses k.clauses b → KeepsConsequences k (record k { clauses = b; trail = u; queue = r })
+pub alike-propagated : (k : DerivationState) (b : ArenaContent) (u : TrailList) (r : PropagationProgress) → SameClauses k.clauses b → KeepsConsequences k (record k { clauses = b; trail = u; queue = r })
 alike-propagated k b u r same = (let A : List (List Literal) → Type 0 = λ cs. AreEquivalent k.clauses.clauses cs in record { formula = refl; alike = subst A (sym same.clauses) (alike-self k.clauses.clauses) })
 
 pub named_self : (k : DerivationState) → KeepsConsequencesTrailAndConflicts k k

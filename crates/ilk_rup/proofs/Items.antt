@@ -4,7 +4,7 @@ use Rattle.std.specs.Str.Parse.{digits_value}
 use Rattle.std.proofs.lemmas.Slice.Eq.{bytes_eq-Decides}
 use Rattle.ilk_base.proofs.Options.{bind_some, mapped-Some}
 use Rattle.ilk_lines.specs.Decimal.{decimal_up_to, is_decimal}
-use Rattle.ilk_rup.specs.Needs.{IsValidClauseOfLiterals}
+use Rattle.ilk_rup.specs.Needs.{IsClauseOfExactlyLiterals}
 use Rattle.std.proofs.lemmas.Bool.{and_from, and_parts, cases_Bool, not_from_false, or_cases, or_left, or_parts, or_right, true≢false}
 use Rattle.std.proofs.lemmas.Option.{same_Some}
 use Rattle.ilk_base.specs.Option.{◌>>=◌, then_some}
@@ -13,8 +13,8 @@ use Rattle.ilk_cnf.specs.Formula.{clause_unless_tautology, is_clause_over, dedup
 use Rattle.ilk_cnf.proofs.SameLiterals.{lit-is}
 use Rattle.ilk_lines.specs.Lines.{Bytes}
 use Rattle.ilk_learn.proofs.Members.{each-within, var-of}
-use Rattle.ilk_rup.specs.RefutationText.{clauses_added_by, with_word_in_first, is_end, items_of, literal_of, literals_of, var_of}
-use Rattle.ilk_rup.specs.Items.{IsSetUnlessTautology, IsItemRead, IsAddedUnlessVarPresent, AreFirstItemLiteralsRead, deletion_item_kind, addition_item_kind, there, clash, more}
+use Rattle.ilk_rup.specs.RefutationText.{clause_added_by_item, with_word_in_first, is_item_end_word, split_words_into_items, literal_of, literals_of, var_from_decimal_word}
+use Rattle.ilk_rup.specs.Items.{IsSetUnlessTautology, IsItemRead, IsAddedUnlessVarPresent, AreItemLiteralsRead, deletion_malformed_or_idle, addition_malformed_idle_or_adds, there, clash, more}
 use Rattle.ilk_rup.proofs.Signs.{var-either}
 use Rattle.ilk_rup.proofs.Needing.{pushed-lit, push-old, push-new}
 use Rattle.ilk_rup.proofs.FirstItem.{first-item, not-both-there, taut-push}
@@ -64,7 +64,7 @@ only-some : {X : Type 0} (b : Bool) (x y : X) → then_some b x ≡ Some y → (
 only-some true x y e = (refl, same_Some x y e)
 only-some false x y e = absurd (cc)
 
-var-in : (n v : ℕ) (word : Bytes) → var_of n word ≡ Some v → (nat_lt 0 v ≡ true) × (nat_le v n ≡ true)
+var-in : (n v : ℕ) (word : Bytes) → var_from_decimal_word n word ≡ Some v → (nat_lt 0 v ≡ true) × (nat_le v n ≡ true)
 var-in n v word e =
     let b = bind_some (decimal_up_to n word) (λ (x : ℕ). then_some (nat_lt 0 x) x) v e in
     let low = only-some (nat_lt 0 b.0) b.0 v b.2 in
@@ -75,8 +75,8 @@ var-in n v word e =
 pub literal-in : (n : ℕ) (word : Bytes) (l : Literal) → literal_of n word ≡ Some l → is_lit_over n l ≡ true
 literal-in n [] l e = absurd (cc)
 literal-in n (b ∷ word) l e = elim (cases_Bool (eqb b 45)) [
-  | inl t ↦ (let m = mapped-Some (λ (v : ℕ). let x : Literal = record { var = v; positive = false } in x) (var_of n word) l (rw t at e) in made m.0 false m.2 (var-in n m.0 word m.1))
-  | inr t ↦ (let m = mapped-Some (λ (v : ℕ). let x : Literal = record { var = v; positive = true } in x) (var_of n (b ∷ word)) l (rw t at e) in made m.0 true m.2 (var-in n m.0 (b ∷ word) m.1))
+  | inl t ↦ (let m = mapped-Some (λ (v : ℕ). let x : Literal = record { var = v; positive = false } in x) (var_from_decimal_word n word) l (rw t at e) in made m.0 false m.2 (var-in n m.0 word m.1))
+  | inr t ↦ (let m = mapped-Some (λ (v : ℕ). let x : Literal = record { var = v; positive = true } in x) (var_from_decimal_word n (b ∷ word)) l (rw t at e) in made m.0 true m.2 (var-in n m.0 (b ∷ word) m.1))
 ]
   where
     made : (v : ℕ) (p : Bool) → ◌≡◌ {A = Literal} (record { var = v; positive = p }) l → (nat_lt 0 v ≡ true) × (nat_le v n ≡ true) → is_lit_over n l ≡ true
@@ -84,7 +84,7 @@ literal-in n (b ∷ word) l e = elim (cases_Bool (eqb b 45)) [
 
 literals-in : (n : ℕ) (item : List Bytes) (ls : List Literal) → literals_of n item ≡ Some ls → is_clause_over n ls ≡ true
 literals-in n [] ls e = absurd (cc)
-literals-in n (w ∷ []) ls e = (let o = only-some (is_end w) [] ls e in ap (is_clause_over n) (sym o.1))
+literals-in n (w ∷ []) ls e = (let o = only-some (is_item_end_word w) [] ls e in ap (is_clause_over n) (sym o.1))
 literals-in n (w ∷ (v ∷ ws)) ls e =
     let b = bind_some (literal_of n w) (λ (l : Literal). literals_of n (v ∷ ws) >>= λ xs. Some (l ∷ xs)) ls e in
     let c = bind_some (literals_of n (v ∷ ws)) (λ (xs : List Literal). Some (b.0 ∷ xs)) ls b.2 in
@@ -130,7 +130,7 @@ distinct-differ (l ∷ ls) t =
       ])) (distinct-differ ls p.1))
     ]
 
-pub clause-read : (n : ℕ) (item : List Bytes) (ls set : List Literal) → literals_of n item ≡ Some ls → IsSetUnlessTautology ls set false → IsValidClauseOfLiterals n set (deduped_lits ls)
+pub clause-read : (n : ℕ) (item : List Bytes) (ls set : List Literal) → literals_of n item ≡ Some ls → IsSetUnlessTautology ls set false → IsClauseOfExactlyLiterals n set (deduped_lits ls)
 clause-read n item ls set e k = record {
   within = each-within n (deduped_lits ls) ls (λ m h. distinct-fewer ls m h) (literals-in n item ls e);
   differ = distinct-differ ls k.clash;
@@ -138,49 +138,50 @@ clause-read n item ls set e k = record {
   more = λ m h. distinct-more ls m (k.fewer refl m h);
 }
 
-not-end : (word : Bytes) → bytes_eq word (codes "d") ≡ true → is_end word ≡ false
-not-end word d = ap is_end ((bytes_eq-Decides word (codes "d")).0 d)
+not-end : (word : Bytes) → bytes_eq word (codes "d") ≡ true → is_item_end_word word ≡ false
+not-end word d = ap is_item_end_word ((bytes_eq-Decides word (codes "d")).0 d)
 
-begins : {P : Type 0} (word : Bytes) (rest item : List Bytes) (items : List (List Bytes)) → items_of (word ∷ rest) ≡ item ∷ items → ((tail : List Bytes) → item ≡ word ∷ tail → P) → P
-begins {P} word rest item items e f = elim (cases_Bool (is_end word)) [
-  | inl t ↦ (let z : (word ∷ []) ∷ items_of rest ≡ item ∷ items = rw t at e in f [] (sym (cc)))
+begins : {P : Type 0} (word : Bytes) (rest item : List Bytes) (items : List (List Bytes)) → split_words_into_items (word ∷ rest) ≡ item ∷ items → ((tail : List Bytes) → item ≡ word ∷ tail → P) → P
+begins {P} word rest item items e f = elim (cases_Bool (is_item_end_word word)) [
+  | inl t ↦ (let z : (word ∷ []) ∷ split_words_into_items rest ≡ item ∷ items = rw t at e in f [] (sym (cc)))
   | inr t ↦ (let x = first-item word rest t in let z = sym x.2 ∙ e in f x.0 (sym (cc)))
 ]
 
-pub plain-none : (n : ℕ) (word : Bytes) (rest : List Bytes) (item : List Bytes) (items : List (List Bytes)) → bytes_eq word (codes "d") ≡ false → items_of (word ∷ rest) ≡ item ∷ items → literals_of n item ≡ None → clauses_added_by n item ≡ None
+pub plain-none : (n : ℕ) (word : Bytes) (rest : List Bytes) (item : List Bytes) (items : List (List Bytes)) → bytes_eq word (codes "d") ≡ false → split_words_into_items (word ∷ rest) ≡ item ∷ items → literals_of n item ≡ None
+    → clause_added_by_item n item ≡ None
 plain-none n word rest item items d e k = begins word rest item items e
-    (λ tail is. (let P : List Bytes → Type 0 = λ xs. literals_of n xs ≡ None → clauses_added_by n xs ≡ None in subst P (sym is) (λ h. rw d (ap (option_map clause_unless_tautology) h)) k))
+    (λ tail is. (let P : List Bytes → Type 0 = λ xs. literals_of n xs ≡ None → clause_added_by_item n xs ≡ None in subst P (sym is) (λ h. rw d (ap (option_map clause_unless_tautology) h)) k))
 
 pub plain-some :
     (n : ℕ) (word : Bytes) (rest : List Bytes) (item : List Bytes) (items : List (List Bytes))
     (ls : List Literal) →
-    bytes_eq word (codes "d") ≡ false → items_of (word ∷ rest) ≡ item ∷ items → literals_of n item ≡ Some ls →
-    clauses_added_by n item ≡ Some (clause_unless_tautology ls)
+    bytes_eq word (codes "d") ≡ false → split_words_into_items (word ∷ rest) ≡ item ∷ items → literals_of n item ≡ Some ls →
+    clause_added_by_item n item ≡ Some (clause_unless_tautology ls)
 plain-some n word rest item items ls d e k = begins word rest item items e
     (λ tail is.
     (let P : List Bytes → Type 0 = λ xs. literals_of n xs ≡ Some ls →
-    clauses_added_by n xs ≡ Some (clause_unless_tautology ls) in
+    clause_added_by_item n xs ≡ Some (clause_unless_tautology ls) in
     subst P (sym is) (λ h. rw d (ap (option_map clause_unless_tautology) h)) k))
 
-pub kept-items : (word : Bytes) (rest item : List Bytes) (items : List (List Bytes)) → bytes_eq word (codes "d") ≡ true → items_of rest ≡ item ∷ items → items_of (word ∷ rest) ≡ (word ∷ item) ∷ items
+pub kept-items : (word : Bytes) (rest item : List Bytes) (items : List (List Bytes)) → bytes_eq word (codes "d") ≡ true → split_words_into_items rest ≡ item ∷ items → split_words_into_items (word ∷ rest) ≡ (word ∷ item) ∷ items
 kept-items word rest item items d e = rw (not-end word d) (ap (with_word_in_first word) e)
 
-pub kept-none : (n : ℕ) (word : Bytes) (item : List Bytes) → bytes_eq word (codes "d") ≡ true → literals_of n item ≡ None → clauses_added_by n (word ∷ item) ≡ None
+pub kept-none : (n : ℕ) (word : Bytes) (item : List Bytes) → bytes_eq word (codes "d") ≡ true → literals_of n item ≡ None → clause_added_by_item n (word ∷ item) ≡ None
 kept-none n word item d k = rw d (ap (option_map (λ ls. [])) k)
 
-pub kept-some : (n : ℕ) (word : Bytes) (item : List Bytes) (ls : List Literal) → bytes_eq word (codes "d") ≡ true → literals_of n item ≡ Some ls → clauses_added_by n (word ∷ item) ≡ Some []
+pub kept-some : (n : ℕ) (word : Bytes) (item : List Bytes) (ls : List Literal) → bytes_eq word (codes "d") ≡ true → literals_of n item ≡ Some ls → clause_added_by_item n (word ∷ item) ≡ Some []
 kept-some n word item ls d k = rw d (ap (option_map (λ xs. [])) k)
 
-pub kept-alone : (n : ℕ) (word : Bytes) → bytes_eq word (codes "d") ≡ true → (items_of (word ∷ []) ≡ (word ∷ []) ∷ []) × (clauses_added_by n (word ∷ []) ≡ None)
+pub kept-alone : (n : ℕ) (word : Bytes) → bytes_eq word (codes "d") ≡ true → (split_words_into_items (word ∷ []) ≡ (word ∷ []) ∷ []) × (clause_added_by_item n (word ∷ []) ≡ None)
 kept-alone n word d = (rw (not-end word d) refl, rw d refl)
 
-pub plain-read : (n : ℕ) (word : Bytes) (rest : List Bytes) (set : List Literal) (left : List Bytes) (r : Option Bool) → bytes_eq word (codes "d") ≡ false → AreFirstItemLiteralsRead n (word ∷ rest) set left r
-    → IsItemRead n (word ∷ rest) set left (addition_item_kind r)
+pub plain-read : (n : ℕ) (word : Bytes) (rest : List Bytes) (set : List Literal) (left : List Bytes) (r : Option Bool) → bytes_eq word (codes "d") ≡ false → AreItemLiteralsRead n (word ∷ rest) set left r
+    → IsItemRead n (word ∷ rest) set left (addition_malformed_idle_or_adds r)
 plain-read n word rest set left None d k = (k.0, k.1, k.2, plain-none n word rest k.0 k.1 d k.2 k.3)
-plain-read n word rest set left (Some true) d k = (k.0, k.2, plain-some n word rest k.0 (items_of left) k.1 d k.2 k.3 ∙ rw k.4.clash refl, k.5)
-plain-read n word rest set left (Some false) d k = (k.0, deduped_lits k.1, k.2, plain-some n word rest k.0 (items_of left) k.1 d k.2 k.3 ∙ rw k.4.clash refl, clause-read n k.0 k.1 set k.3 k.4, k.5)
+plain-read n word rest set left (Some true) d k = (k.0, k.2, plain-some n word rest k.0 (split_words_into_items left) k.1 d k.2 k.3 ∙ rw k.4.clash refl, k.5)
+plain-read n word rest set left (Some false) d k = (k.0, deduped_lits k.1, k.2, plain-some n word rest k.0 (split_words_into_items left) k.1 d k.2 k.3 ∙ rw k.4.clash refl, clause-read n k.0 k.1 set k.3 k.4, k.5)
 
-pub kept-read : (n : ℕ) (word : Bytes) (rest : List Bytes) (set : List Literal) (left : List Bytes) (r : Option Bool) → bytes_eq word (codes "d") ≡ true → AreFirstItemLiteralsRead n rest set left r →
-    IsItemRead n (word ∷ rest) set left (deletion_item_kind r)
+pub kept-read : (n : ℕ) (word : Bytes) (rest : List Bytes) (set : List Literal) (left : List Bytes) (r : Option Bool) → bytes_eq word (codes "d") ≡ true → AreItemLiteralsRead n rest set left r →
+    IsItemRead n (word ∷ rest) set left (deletion_malformed_or_idle r)
 kept-read n word rest set left None d k = (word ∷ k.0, k.1, kept-items word rest k.0 k.1 d k.2, kept-none n word k.0 d k.3)
-kept-read n word rest set left (Some b) d k = (word ∷ k.0, kept-items word rest k.0 (items_of left) d k.2, kept-some n word k.0 k.1 d k.3, omega (arith, k.5))
+kept-read n word rest set left (Some b) d k = (word ∷ k.0, kept-items word rest k.0 (split_words_into_items left) d k.2, kept-some n word k.0 k.1 d k.3, omega (arith, k.5))

@@ -26,8 +26,8 @@ use Rattle.ilk_learn.proofs.Walk.{stands}
 use Rattle.std.proofs.Common.{append_assoc}
 use Rattle.std.proofs.lemmas.Bool.{not_from_false}
 use Rattle.ilk_rup.specs.Alike.{AreEquivalent}
-use Rattle.ilk_rup.specs.Needs.{HintsDeriveClauseOfLiterals, IsFalseBySetAndEntries, IsValidClauseOfLiterals, EntryHasReason, AreUnitHintsByVar}
-use Rattle.ilk_rup.specs.Standing.{AreClausesLogged}
+use Rattle.ilk_rup.specs.Needs.{HintsDeriveClauseOfLiterals, IsFalseBySetAndEntries, IsClauseOfExactlyLiterals, EntryHasReason, AreUnitHintsByVar}
+use Rattle.ilk_rup.specs.Standing.{AreFormulaAndDerivedClauses}
 use Rattle.ilk_rup.proofs.Alike.{alike-forced, last-at}
 use Rattle.ilk_rup.proofs.Explaining.{not-in}
 use Rattle.ilk_rup.proofs.Passing.{next-at, reason-in}
@@ -109,7 +109,7 @@ name-explains cs es k r e at once b reason =
       ]);
     }
 
-pub step-derived : (n : ℕ) (cs : List (List Literal)) (set c : List Literal) (hints : List ℕ) → HintsDeriveClauseOfLiterals cs set hints → IsValidClauseOfLiterals n set c → is_derived n cs (record { clause = c; hints = hints }) ≡ true
+pub step-derived : (n : ℕ) (cs : List (List Literal)) (set c : List Literal) (hints : List ℕ) → HintsDeriveClauseOfLiterals cs set hints → IsClauseOfExactlyLiterals n set c → is_derived n cs (record { clause = c; hints = hints }) ≡ true
 step-derived n cs set c hints h k = and_from (is_clause_over n c && has_distinct_vars c) (hints_end_in_conflict cs (negated_clause c) hints) (and_from (is_clause_over n c) (has_distinct_vars c) k.within k.differ) (h c k.differ k.fewer k.more)
 
 ends-push : (log : List Step) (s : Step) → list_all (λ (t : Step). not (is_empty_clause t.clause)) log ≡ true → is_empty_clause s.clause ≡ true → only_last_clause_is_empty (log ++ s ∷ []) ≡ true
@@ -119,14 +119,15 @@ ends-push (t ∷ (u ∷ log)) s h e =
     let p = and_parts (not (is_empty_clause t.clause)) (list_all (λ (x : Step). not (is_empty_clause x.clause)) (u ∷ log)) h in
     and_from (not (is_empty_clause t.clause)) (only_last_clause_is_empty ((u ∷ log) ++ s ∷ [])) p.0 (ends-push (u ∷ log) s p.1 e)
 
-pub logged-more : (f : Formula) (cs : List (List Literal)) (log : List Step) (s : Step) → AreClausesLogged f cs log → is_derived f.vars cs s ≡ true → is_empty_clause s.clause ≡ false → AreClausesLogged f (cs ++ s.clause ∷ []) (log ++ s ∷ [])
+pub logged-more : (f : Formula) (cs : List (List Literal)) (log : List Step) (s : Step) → AreFormulaAndDerivedClauses f cs log → is_derived f.vars cs s ≡ true → is_empty_clause s.clause ≡ false
+    → AreFormulaAndDerivedClauses f (cs ++ s.clause ∷ []) (log ++ s ∷ [])
 logged-more f cs log s k d e = record {
   clauses_are = ap (λ (xs : List (List Literal)). xs ++ s.clause ∷ []) k.clauses_are ∙ append_assoc f.clauses (step_clauses log) (s.clause ∷ []) ∙ ap (λ (xs : List (List Literal)). f.clauses ++ xs) (sym (clauses-push log s));
   derived = derived-push f.vars f.clauses log s k.derived (ap (λ (xs : List (List Literal)). is_derived f.vars xs s) (sym k.clauses_are) ∙ d);
   unended = list_all-more (λ (t : Step). not (is_empty_clause t.clause)) log s k.unended (not_from_false (is_empty_clause s.clause) e);
 }
 
-pub log-refutes : (f : Formula) (cs : List (List Literal)) (log : List Step) (s : Step) → AreClausesLogged f cs log → is_derived f.vars cs s ≡ true → is_empty_clause s.clause ≡ true → is_refutation f (log ++ s ∷ []) ≡ true
+pub log-refutes : (f : Formula) (cs : List (List Literal)) (log : List Step) (s : Step) → AreFormulaAndDerivedClauses f cs log → is_derived f.vars cs s ≡ true → is_empty_clause s.clause ≡ true → is_refutation f (log ++ s ∷ []) ≡ true
 log-refutes f cs log s k d e = and_from (is_derived_log f (log ++ s ∷ [])) (only_last_clause_is_empty (log ++ s ∷ []))
     (derived-push f.vars f.clauses log s k.derived
     (ap (λ (xs : List (List Literal)). is_derived f.vars xs s) (sym k.clauses_are) ∙ d))

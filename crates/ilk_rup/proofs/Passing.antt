@@ -20,7 +20,7 @@ use Rattle.ilk_watches.proofs.Entries.{entry-of-lit, one-entry}
 use Rattle.ilk_learn.proofs.Latest.{entry-at, take-one-more}
 use Rattle.ilk_learn.proofs.Members.{var-of}
 use Rattle.ilk_learn.proofs.Walk.{stands}
-use Rattle.ilk_rup.specs.Needs.{AreNeededAfterClause, HintsWorkWithoutEntry, HintsFalsifyGivenNeeded, unit_hints_of_needed}
+use Rattle.ilk_rup.specs.Needs.{AreNeededLitsAfterClause, HintsWorkWithoutEntry, HintsFalsifyGivenNeededLits, unit_hints_of_needed}
 use Rattle.ilk_rup.proofs.Explaining.{Next, shows-skip, shows-step}
 use Rattle.ilk_rup.proofs.Needing.{pushed-lit, push-old, push-new}
 
@@ -93,14 +93,14 @@ pub passed-step :
     → IsFormula f →
     slice_get es i ≡ Some e → has_distinct_vars (lits_of es) ≡ true → has_lit e.lit needed ≡ true →
     clause_forces_lit f.clauses (lits_of (take i es)) e.lit r ≡ true → has_var e.lit.var set ≡ false →
-    AreNeededAfterClause set (nth_clause_or_empty f.clauses r) needed next →
+    AreNeededLitsAfterClause set (nth_clause_or_empty f.clauses r) needed next →
     HintsWorkWithoutEntry f.clauses es set i needed (reverse reasons) next (reverse (reasons ++ (r + 1) ∷ []))
 passed-step f es set needed next i r e reasons k at once u reason away n = λ top b le s.
     (let cs = f.clauses in
     let p = and_parts (has_lit e.lit (nth_clause_or_empty cs r)) (is_falsified (lits_of (take i es)) (other_lits e.lit (nth_clause_or_empty cs r))) reason in
     let there = stands cs r e.lit p.0 in
     let turned : (r + 1) ∷ reverse reasons ≡ reverse (reasons ++ (r + 1) ∷ []) = sym (reverse-append reasons ((r + 1) ∷ [])) in
-    let P : List ℕ → Type 0 = λ hs. HintsFalsifyGivenNeeded cs (lits_of (take top es)) (lits_of (take i es)) set next hs in
+    let P : List ℕ → Type 0 = λ hs. HintsFalsifyGivenNeededLits cs (lits_of (take top es)) (lits_of (take i es)) set next hs in
     subst P (ap (λ (h : ℕ). h ∷ reverse reasons) (sym (add-one r)) ∙ turned)
     (shows-step cs (lits_of (take top es)) (lits_of (take i es)) (lits_of (take (i + 1) es)) set needed
     next (nth_clause_or_empty cs r) e.lit r (reverse reasons) (next-at es i e at once) u there

@@ -8,8 +8,8 @@ use Rattle.ilk_base.proofs.Lists.{at-before}
 use Rattle.ilk_cnf.specs.Literal.{Literal, same_lit, has_lit, has_var, has_distinct_vars}
 use Rattle.ilk_cnf.specs.Formula.{is_clause_over}
 use Rattle.ilk_cnf.proofs.SameLiterals.{same-lit}
-use Rattle.ilk_arena.specs.Arena.{ArenaLists}
-use Rattle.ilk_watches.specs.Chained.{IsClauses, IsClauseAdded}
+use Rattle.ilk_arena.specs.Arena.{ArenaContent}
+use Rattle.ilk_watches.specs.Chained.{AreValidNumberedClauses, IsClauseAdded}
 use Rattle.ilk_log.specs.declared.step.Step.{Step}
 use Rattle.ilk_log.specs.Derived.{is_empty_clause}
 use Rattle.ilk_log.specs.Propagation.{is_falsified}
@@ -23,10 +23,10 @@ use Rattle.ilk_watches.proofs.Entries.{entry-of-lit}
 use Rattle.ilk_watches.proofs.Prefixes.{up-level}
 use Rattle.ilk_learn.proofs.Derived.{false-from}
 use Rattle.ilk_learn.proofs.Members.{differ-kept, each-within, kept-at, kept-from, var-of}
-use Rattle.ilk_rup.specs.Accepted.{FollowsByHints}
+use Rattle.ilk_rup.specs.Accepted.{FollowsBySomeHints}
 use Rattle.ilk_rup.specs.Alike.{AreEquivalent}
-use Rattle.ilk_rup.specs.Needs.{IsValidClauseOfLiterals, EntryHasReason, AreUnitHintsByVar, unset_literals_first}
-use Rattle.ilk_rup.specs.Standing.{HasCurrentClauseAdded, KeepsConsequences, IsStepForCurrentLiterals, AreClausesLogged, IsClauseAddedWithStep, IsBeforeClosure, IsClosedOrRefuted}
+use Rattle.ilk_rup.specs.Needs.{IsClauseOfExactlyLiterals, EntryHasReason, AreUnitHintsByVar, unset_literals_first}
+use Rattle.ilk_rup.specs.Standing.{HasCurrentClauseAdded, KeepsConsequences, IsStepForCurrentLiterals, AreFormulaAndDerivedClauses, IsClauseAddedWithStep, IsValidClosedOrNot, IsClosedOrRefuted}
 use Rattle.ilk_rup.specs.declared.base.DerivationState.{DerivationState}
 use Rattle.ilk_rup.proofs.Alike.{alike-ended, alike-join, alike-known, alike-same, follows-any, follows-known}
 use Rattle.ilk_rup.proofs.Holds.{added-clauses}
@@ -56,7 +56,7 @@ apart-differ (x ∷ xs) ys d e f =
     let none : has_var x.var (xs ++ ys) ≡ false = list_any-append (λ (l : Literal). l.var == x.var) xs ys ∙ or_from (has_var x.var xs) (has_var x.var ys) (not-true (has_var x.var xs) p.0) (f x (or_left (same_lit x x) (has_lit x xs) (same-lit x))) in
     and_from (not (has_var x.var (xs ++ ys))) (has_distinct_vars (xs ++ ys)) (not_from_false (has_var x.var (xs ++ ys)) none) (apart-differ xs ys p.1 e (λ y h. f y (or_right (same_lit y x) (has_lit y xs) h)))
 
-pub first-clause : (n : ℕ) (es : List Entry) (set : List Literal) → is_clause_over n set ≡ true → has_distinct_vars set ≡ true → IsValidClauseOfLiterals n set (unset_literals_first es set)
+pub first-clause : (n : ℕ) (es : List Entry) (set : List Literal) → is_clause_over n set ≡ true → has_distinct_vars set ≡ true → IsClauseOfExactlyLiterals n set (unset_literals_first es set)
 first-clause n es set w d =
     let p : Literal → Bool = λ l. not (is_set es l.var) in
     let q : Literal → Bool = λ l. is_set es l.var in
@@ -122,16 +122,16 @@ not-empty : (c : List Literal) (l : Literal) → has_lit l c ≡ true → is_emp
 not-empty [] l h = absurd (true≢false (sym h))
 not-empty (x ∷ c) l h = refl
 
-pub taken-clause : (k : DerivationState) (s : Step) → IsStepForCurrentLiterals k s → is_clause_over k.set.vars k.set.lits ≡ true → has_distinct_vars k.set.lits ≡ true → IsValidClauseOfLiterals k.formula.now.vars k.set.lits s.clause
+pub taken-clause : (k : DerivationState) (s : Step) → IsStepForCurrentLiterals k s → is_clause_over k.set.vars k.set.lits ≡ true → has_distinct_vars k.set.lits ≡ true → IsClauseOfExactlyLiterals k.formula.now.vars k.set.lits s.clause
 taken-clause k s step w d =
     let n = k.formula.now.vars in
-    let P : List Literal → Type 0 = λ x. IsValidClauseOfLiterals n k.set.lits x in
+    let P : List Literal → Type 0 = λ x. IsClauseOfExactlyLiterals n k.set.lits x in
     subst P (sym step.clause) (first-clause n k.trail.entries k.set.lits (ap (λ (v : ℕ). is_clause_over v k.set.lits) (sym step.loose.set_vars) ∙ w) d)
 
-pub loose-taken : (k : DerivationState) (b : ArenaLists) (s : Step) → IsStepForCurrentLiterals k s →
-    IsValidClauseOfLiterals k.formula.now.vars k.set.lits s.clause → IsClauses k.clauses → IsClauses b →
+pub loose-taken : (k : DerivationState) (b : ArenaContent) (s : Step) → IsStepForCurrentLiterals k s →
+    IsClauseOfExactlyLiterals k.formula.now.vars k.set.lits s.clause → AreValidNumberedClauses k.clauses → AreValidNumberedClauses b →
     IsClauseAdded k.clauses s.clause b → IsTrail k.trail →
-    IsBeforeClosure (record k { clauses = b; log = k.log ++ s ∷ [] })
+    IsValidClosedOrNot (record k { clauses = b; log = k.log ++ s ∷ [] })
 loose-taken k b s step own ka kb added trail =
     let f = k.formula.now in
     let a = k.clauses in
@@ -144,10 +144,10 @@ loose-taken k b s step own ka kb added trail =
     let cs = sym (added-clauses a b s.clause added) in
     let F : List (List Literal) → Type 0 = λ xs. (i : ℕ) → EntryHasReason xs es i in
     let K : List (List Literal) → Type 0 = λ xs. AreUnitHintsByVar k.explainer.units.items xs es f.vars k.explainer.named in
-    let L : List (List Literal) → Type 0 = λ xs. AreClausesLogged f xs (k.log ++ s ∷ []) in
+    let L : List (List Literal) → Type 0 = λ xs. AreFormulaAndDerivedClauses f xs (k.log ++ s ∷ []) in
     record {
       held = record {
-        vars = ap (λ (x : ArenaLists). x.vars) added.is ∙ h.vars;
+        vars = ap (λ (x : ArenaContent). x.vars) added.is ∙ h.vars;
         trail_vars = h.trail_vars;
         level = h.level;
         queued = queue-with_clause_added a b es k.queue.head k.queue.settled s.clause h.queued ka kb added may;
@@ -162,7 +162,7 @@ loose-taken k b s step own ka kb added trail =
 pub has-taken : (k m a new : DerivationState) (s : Step) →
     m ≡ record k { clauses = m.clauses; trail = m.trail; queue = m.queue; explainer = m.explainer } →
     m.clauses.clauses ≡ k.clauses.clauses → IsStepForCurrentLiterals m s →
-    IsValidClauseOfLiterals m.formula.now.vars m.set.lits s.clause → IsClauseAddedWithStep m s a → IsClosedOrRefuted new → KeepsConsequences a new →
+    IsClauseOfExactlyLiterals m.formula.now.vars m.set.lits s.clause → IsClauseAddedWithStep m s a → IsClosedOrRefuted new → KeepsConsequences a new →
     HasCurrentClauseAdded k new
 has-taken k m a new s rest cs step own added stands same =
     let old = k.clauses.clauses in
@@ -172,8 +172,8 @@ has-taken k m a new s rest cs step own added stands same =
       stands = stands;
       formula = same.formula ∙ ap (λ (b : DerivationState). b.formula) added.rest ∙ ap (λ (b : DerivationState). b.formula) rest;
       follows = λ d of. (let p = here d of in
-          let N : ℕ → Type 0 = λ n. FollowsByHints n m.clauses.clauses d in
-          let C : List (List Literal) → Type 0 = λ xs. FollowsByHints k.formula.now.vars xs d in
+          let N : ℕ → Type 0 = λ n. FollowsBySomeHints n m.clauses.clauses d in
+          let C : List (List Literal) → Type 0 = λ xs. FollowsBySomeHints k.formula.now.vars xs d in
           subst C cs (subst N vars (s.hints, step-derived m.formula.now.vars m.clauses.clauses m.set.lits d s.hints step.hints p)));
       alike = λ d of. (let p = here d of in
           let C : List (List Literal) → Type 0 = λ xs. AreEquivalent (xs ++ d ∷ []) a.clauses.clauses in
@@ -182,8 +182,8 @@ has-taken k m a new s rest cs step own added stands same =
           alike-join (old ++ d ∷ []) a.clauses.clauses new.clauses.clauses (subst C cs (subst A (sym is) more)) same.alike);
     }
   where
-    here : (d : List Literal) → IsValidClauseOfLiterals k.formula.now.vars k.set.lits d → IsValidClauseOfLiterals m.formula.now.vars m.set.lits d
-    here d of = (let P : DerivationState → Type 0 = λ b. IsValidClauseOfLiterals b.formula.now.vars b.set.lits d in subst P (sym rest) of)
+    here : (d : List Literal) → IsClauseOfExactlyLiterals k.formula.now.vars k.set.lits d → IsClauseOfExactlyLiterals m.formula.now.vars m.set.lits d
+    here d of = (let P : DerivationState → Type 0 = λ b. IsClauseOfExactlyLiterals b.formula.now.vars b.set.lits d in subst P (sym rest) of)
 
 pub taken-known : (k : DerivationState) (l : Literal) → IsClosedOrRefuted k → k.refuted ≡ false → has_lit l k.set.lits ≡ true → has_lit l (lits_of k.trail.entries) ≡ true → HasCurrentClauseAdded k k
 taken-known k l st e h t =

@@ -5,13 +5,13 @@ use Rattle.ilk_log.specs.Derived.{hints_end_in_conflict}
 
 -- Holds if some list of hints over clauses `cs` ends at a false clause, from the true literals
 -- `set` on.
-abbrev pub SomeHintsEndInConflict : List (List Literal) → List Literal → Type 0
-SomeHintsEndInConflict cs set = (hints : List ℕ) × (hints_end_in_conflict cs set hints ≡ true)
+abbrev pub HasHintsToConflict : List (List Literal) → List Literal → Type 0
+HasHintsToConflict cs set = (hints : List ℕ) × (hints_end_in_conflict cs set hints ≡ true)
 
 -- Holds if `ds` has the consequences of `cs`. After any clauses are added to both, some hints over
 -- `ds` end at a false clause if some over `cs` do.
 abbrev pub HasConsequencesOf : List (List Literal) → List (List Literal) → Type 0
-HasConsequencesOf ds cs = (more : List (List Literal)) (set : List Literal) → SomeHintsEndInConflict (cs ++ more) set → SomeHintsEndInConflict (ds ++ more) set
+HasConsequencesOf ds cs = (more : List (List Literal)) (set : List Literal) → HasHintsToConflict (cs ++ more) set → HasHintsToConflict (ds ++ more) set
 
 -- Holds if each of two lists of clauses has the consequences of the other.
 pub record AreEquivalent (cs ds : List (List Literal)) : Type 0 where

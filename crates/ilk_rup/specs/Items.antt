@@ -3,8 +3,8 @@ use Rattle.std.specs.Prelude.{ℕ, ◌<◌, ◌≡◌, Bool, true, false, List, 
 use Rattle.ilk_cnf.specs.Literal.{Literal, negated_lit, has_lit}
 use Rattle.ilk_cnf.specs.Formula.{is_tautology}
 use Rattle.ilk_lines.specs.Lines.{Bytes}
-use Rattle.ilk_rup.specs.RefutationText.{clauses_added_by, items_of, literals_of}
-use Rattle.ilk_rup.specs.Needs.{IsValidClauseOfLiterals}
+use Rattle.ilk_rup.specs.RefutationText.{clause_added_by_item, split_words_into_items, literals_of}
+use Rattle.ilk_rup.specs.Needs.{IsClauseOfExactlyLiterals}
 use Rattle.ilk_rup.specs.declared.item.ItemKind.{ItemKind}
 use Rattle.ilk_rup.specs.declared.item.ItemKind.TheVariants.{End, Malformed, Idle, Adds}
 
@@ -24,28 +24,30 @@ pub record IsSetUnlessTautology (ls set : List Literal) (both : Bool) : Type 0 w
 
 -- Returns the kind of an item without the word `d`: `Malformed` if its literals can't be read
 -- (`None`), `Idle` if some variable has both its literals, otherwise `Adds`.
-abbrev pub addition_item_kind : Option Bool → ItemKind
-addition_item_kind None = Malformed
-addition_item_kind (Some true) = Idle
-addition_item_kind (Some false) = Adds
+abbrev pub addition_malformed_idle_or_adds : Option Bool → ItemKind
+addition_malformed_idle_or_adds None = Malformed
+addition_malformed_idle_or_adds (Some true) = Idle
+addition_malformed_idle_or_adds (Some false) = Adds
 
 -- Returns the kind of an item with the word `d`: `Malformed` if its literals can't be read
 -- (`None`), otherwise `Idle`.
-abbrev pub deletion_item_kind : Option Bool → ItemKind
-deletion_item_kind None = Malformed
-deletion_item_kind (Some both) = Idle
+abbrev pub deletion_malformed_or_idle : Option Bool → ItemKind
+deletion_malformed_or_idle None = Malformed
+deletion_malformed_or_idle (Some both) = Idle
 
 -- Holds if the literals of the first item of `words` were read into `set`, and `left` are the words
 -- after the item. For `None`, holds if the item isn't a list of literals ended by `0`.
-abbrev pub AreFirstItemLiteralsRead : ℕ → List Bytes → List Literal → List Bytes → Option Bool → Type 0
-AreFirstItemLiteralsRead n words set left None = (item : List Bytes) × (items : List (List Bytes)) × (items_of words ≡ item ∷ items) × (literals_of n item ≡ None)
-AreFirstItemLiteralsRead n words set left (Some both) = (item : List Bytes) × (ls : List Literal) × (items_of words ≡ item ∷ items_of left) × (literals_of n item ≡ Some ls) × IsSetUnlessTautology ls set both × (length left < length words)
+abbrev pub AreItemLiteralsRead : ℕ → List Bytes → List Literal → List Bytes → Option Bool → Type 0
+AreItemLiteralsRead n words set left None = (item : List Bytes) × (items : List (List Bytes)) × (split_words_into_items words ≡ item ∷ items) × (literals_of n item ≡ None)
+AreItemLiteralsRead n words set left (Some both) = (item : List Bytes) × (ls : List Literal) × (split_words_into_items words ≡ item ∷ split_words_into_items left) × (literals_of n item ≡ Some ls) × IsSetUnlessTautology ls set both
+    × (length left < length words)
 
 -- Holds if the kind is that of the first item of `words`, or `End` if there is none. `set` then has
 -- the literals of the clause that the item adds, if any, and `left` are the words after the item,
 -- unless it is malformed.
 abbrev pub IsItemRead : ℕ → List Bytes → List Literal → List Bytes → ItemKind → Type 0
 IsItemRead n words set left End = words ≡ []
-IsItemRead n words set left Malformed = (item : List Bytes) × (items : List (List Bytes)) × (items_of words ≡ item ∷ items) × (clauses_added_by n item ≡ None)
-IsItemRead n words set left Idle = (item : List Bytes) × (items_of words ≡ item ∷ items_of left) × (clauses_added_by n item ≡ Some []) × (length left < length words)
-IsItemRead n words set left Adds = (item : List Bytes) × (c : List Literal) × (items_of words ≡ item ∷ items_of left) × (clauses_added_by n item ≡ Some (c ∷ [])) × IsValidClauseOfLiterals n set c × (length left < length words)
+IsItemRead n words set left Malformed = (item : List Bytes) × (items : List (List Bytes)) × (split_words_into_items words ≡ item ∷ items) × (clause_added_by_item n item ≡ None)
+IsItemRead n words set left Idle = (item : List Bytes) × (split_words_into_items words ≡ item ∷ split_words_into_items left) × (clause_added_by_item n item ≡ Some []) × (length left < length words)
+IsItemRead n words set left Adds = (item : List Bytes) × (c : List Literal) × (split_words_into_items words ≡ item ∷ split_words_into_items left) × (clause_added_by_item n item ≡ Some (c ∷ [])) × IsClauseOfExactlyLiterals n set c
+    × (length left < length words)

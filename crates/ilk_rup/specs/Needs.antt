@@ -12,13 +12,13 @@ use Rattle.ilk_trail.specs.Laws.{is_set, lits_of}
 
 -- Holds if `new` are the needed literals after literal `l` of a false clause was examined. The
 -- opposite of `l` is added to `old`, unless `set` has `l` or `old` has its variable.
-pub data AreNeededAfterLiteral (set : List Literal) (l : Literal) (old new : List Literal) : Type 0 where
-  stays : new ≡ old → (has_lit l set ≡ true) ⊎ (has_var l.var old ≡ true) → AreNeededAfterLiteral set l old new
-  grows : new ≡ old ++ negated_lit l ∷ [] → has_lit l set ≡ false → has_var l.var old ≡ false → AreNeededAfterLiteral set l old new
+pub data AreNeededLitsAfterLit (set : List Literal) (l : Literal) (old new : List Literal) : Type 0 where
+  stays : new ≡ old → (has_lit l set ≡ true) ⊎ (has_var l.var old ≡ true) → AreNeededLitsAfterLit set l old new
+  grows : new ≡ old ++ negated_lit l ∷ [] → has_lit l set ≡ false → has_var l.var old ≡ false → AreNeededLitsAfterLit set l old new
 
 -- Holds if `new` are the needed literals after each literal of the false clause `d` was examined,
 -- starting from `old`.
-pub record AreNeededAfterClause (set d old new : List Literal) : Type 0 where
+pub record AreNeededLitsAfterClause (set d old new : List Literal) : Type 0 where
   pub kept : (x : Literal) → has_lit x old ≡ true → has_lit x new ≡ true
   pub covered : (m : Literal) → has_lit m d ≡ true → (has_lit m set ≡ true) ⊎ (has_var m.var new ≡ true)
   pub made : (x : Literal) → has_lit x new ≡ true → (has_lit x old ≡ true) ⊎ ((has_lit (negated_lit x) d ≡ true) × (has_lit (negated_lit x) set ≡ false) × (has_var x.var old ≡ false))
@@ -26,7 +26,7 @@ pub record AreNeededAfterClause (set d old new : List Literal) : Type 0 where
 -- Holds if the hints end at a false clause, from any true literals that make those of `set` false
 -- and include the needed ones of `before`. Other true literals are in `before` or opposites of
 -- `set`.
-pub record HintsFalsifyGivenNeeded (cs : List (List Literal)) (all before set needed : List Literal) (hints : List ℕ) : Type 0 where
+pub record HintsFalsifyGivenNeededLits (cs : List (List Literal)) (all before set needed : List Literal) (hints : List ℕ) : Type 0 where
   pub apart : (x : Literal) → has_lit x needed ≡ true → has_lit (negated_lit x) set ≡ false
   pub within : (x : Literal) → has_lit x needed ≡ true → has_lit x all ≡ true
   pub ends : (now : List Literal) →
@@ -38,8 +38,8 @@ pub record HintsFalsifyGivenNeeded (cs : List (List Literal)) (all before set ne
 -- Holds if the walk back may pass entry `i`. If `needed` and `hints` falsify a clause with this
 -- entry, `next` and `more` do so without it.
 abbrev pub HintsWorkWithoutEntry : List (List Literal) → List Entry → List Literal → ℕ → List Literal → List ℕ → List Literal → List ℕ → Type 0
-HintsWorkWithoutEntry cs es set i needed hints next more = (top : ℕ) → i < top → top ≤ length es → HintsFalsifyGivenNeeded cs (lits_of (take top es)) (lits_of (take (i + 1) es)) set needed hints
-    → HintsFalsifyGivenNeeded cs (lits_of (take top es)) (lits_of (take i es)) set next more
+HintsWorkWithoutEntry cs es set i needed hints next more = (top : ℕ) → i < top → top ≤ length es → HintsFalsifyGivenNeededLits cs (lits_of (take top es)) (lits_of (take (i + 1) es)) set needed hints
+    → HintsFalsifyGivenNeededLits cs (lits_of (take top es)) (lits_of (take i es)) set next more
 
 -- Holds if entry `i`, if there is one, has a reason that forces its literal under the entries
 -- before it.
@@ -52,8 +52,8 @@ IsReasonAt cs es i r = (e : Entry) → slice_get es i ≡ Some e → IsTrue (cla
 
 -- Holds if each entry from index `from` on and before `top` has a valid reason, and `set` has no
 -- literal of its variable.
-abbrev pub EntriesHaveReasonsOutsideSet : List (List Literal) → List Entry → List Literal → ℕ → ℕ → Type 0
-EntriesHaveReasonsOutsideSet cs es set from top = (i : ℕ) (e : Entry) → from ≤ i → i < top → slice_get es i ≡ Some e → IsSomeAnd e.reason (λ c. IsTrue (clause_forces_lit cs (lits_of (take i es)) e.lit c)) × (has_var e.lit.var set ≡ false)
+abbrev pub EntriesForcedOnOtherVars : List (List Literal) → List Entry → List Literal → ℕ → ℕ → Type 0
+EntriesForcedOnOtherVars cs es set from top = (i : ℕ) (e : Entry) → from ≤ i → i < top → slice_get es i ≡ Some e → IsSomeAnd e.reason (λ c. IsTrue (clause_forces_lit cs (lits_of (take i es)) e.lit c)) × (has_var e.lit.var set ≡ false)
 
 -- Holds if `units` has, by variable, the hint of the unit clause of each of the first `known`
 -- entries. It has 0 for all other variables.
@@ -76,12 +76,12 @@ pub record IsFalseBySetAndEntries (cs : List (List Literal)) (es : List Entry) (
   pub from_in : from ≤ top
   pub top_in : top ≤ length es
   pub denied : (m : Literal) → has_lit m (nth_clause_or_empty cs c) ≡ true → (has_lit m set ≡ true) ⊎ (has_lit (negated_lit m) (lits_of (take top es)) ≡ true)
-  pub walk : EntriesHaveReasonsOutsideSet cs es set from top
+  pub walk : EntriesForcedOnOtherVars cs es set from top
   pub assumed : (i : ℕ) (e : Entry) → known ≤ i → i < from → slice_get es i ≡ Some e → has_lit (negated_lit e.lit) set ≡ true
   pub untrue : (m : Literal) → has_lit m set ≡ true → has_lit m (lits_of (take known es)) ≡ false
 
 -- Holds if clause `c` has exactly the literals of `set`, over different variables of 1 to `n`.
-pub record IsValidClauseOfLiterals (n : ℕ) (set c : List Literal) : Type 0 where
+pub record IsClauseOfExactlyLiterals (n : ℕ) (set c : List Literal) : Type 0 where
   pub within : is_clause_over n c ≡ true
   pub differ : has_distinct_vars c ≡ true
   pub fewer : (m : Literal) → has_lit m c ≡ true → has_lit m set ≡ true
@@ -94,13 +94,13 @@ HintsDeriveClauseOfLiterals cs set hints = (c : List Literal) → has_distinct_v
 
 -- Holds if `new` is the trail `old` with the opposite of `l` added at level 1, unless the variable
 -- of `l` is already set.
-pub data AssumesNegation (l : Literal) (old new : List Entry) : Type 0 where
-  known : new ≡ old → is_set old l.var ≡ true → AssumesNegation l old new
-  new_one : (e : Entry) → new ≡ old ++ e ∷ [] → e.lit ≡ negated_lit l → e.level ≡ 1 → AssumesNegation l old new
+pub data AssumesNegatedLit (l : Literal) (old new : List Entry) : Type 0 where
+  known : new ≡ old → is_set old l.var ≡ true → AssumesNegatedLit l old new
+  new_one : (e : Entry) → new ≡ old ++ e ∷ [] → e.lit ≡ negated_lit l → e.level ≡ 1 → AssumesNegatedLit l old new
 
 -- Holds if each literal of `set` has a set variable in `new`, which is `old` with opposites of such
 -- literals added at level 1.
-pub record AssumesNegations (set : List Literal) (old new : List Entry) : Type 0 where
+pub record AssumesNegatedLits (set : List Literal) (old new : List Entry) : Type 0 where
   pub kept : take (length old) new ≡ old
   pub levels : (i : ℕ) (e : Entry) → length old ≤ i → slice_get new i ≡ Some e → (e.level ≡ level_of new) × (e.level ≡ 1) × (has_lit (negated_lit e.lit) set ≡ true)
   pub low : level_of new ≤ 1

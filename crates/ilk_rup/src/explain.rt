@@ -5,8 +5,8 @@ ghost use Rattle.ilk_cnf.specs.Formula.{is_lit_over};
 ghost use Rattle.ilk_watches.specs.Reasons.{nth_clause_or_empty};
 ghost use Rattle.std.specs.List.{filter};
 ghost use Rattle.ilk_trail.specs.Laws.{lits_of};
-ghost use Rattle.ilk_rup.specs.Explained.{CanExplain, IsNewExplainer};
-ghost use Rattle.ilk_rup.specs.Needs.{HintsDeriveClauseOfLiterals, EntriesHaveReasonsOutsideSet, EntryHasReason, AreNeededAfterClause, HintsWorkWithoutEntry, IsReasonAt, AreNeededAfterLiteral, HintsFalsifyGivenNeeded, unit_hints_of_needed};
+ghost use Rattle.ilk_rup.specs.Explained.{CanExplain, IsEmptyExplainer};
+ghost use Rattle.ilk_rup.specs.Needs.{HintsDeriveClauseOfLiterals, EntriesForcedOnOtherVars, EntryHasReason, AreNeededLitsAfterClause, HintsWorkWithoutEntry, IsReasonAt, AreNeededLitsAfterLit, HintsFalsifyGivenNeededLits, unit_hints_of_needed};
 
 use crate::set::LitSet;
 use ilk_cnf::Lit;
@@ -19,7 +19,7 @@ use std::alloc::{AllocError, Global};
 fn need_one(needed: &mut LitSet, set: &LitSet, l: Lit)
     requires within { IsTrue (is_lit_over needed.old.vars l) }
     requires vars { set.now.vars ≡ needed.old.vars }
-    ensures needed { AreNeededAfterLiteral set.now.lits l needed.old.lits needed.new.lits }
+    ensures needed { AreNeededLitsAfterLit set.now.lits l needed.old.lits needed.new.lits }
     ensures vars { needed.new.vars ≡ needed.old.vars }
 {
     if set.has(l) || needed.has_var(l) {
@@ -32,7 +32,7 @@ fn need(needed: &mut LitSet, clauses: &NumberedClauses, set: &LitSet, c: u64)
     requires known { c < length clauses.now.clauses }
     requires vars { needed.old.vars ≡ clauses.now.vars }
     requires set { set.now.vars ≡ clauses.now.vars }
-    ensures needed { AreNeededAfterClause set.now.lits
+    ensures needed { AreNeededLitsAfterClause set.now.lits
         (nth_clause_or_empty clauses.now.clauses c) needed.old.lits
         needed.new.lits }
     ensures vars { needed.new.vars ≡ needed.old.vars }
@@ -68,7 +68,7 @@ fn pass(
     requires set { set.now.vars ≡ clauses.now.vars }
     requires trail { trail.now.vars ≡ clauses.now.vars }
     requires below { i < length trail.now.entries }
-    requires walk { EntriesHaveReasonsOutsideSet clauses.now.clauses trail.now.entries set.now.lits
+    requires walk { EntriesForcedOnOtherVars clauses.now.clauses trail.now.entries set.now.lits
         i
         (i + 1) }
     ensures passed { OnOk result
@@ -103,14 +103,14 @@ fn walk(
     requires trail { trail.now.vars ≡ clauses.now.vars }
     requires from { from ≤ top }
     requires top { top ≤ length trail.now.entries }
-    requires walk { EntriesHaveReasonsOutsideSet clauses.now.clauses trail.now.entries set.now.lits
+    requires walk { EntriesForcedOnOtherVars clauses.now.clauses trail.now.entries set.now.lits
         from top }
-    requires shows { HintsFalsifyGivenNeeded clauses.now.clauses (lits_of
+    requires shows { HintsFalsifyGivenNeededLits clauses.now.clauses (lits_of
         (take top trail.now.entries))
         (lits_of (take top trail.now.entries)) set.now.lits needed.old.lits
         (reverse reasons.old.items) }
     ensures shows { OnOk result
-        (HintsFalsifyGivenNeeded clauses.now.clauses (lits_of (take top trail.now.entries))
+        (HintsFalsifyGivenNeededLits clauses.now.clauses (lits_of (take top trail.now.entries))
         (lits_of (take from trail.now.entries)) set.now.lits needed.new.lits
         (reverse reasons.new.items)) }
     ensures vars { needed.new.vars ≡ needed.old.vars }
@@ -224,7 +224,7 @@ impl Explainer {
     /// Creates an explainer without unit clauses over the variables 1 to `vars`.
     pub fn new(alloc: Global, vars: u64) -> Result<Explainer, AllocError>
         requires { vars ≤ 2 ^ 62 }
-        ensures { IfOk result (λ x. IsNewExplainer x vars) }
+        ensures { IfOk result (λ x. IsEmptyExplainer x vars) }
     {
         Ok(Explainer {
             units: zeros(alloc, vars)?,

@@ -2,8 +2,8 @@
 
 ghost use Rattle.std.specs.Prelude.{◌≡◌, ◌≤◌, ◌^◌, ◌∷◌, [], ◌||◌, IsTrue, bytes_eq, codes};
 ghost use Rattle.ilk_cnf.specs.Formula.{is_lit_over};
-ghost use Rattle.ilk_rup.specs.RefutationText.{is_end, literal_of, var_of};
-ghost use Rattle.ilk_rup.specs.Items.{IsItemRead, IsAddedUnlessVarPresent, AreFirstItemLiteralsRead, deletion_item_kind, addition_item_kind};
+ghost use Rattle.ilk_rup.specs.RefutationText.{is_item_end_word, literal_of, var_from_decimal_word};
+ghost use Rattle.ilk_rup.specs.Items.{IsItemRead, IsAddedUnlessVarPresent, AreItemLiteralsRead, deletion_malformed_or_idle, addition_malformed_idle_or_adds};
 
 use crate::set::LitSet;
 use crate::words::Words;
@@ -23,8 +23,8 @@ pub(crate) enum ItemKind {
     Adds,
 }
 
-fn var_of(word: &[u8], vars: u64) -> Option<u64>
-    ensures { result ≡ var_of vars word.now }
+fn var_from_decimal_word(word: &[u8], vars: u64) -> Option<u64>
+    ensures { result ≡ var_from_decimal_word vars word.now }
 {
     let v = decimal_up_to(word, vars)?;
     if v > 0 { Some(v) } else { None }
@@ -35,8 +35,8 @@ fn literal_of(word: &[u8], vars: u64) -> Option<Lit>
     ensures { result ≡ literal_of vars word.now }
 {
     match word {
-        [b'-', var @ ..] => Some(Lit::new(var_of(var, vars)?, false)),
-        _ => Some(Lit::new(var_of(word, vars)?, true)),
+        [b'-', var @ ..] => Some(Lit::new(var_from_decimal_word(var, vars)?, false)),
+        _ => Some(Lit::new(var_from_decimal_word(word, vars)?, true)),
     }
 }
 
@@ -56,8 +56,8 @@ fn put(set: &mut LitSet, l: Lit) -> bool
     false
 }
 
-fn is_end(word: &[u8]) -> bool
-    ensures { result ≡ is_end word.now }
+fn is_item_end_word(word: &[u8]) -> bool
+    ensures { result ≡ is_item_end_word word.now }
 {
     word == b"0".as_slice()
 }
@@ -81,14 +81,14 @@ fn read_literals(first: &[u8], words: &mut Words, set: &mut LitSet, vars: u64) -
     requires numbered { vars ≤ 2 ^ 62 }
     requires vars { set.old.vars ≡ vars }
     requires empty { set.old.lits ≡ [] }
-    ensures read { AreFirstItemLiteralsRead vars
+    ensures read { AreItemLiteralsRead vars
         (first.now ∷ words.old) set.new.lits words.new result }
     ensures vars { set.new.vars ≡ set.old.vars }
 {
     let mut word = first;
     let mut both = false;
     'words: loop {
-        if is_end(word) {
+        if is_item_end_word(word) {
             return Some(both);
         }
         match literal_of(word, vars) {
@@ -103,7 +103,7 @@ fn read_literals(first: &[u8], words: &mut Words, set: &mut LitSet, vars: u64) -
 }
 
 fn plain_item(read: Option<bool>) -> ItemKind
-    ensures { result ≡ addition_item_kind read }
+    ensures { result ≡ addition_malformed_idle_or_adds read }
 {
     match read {
         None => ItemKind::Malformed,
@@ -113,7 +113,7 @@ fn plain_item(read: Option<bool>) -> ItemKind
 }
 
 fn kept_item(read: Option<bool>) -> ItemKind
-    ensures { result ≡ deletion_item_kind read }
+    ensures { result ≡ deletion_malformed_or_idle read }
 {
     match read {
         None => ItemKind::Malformed,

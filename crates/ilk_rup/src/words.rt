@@ -3,7 +3,7 @@
 ghost use Rattle.std.specs.Prelude.{◌≡◌, ◌<◌, [], ◌∷◌, ◌++◌, length, position, IfNone, IfSome};
 ghost use Rattle.std.specs.List.{slice_split};
 ghost use Rattle.std.specs.Option.{option_map_or};
-ghost use Rattle.ilk_rup.specs.RefutationText.{is_blank, line_words, text_words, words_in};
+ghost use Rattle.ilk_rup.specs.RefutationText.{is_blank, words_unless_comment, text_words, words_in};
 ghost use Rattle.ilk_rup.specs.WordsLeft.{words_left};
 
 use ilk_lines::split_at_first_occurrence;
@@ -85,7 +85,7 @@ fn next_line(text: &[u8]) -> (&[u8], Option<&[u8]>)
 }
 
 fn without_comment(line: &[u8]) -> &[u8]
-    ensures { words_in result.now ≡ line_words line.now }
+    ensures { words_in result.now ≡ words_unless_comment line.now }
 {
     match line {
         [b'c', ..] => &[],

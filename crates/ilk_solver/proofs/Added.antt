@@ -5,24 +5,24 @@ use Rattle.std.proofs.lemmas.List.{take-append-le, get_or_past}
 use Rattle.ilk_base.proofs.Ranges.{below_or_past}
 use Rattle.std.proofs.lemmas.List.Sums.{count_by-le-length}
 use Rattle.ilk_cnf.specs.Literal.{Literal, has_var, positive_lit}
-use Rattle.ilk_cnf.specs.Formula.{Formula, with_vars_and_clauses, is_lit_over}
+use Rattle.ilk_cnf.specs.Formula.{Formula, with_var_count_and_clauses, is_lit_over}
 use Rattle.ilk_log.specs.declared.step.Step.{Step}
 use Rattle.ilk_log.specs.Derived.{step_clauses}
 use Rattle.ilk_trail.specs.Trail.{TrailList}
 use Rattle.ilk_watches.specs.Reasons.{HasReasons}
 use Rattle.ilk_watches.proofs.Forced.{reasons-grown}
 use Rattle.ilk_solver.specs.Levels.{LowerLevelsAreSaturated}
-use Rattle.ilk_solver.specs.View.{ViewLists, weight_of}
+use Rattle.ilk_solver.specs.View.{TrailAndWeights, weight_of}
 use Rattle.ilk_solver.specs.Held.{HoldsSearch}
 use Rattle.ilk_solver.proofs.ClosedLevels.{closed-added}
 use Rattle.ilk_solver.proofs.Searches.{known-closed, known-reasons}
 use Rattle.ilk_log.proofs.Pushed.{clauses-push}
 use Rattle.ilk_solver.proofs.Weights.{count_by-push}
 
-pub held-added : (cs : Formula) (given : ℕ) (log : List Step) (view new : ViewLists) (s : Step) →
+pub held-added : (cs : Formula) (given : ℕ) (log : List Step) (view new : TrailAndWeights) (s : Step) →
     HoldsSearch cs given log view → LowerLevelsAreSaturated (s.clause ∷ []) view.trail.entries → new.trail ≡ view.trail →
     ((v : ℕ) → 0 < v → weight_of new v ≡ weight_of view v + cond (has_var v s.clause) 1 0) →
-    HoldsSearch (with_vars_and_clauses cs cs.vars (s.clause ∷ [])) given (log ++ s ∷ []) new
+    HoldsSearch (with_var_count_and_clauses cs cs.vars (s.clause ∷ [])) given (log ++ s ∷ []) new
 held-added cs given log view new s h apart same counts =
     let c = s.clause in
     let front : take given (cs.clauses ++ c ∷ []) ≡ take given cs.clauses = take-append-le given cs.clauses (c ∷ []) h.first in
@@ -50,7 +50,7 @@ held-added cs given log view new s h apart same counts =
       };
     }
 
-pub weight-fits : (cs : Formula) (given : ℕ) (log : List Step) (view : ViewLists) (room : ℕ) → HoldsSearch cs given log view → length view.weights ≡ view.trail.vars → length cs.clauses + 1 < room → (i : ℕ) → get_or view.weights i 0 + 1 < room
+pub weight-fits : (cs : Formula) (given : ℕ) (log : List Step) (view : TrailAndWeights) (room : ℕ) → HoldsSearch cs given log view → length view.weights ≡ view.trail.vars → length cs.clauses + 1 < room → (i : ℕ) → get_or view.weights i 0 + 1 < room
 weight-fits cs given log view room h long few i = elim (below_or_past i (length view.weights)) [
   | inl b ↦ (let back : i + 1 - 1 ≡ i = omega arith in
       let known = h.search.weighed (i + 1) (and_from _ _ (lt-ltb 0 (i + 1) (omega arith)) (le-leb (i + 1) view.trail.vars (omega (arith, long, b)))) in

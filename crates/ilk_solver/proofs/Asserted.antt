@@ -9,8 +9,8 @@ use Rattle.ilk_trail.specs.declared.entry.Entry.{Entry}
 use Rattle.ilk_trail.specs.Trail.{level_of, entries_up_to}
 use Rattle.ilk_trail.specs.Laws.{lits_of}
 use Rattle.ilk_watches.proofs.Values.{no_lit}
-use Rattle.ilk_learn.specs.Levels.{level_at, is_current, highest_level}
-use Rattle.ilk_learn.specs.Asserting.{back_level, has_first_at_level, is_false_in_asserting_order}
+use Rattle.ilk_learn.specs.Levels.{level_of_literal, is_current, highest_level}
+use Rattle.ilk_learn.specs.Asserting.{back_level, is_first_lit_at_level, is_false_in_asserting_order}
 use Rattle.ilk_solver.specs.Levels.{LowerLevelsAreSaturated}
 use Rattle.ilk_base.proofs.Ranges.{below_or_past}
 use Rattle.ilk_trail.specs.Laws.{each_may_follow_level}
@@ -32,7 +32,7 @@ none-fewer (x ∷ es) k v h =
       | inr t ↦ rw t rest
     ]
 
-unset-below : (es : List Entry) (k : ℕ) (l : Literal) → has_distinct_vars (lits_of es) ≡ true → k < level_at es l → has_var l.var (lits_of (entries_up_to k es)) ≡ false
+unset-below : (es : List Entry) (k : ℕ) (l : Literal) → has_distinct_vars (lits_of es) ≡ true → k < level_of_literal es l → has_var l.var (lits_of (entries_up_to k es)) ≡ false
 unset-below [] k l d h = refl
 unset-below (x ∷ es) k l d h =
     let p = and_parts (not (has_var x.lit.var (lits_of es))) (has_distinct_vars (lits_of es)) d in
@@ -48,7 +48,7 @@ unset-below (x ∷ es) k l d h =
           ])
     ]
 
-open-below : (es : List Entry) (k : ℕ) (l : Literal) → has_distinct_vars (lits_of es) ≡ true → k < level_at es l → is_false (lits_of (entries_up_to k es)) l ≡ false
+open-below : (es : List Entry) (k : ℕ) (l : Literal) → has_distinct_vars (lits_of es) ≡ true → k < level_of_literal es l → is_false (lits_of (entries_up_to k es)) l ≡ false
 open-below es k l d h = no_lit (negated_lit l) l.var (lits_of (entries_up_to k es)) refl (unset-below es k l d h)
 
 two-open : (set : List Literal) (l m : Literal) (ls : List Literal) → is_false set l ≡ false → is_false set m ≡ false → (not (is_falsified set (l ∷ (m ∷ ls))) && is_none (unit_lit set (l ∷ (m ∷ ls))) && true) ≡ true
@@ -60,11 +60,11 @@ asserting-open es [] n d a b top = absurd (cc)
 asserting-open es (l ∷ []) n d a b top = λ k low. absurd (omega (arith, b, top, low))
 asserting-open es (l ∷ (m ∷ c)) n d a b top = λ k low.
     let high = highest_level es (m ∷ c) in
-    let one = and_parts (is_falsified (lits_of es) (l ∷ (m ∷ c)) && is_current es l && nat_lt high (level_of es)) (has_first_at_level es high (m ∷ c)) a in
+    let one = and_parts (is_falsified (lits_of es) (l ∷ (m ∷ c)) && is_current es l && nat_lt high (level_of es)) (is_first_lit_at_level es high (m ∷ c)) a in
     let two = and_parts (is_falsified (lits_of es) (l ∷ (m ∷ c)) && is_current es l) (nat_lt high (level_of es)) one.0 in
     let three = and_parts (is_falsified (lits_of es) (l ∷ (m ∷ c))) (is_current es l) two.0 in
-    let first = eqb-true (level_at es l) (level_of es) three.1 in
-    let second = eqb-true (level_at es m) high one.1 in
+    let first = eqb-true (level_of_literal es l) (level_of es) three.1 in
+    let second = eqb-true (level_of_literal es m) high one.1 in
     let under = ltb-true high (level_of es) two.1 in
     let below : k < n = omega (arith, top, low) in
     let P : List Entry → Type 0 = λ xs. is_saturated ((l ∷ (m ∷ c)) ∷ []) (lits_of xs) ≡ true in
@@ -75,10 +75,10 @@ rest-false es ls n d f h = false-from (lits_of (entries_up_to n es)) ls (λ x s.
     (let low = below-highest es ls x s in
     has-entries_up_to n es (negated_lit x) d (false-at (lits_of es) ls x f s) (omega (arith, low, h))))
 
-second-now : (es : List Entry) (m : Literal) (n : ℕ) → each_may_follow_level 0 es ≡ true → has_distinct_vars (lits_of es) ≡ true → level_at es m ≡ n → level_of (entries_up_to n es) ≡ n → NotFalseBelowCurrentLevel (entries_up_to n es) m
+second-now : (es : List Entry) (m : Literal) (n : ℕ) → each_may_follow_level 0 es ≡ true → has_distinct_vars (lits_of es) ≡ true → level_of_literal es m ≡ n → level_of (entries_up_to n es) ≡ n → NotFalseBelowCurrentLevel (entries_up_to n es) m
 second-now es m n climb d at top = λ i e s q.
     (let old = at-kept (entries_up_to n es) es i e (front-kept n es climb) s in
-    sym (level-entry es i e d old) ∙ ap (level_at es) q ∙ at ∙ sym top)
+    sym (level-entry es i e d old) ∙ ap (level_of_literal es) q ∙ at ∙ sym top)
 
 pub addable : (es : List Entry) (c : List Literal) (n : ℕ) → each_may_follow_level 0 es ≡ true → has_distinct_vars (lits_of es) ≡ true → is_false_in_asserting_order es c ≡ true → n ≤ back_level es c → level_of (entries_up_to n es) ≡ n →
     FirstTwoAreWatchable (entries_up_to n es) c
@@ -86,11 +86,11 @@ addable es [] n climb d a b top = tt
 addable es (l ∷ []) n climb d a b top = tt
 addable es (l ∷ (m ∷ c)) n climb d a b top =
     let high = highest_level es (m ∷ c) in
-    let one = and_parts (is_falsified (lits_of es) (l ∷ (m ∷ c)) && is_current es l && nat_lt high (level_of es)) (has_first_at_level es high (m ∷ c)) a in
+    let one = and_parts (is_falsified (lits_of es) (l ∷ (m ∷ c)) && is_current es l && nat_lt high (level_of es)) (is_first_lit_at_level es high (m ∷ c)) a in
     let two = and_parts (is_falsified (lits_of es) (l ∷ (m ∷ c)) && is_current es l) (nat_lt high (level_of es)) one.0 in
     let three = and_parts (is_falsified (lits_of es) (l ∷ (m ∷ c))) (is_current es l) two.0 in
-    let first = eqb-true (level_at es l) (level_of es) three.1 in
-    let second = eqb-true (level_at es m) high one.1 in
+    let first = eqb-true (level_of_literal es l) (level_of es) three.1 in
+    let second = eqb-true (level_of_literal es m) high one.1 in
     let under = ltb-true high (level_of es) two.1 in
     let rest = (and_parts (is_false (lits_of es) l) (is_falsified (lits_of es) (m ∷ c)) three.0).1 in (
       unset-below es n l d (omega (arith, b, first, under)),

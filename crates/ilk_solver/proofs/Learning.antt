@@ -15,12 +15,12 @@ use Rattle.ilk_trail.specs.Laws.{lits_of}
 use Rattle.ilk_watches.specs.Reasons.{nth_clause_or_empty, is_conflict}
 use Rattle.ilk_watches.proofs.Within.{clause-there}
 use Rattle.ilk_learn.specs.Levels.{is_current, highest_level}
-use Rattle.ilk_learn.specs.Asserting.{back_level, has_first_at_level, is_false_in_asserting_order}
+use Rattle.ilk_learn.specs.Asserting.{back_level, is_first_lit_at_level, is_false_in_asserting_order}
 use Rattle.ilk_solver.specs.Levels.{LowerLevelsAreSaturated}
 use Rattle.ilk_solver.specs.Search.{SearchLists, IsSearch, all_clauses}
 use Rattle.ilk_solver.specs.Learned.{IsLearnedAssertingStep}
-use Rattle.ilk_solver.specs.View.{ViewLists}
-use Rattle.ilk_solver.specs.Held.{search_from_clauses, HoldsSearch}
+use Rattle.ilk_solver.specs.View.{TrailAndWeights}
+use Rattle.ilk_solver.specs.Held.{search_with_log_and_view, HoldsSearch}
 use Rattle.ilk_solver.proofs.Searches.{known-closed}
 
 no-conflict : (cs : List (List Literal)) (set : List Literal) (c : ℕ) → is_saturated cs set ≡ true → is_conflict cs set c ≡ false
@@ -40,7 +40,7 @@ pub back-below : (es : List Entry) (c : List Literal) → is_false_in_asserting_
 back-below es [] a = absurd (cc)
 back-below es (l ∷ ls) a =
     let high = highest_level es ls in
-    let one = and_parts (is_falsified (lits_of es) (l ∷ ls) && is_current es l && nat_lt high (level_of es)) (has_first_at_level es high ls) a in
+    let one = and_parts (is_falsified (lits_of es) (l ∷ ls) && is_current es l && nat_lt high (level_of es)) (is_first_lit_at_level es high ls) a in
     let two = and_parts (is_falsified (lits_of es) (l ∷ ls) && is_current es l) (nat_lt high (level_of es)) one.0 in
     ltb-true high (level_of es) two.1
 
@@ -50,11 +50,11 @@ stuck s step k h p l = record {
   next = (step, l.derived, l.fresh);
 }
 
-pub learned-here : (cs : Formula) (given : ℕ) (log : List Step) (view : ViewLists) (step : Step) (k : ℕ) →
+pub learned-here : (cs : Formula) (given : ℕ) (log : List Step) (view : TrailAndWeights) (step : Step) (k : ℕ) →
     HoldsSearch cs given log view → is_derived cs.vars cs.clauses step ≡ true →
     is_false_in_asserting_order view.trail.entries step.clause ≡ true → k ≡ back_level view.trail.entries step.clause →
     (is_saturated cs.clauses (lits_of (entries_up_to k view.trail.entries)) ≡ true → IsEmpowering cs.clauses step.clause) →
-    IsLearnedAssertingStep (search_from_clauses cs given log view) step k
+    IsLearnedAssertingStep (search_with_log_and_view cs given log view) step k
 learned-here cs given log view step k h d a b fresh =
     let below = back-below view.trail.entries step.clause a in
     let D : List (List Literal) → Type 0 = λ xs. is_derived cs.vars xs step ≡ true in

@@ -16,14 +16,15 @@ use Rattle.ilk_trail.proofs.Levels.{next-level}
 use Rattle.ilk_learn.proofs.Latest.{entry-at}
 use Rattle.ilk_solver.specs.Assigned.{AllSet}
 use Rattle.ilk_solver.specs.Heaviest.{IsHeaviest}
-use Rattle.ilk_solver.specs.Order.{HasEntriesAbove, TreeHasAllUnsetVars, HasNoSetTop, LosesNoUnset}
-use Rattle.ilk_solver.specs.Tree.{IsTree, LosesNoVariable, HasSameVariables, IsAtLeaf, leaves_of, variable_at_top}
-use Rattle.ilk_solver.specs.Word.{word_of}
-use Rattle.ilk_solver.specs.View.{ViewLists, IsView, is_unset}
+use Rattle.ilk_solver.specs.Order.{HasVarsSetAboveLevel, TreeHasAllUnsetVars, HasNoSetTop, LosesNoUnset}
+use Rattle.ilk_solver.specs.Tree.{IsWinnerTree, KeepsVariablesInTree, HasSameVariables, IsVariableInTree, leaves_of, variable_at_top}
+use Rattle.ilk_solver.specs.Word.{packed_weight_and_variable}
+use Rattle.ilk_solver.specs.View.{TrailAndWeights, IsValidView, is_unset}
 use Rattle.ilk_solver.proofs.Trees.{leaves-short, top-pick_greatest_positive, top-stands, top-within}
 use Rattle.ilk_solver.proofs.Words.{greater-heavier, word-positive}
 
-pub fewer : (ws t u : List ℕ) → IsTree ws t → 0 < variable_at_top t → leaves_of ws u ≡ set (leaves_of ws t) (variable_at_top t) 0 → sum_by (λ (x : ℕ). cond (eqb x 0) 0 1) (leaves_of ws u) < sum_by (λ (x : ℕ). cond (eqb x 0) 0 1) (leaves_of ws t)
+pub fewer : (ws t u : List ℕ) → IsWinnerTree ws t → 0 < variable_at_top t → leaves_of ws u ≡ set (leaves_of ws t) (variable_at_top t) 0
+    → sum_by (λ (x : ℕ). cond (eqb x 0) 0 1) (leaves_of ws u) < sum_by (λ (x : ℕ). cond (eqb x 0) 0 1) (leaves_of ws t)
 fewer ws t u h p e =
     elim (top-stands ws t h) [
       | inl z ↦ absurd (omega (arith, z.1, p))
@@ -31,7 +32,7 @@ fewer ws t u h p e =
           let v = variable_at_top t in
           let s = sum_by-set f (leaves_of ws t) v 0 0 (leaves-short ws t v h z.1) in
           let some = word-positive ws v (let n = h.numbered in let b = z.1 in omega (arith, n, b)) in
-          let one : f (get_or (leaves_of ws t) v 0) ≡ 1 = elim (eqb_tells (word_of ws v) 0) [
+          let one : f (get_or (leaves_of ws t) v 0) ≡ 1 = elim (eqb_tells (packed_weight_and_variable ws v) 0) [
             | inl q ↦ absurd (omega (arith, q.1, some))
             | inr q ↦ ap f z.2 ∙ rw q.0 refl
           ] in
@@ -39,12 +40,12 @@ fewer ws t u h p e =
           omega (arith, s, one, to))
     ]
 
-pub put-one : (ws t u : List ℕ) (v : ℕ) → IsTree ws t → v ≤ length ws → leaves_of ws u ≡ set (leaves_of ws t) v (word_of ws v) → LosesNoVariable ws t u × IsAtLeaf ws u v
+pub put-one : (ws t u : List ℕ) (v : ℕ) → IsWinnerTree ws t → v ≤ length ws → leaves_of ws u ≡ set (leaves_of ws t) v (packed_weight_and_variable ws v) → KeepsVariablesInTree ws t u × IsVariableInTree ws u v
 put-one ws t u v h q e =
-    let x = word_of ws v in
-    let here : IsAtLeaf ws u v = ap (λ (ls : List ℕ). get_or ls v 0) e ∙ get_or-set_same (leaves_of ws t) v x 0 (leaves-short ws t v h q) in (
+    let x = packed_weight_and_variable ws v in
+    let here : IsVariableInTree ws u v = ap (λ (ls : List ℕ). get_or ls v 0) e ∙ get_or-set_same (leaves_of ws t) v x 0 (leaves-short ws t v h q) in (
       λ w s. elim (cases_eq w v) [
-        | inl d ↦ (let P : ℕ → Type 0 = λ j. IsAtLeaf ws u j in subst P (sym d) here)
+        | inl d ↦ (let P : ℕ → Type 0 = λ j. IsVariableInTree ws u j in subst P (sym d) here)
         | inr d ↦ ap (λ (ls : List ℕ). get_or ls w 0) e ∙ get_or-set_other (leaves_of ws t) v w x 0 d ∙ s
       ],
       here,
@@ -77,8 +78,8 @@ level-between k (x ∷ es) (suc i) (suc j) e f c h s r =
 pub low-above : (t : TrailList) (ws tree : List ℕ) (n level : ℕ) (x : Entry) (l : Literal) (k : ℕ) →
     IsTrail t → slice_get t.entries (n - 1) ≡ Some x → x.lit ≡ l →
     option_map (λ (e : Entry). e.level) (entry_of t.entries l.var) ≡ Some k → k ≤ level →
-    ((j : ℕ) (e : Entry) → n ≤ j → slice_get t.entries j ≡ Some e → IsAtLeaf ws tree e.lit.var) →
-    HasEntriesAbove t.entries level ws tree
+    ((j : ℕ) (e : Entry) → n ≤ j → slice_get t.entries j ≡ Some e → IsVariableInTree ws tree e.lit.var) →
+    HasVarsSetAboveLevel t.entries level ws tree
 low-above t ws tree n level x l k h s q r low done = λ i e at above.
     let found : entry_of t.entries l.var ≡ Some x = ap (λ (m : Literal). entry_of t.entries m.var) (sym q) ∙ entry-at t.entries (n - 1) x h.once s in
     let here : Some x.level ≡ Some k = sym (ap (option_map (λ (e : Entry). e.level)) found) ∙ r in
@@ -89,25 +90,25 @@ low-above t ws tree n level x l k h s q r low done = λ i e at above.
     ]
 
 pub put-done : (t : TrailList) (ws tree : List ℕ) (n : ℕ) (x : Entry) (l : Literal) (v : ℕ) →
-    slice_get t.entries (n - 1) ≡ Some x → x.lit ≡ l → v ≡ l.var → IsAtLeaf ws tree v →
-    ((j : ℕ) (e : Entry) → n ≤ j → slice_get t.entries j ≡ Some e → IsAtLeaf ws tree e.lit.var) →
-    (j : ℕ) (e : Entry) → n - 1 ≤ j → slice_get t.entries j ≡ Some e → IsAtLeaf ws tree e.lit.var
+    slice_get t.entries (n - 1) ≡ Some x → x.lit ≡ l → v ≡ l.var → IsVariableInTree ws tree v →
+    ((j : ℕ) (e : Entry) → n ≤ j → slice_get t.entries j ≡ Some e → IsVariableInTree ws tree e.lit.var) →
+    (j : ℕ) (e : Entry) → n - 1 ≤ j → slice_get t.entries j ≡ Some e → IsVariableInTree ws tree e.lit.var
 put-done t ws tree n x l v s q r here done = λ j e h at.
     elim (cases_lt j n) [
       | inl b ↦ (let same : Some x ≡ Some e = sym s ∙ ap (slice_get t.entries) (omega (arith, h, b)) ∙ at in
           let one : x ≡ e = cc in
-          let P : ℕ → Type 0 = λ w. IsAtLeaf ws tree w in
+          let P : ℕ → Type 0 = λ w. IsVariableInTree ws tree w in
           subst P (r ∙ ap (λ (m : Literal). m.var) (sym q) ∙ ap (λ (y : Entry). y.lit.var) one) here)
       | inr b ↦ done j e b at
     ]
 
-pub unset-parts : (view : ViewLists) (v : ℕ) → is_unset view v ≡ true → (0 < v) × (v ≤ view.trail.vars) × (is_set view.trail.entries v ≡ false)
+pub unset-parts : (view : TrailAndWeights) (v : ℕ) → is_unset view v ≡ true → (0 < v) × (v ≤ view.trail.vars) × (is_set view.trail.entries v ≡ false)
 unset-parts view v h =
     let p = and_parts (is_lit_over view.trail.vars (positive_lit v)) (not (is_set view.trail.entries v)) h in
     let w = is_lit_over-parts view.trail.vars (positive_lit v) p.0 in
     (w.0, w.1, not-true (is_set view.trail.entries v) p.1)
 
-pub unset-from : (view : ViewLists) (v : ℕ) → 0 < v → v ≤ view.trail.vars → is_set view.trail.entries v ≡ false → is_unset view v ≡ true
+pub unset-from : (view : TrailAndWeights) (v : ℕ) → 0 < v → v ≤ view.trail.vars → is_set view.trail.entries v ≡ false → is_unset view v ≡ true
 unset-from view v p w h = and_from (is_lit_over view.trail.vars (positive_lit v)) (not (is_set view.trail.entries v)) (and_from _ _ (lt-ltb 0 v p) (le-leb v view.trail.vars w)) (not_from_false (is_set view.trail.entries v) h)
 
 set-take : (n : ℕ) (es : List Entry) (v : ℕ) → is_set es v ≡ false → is_set (take n es) v ≡ false
@@ -138,7 +139,8 @@ above-at k (x ∷ es) v h u =
           ])
     ]
 
-pub holds : (view : ViewLists) (t u : List ℕ) → IsView view → IsTree view.weights u → ((v : ℕ) → is_unset view v ≡ true → IsAtLeaf view.weights t v) → LosesNoUnset view.trail.entries view.weights t u → HasNoSetTop view.trail.entries u
+pub holds : (view : TrailAndWeights) (t u : List ℕ) → IsValidView view → IsWinnerTree view.weights u → ((v : ℕ) → is_unset view v ≡ true → IsVariableInTree view.weights t v) → LosesNoUnset view.trail.entries view.weights t u
+    → HasNoSetTop view.trail.entries u
     → TreeHasAllUnsetVars view u
 holds view t u h w s k e = record {
   is = h;
@@ -147,18 +149,18 @@ holds view t u h w s k e = record {
   settled = e;
 }
 
-pub stands-back : (view : ViewLists) (t u : List ℕ) (k : ℕ) → TreeHasAllUnsetVars view t →
-    LosesNoVariable view.weights t u → HasEntriesAbove view.trail.entries k view.weights u → (v : ℕ) → 0 < v →
-    v ≤ view.trail.vars → is_set (entries_up_to k view.trail.entries) v ≡ false → IsAtLeaf view.weights u v
+pub stands-back : (view : TrailAndWeights) (t u : List ℕ) (k : ℕ) → TreeHasAllUnsetVars view t →
+    KeepsVariablesInTree view.weights t u → HasVarsSetAboveLevel view.trail.entries k view.weights u → (v : ℕ) → 0 < v →
+    v ≤ view.trail.vars → is_set (entries_up_to k view.trail.entries) v ≡ false → IsVariableInTree view.weights u v
 stands-back view t u k h kept above v p w e =
     elim (cases_Bool (is_set view.trail.entries v)) [
       | inl s ↦ (let r = above-at k view.trail.entries v s e in
-          let P : ℕ → Type 0 = λ j. IsAtLeaf view.weights u j in
+          let P : ℕ → Type 0 = λ j. IsVariableInTree view.weights u j in
           subst P r.4 (above r.0 r.1 r.2 r.3))
       | inr s ↦ kept v (h.stands v (unset-from view v p w s))
     ]
 
-pub top-heaviest : (view : ViewLists) (t : List ℕ) → TreeHasAllUnsetVars view t → 0 < variable_at_top t → IsHeaviest view (variable_at_top t)
+pub top-heaviest : (view : TrailAndWeights) (t : List ℕ) → TreeHasAllUnsetVars view t → 0 < variable_at_top t → IsHeaviest view (variable_at_top t)
 top-heaviest view t h p = record {
   unset = elim h.settled [
     | inl e ↦ absurd (omega (arith, e, p))
@@ -174,7 +176,7 @@ top-heaviest view t h p = record {
   ];
 }
 
-pub top-none : (view : ViewLists) (t : List ℕ) → TreeHasAllUnsetVars view t → variable_at_top t ≡ 0 → AllSet view
+pub top-none : (view : TrailAndWeights) (t : List ℕ) → TreeHasAllUnsetVars view t → variable_at_top t ≡ 0 → AllSet view
 top-none view t h e = λ v p w.
     elim (cases_Bool (is_set view.trail.entries v)) [
       | inl s ↦ s
@@ -188,32 +190,32 @@ top-none view t h e = λ v p w.
       ]
     ]
 
-pub holds-counted : (view : ViewLists) (ws t u s : List ℕ) → TreeHasAllUnsetVars view t →
-    length ws ≡ length view.weights → HasSameVariables view.weights t ws u → IsTree ws s →
+pub holds-counted : (view : TrailAndWeights) (ws t u s : List ℕ) → TreeHasAllUnsetVars view t →
+    length ws ≡ length view.weights → HasSameVariables view.weights t ws u → IsWinnerTree ws s →
     LosesNoUnset view.trail.entries ws u s → HasNoSetTop view.trail.entries s →
     TreeHasAllUnsetVars (record { trail = view.trail; weights = ws }) s
 holds-counted view ws t u s h n kept w keeps settled =
-    let new : ViewLists = record { trail = view.trail; weights = ws } in
+    let new : TrailAndWeights = record { trail = view.trail; weights = ws } in
     holds new u s (record { trail = h.is.trail; weighed = n ∙ h.is.weighed }) w (λ v q. (let p = unset-parts new v q in kept.kept v p.0 (h.stands v (unset-from view v p.0 p.1 p.2)))) keeps settled
 
-pub holds-longer : (view : ViewLists) (now : TrailList) (t u : List ℕ) → TreeHasAllUnsetVars view t → IsTrail now →
+pub holds-longer : (view : TrailAndWeights) (now : TrailList) (t u : List ℕ) → TreeHasAllUnsetVars view t → IsTrail now →
     now.vars ≡ view.trail.vars → take (length view.trail.entries) now.entries ≡ view.trail.entries →
-    IsTree view.weights u → LosesNoUnset now.entries view.weights t u → HasNoSetTop now.entries u →
+    IsWinnerTree view.weights u → LosesNoUnset now.entries view.weights t u → HasNoSetTop now.entries u →
     TreeHasAllUnsetVars (record { trail = now; weights = view.weights }) u
 holds-longer view now t u h k n e w kept settled =
-    let new : ViewLists = record { trail = now; weights = view.weights } in
+    let new : TrailAndWeights = record { trail = now; weights = view.weights } in
     holds new t u (record { trail = k; weighed = h.is.weighed ∙ sym n }) w
     (λ v q. (let p = unset-parts new v q in
     h.stands v (unset-from view v p.0 (let b = p.1 in omega (arith, b, n)) (unset-before view.trail.entries now.entries v e p.2))))
     kept settled
 
-pub holds-back : (view : ViewLists) (now : TrailList) (k : ℕ) (t s u : List ℕ) → TreeHasAllUnsetVars view t →
+pub holds-back : (view : TrailAndWeights) (now : TrailList) (k : ℕ) (t s u : List ℕ) → TreeHasAllUnsetVars view t →
     IsTrail now → now ≡ record { vars = view.trail.vars; entries = entries_up_to k view.trail.entries } →
-    LosesNoVariable view.weights t s → HasEntriesAbove view.trail.entries k view.weights s → IsTree view.weights u →
+    KeepsVariablesInTree view.weights t s → HasVarsSetAboveLevel view.trail.entries k view.weights s → IsWinnerTree view.weights u →
     LosesNoUnset now.entries view.weights s u → HasNoSetTop now.entries u →
     TreeHasAllUnsetVars (record { trail = now; weights = view.weights }) u
 holds-back view now k t s u h i e kept above w keeps settled =
-    let new : ViewLists = record { trail = now; weights = view.weights } in
+    let new : TrailAndWeights = record { trail = now; weights = view.weights } in
     let n : now.vars ≡ view.trail.vars = ap (λ (x : TrailList). x.vars) e in
     let es : now.entries ≡ entries_up_to k view.trail.entries = ap (λ (x : TrailList). x.entries) e in
     holds new s u (record { trail = i; weighed = h.is.weighed ∙ sym n }) w

@@ -18,7 +18,7 @@ use Rattle.ilk_trail.specs.declared.entry.Entry.{Entry}
 use Rattle.ilk_trail.specs.Trail.{value_of_literal}
 use Rattle.ilk_trail.specs.Laws.{lits_of}
 use Rattle.ilk_watches.proofs.Values.{value-none, value-tells}
-use Rattle.ilk_solver.specs.View.{ViewLists, IsView}
+use Rattle.ilk_solver.specs.View.{TrailAndWeights, IsValidView}
 use Rattle.ilk_solver.specs.Assigned.{assignment_of, AllSet}
 use Rattle.ilk_solver.specs.Answered.{IsSolution}
 
@@ -38,14 +38,14 @@ value-positive_lit (x ∷ es) l h =
     sign false true h = absurd (cc)
     sign false false h = refl
 
-assigned-at : (view : ViewLists) (v : ℕ) (b : Bool) → 0 < v → v ≤ view.trail.vars → value_of_literal view.trail.entries (positive_lit v) ≡ Some b → value (assignment_of view) v ≡ b
+assigned-at : (view : TrailAndWeights) (v : ℕ) (b : Bool) → 0 < v → v ≤ view.trail.vars → value_of_literal view.trail.entries (positive_lit v) ≡ Some b → value (assignment_of view) v ≡ b
 assigned-at view zero b h k e = absurd (omega arith)
 assigned-at view (suc i) b h k e =
     let f : ℕ → Bool = λ v. unwrap_or (value_of_literal view.trail.entries (positive_lit (v + 1))) false in
     let next : i + 1 ≡ suc i = omega arith in
     get_or-map-range_with_len f 0 view.trail.vars i i false (omega arith) (omega arith) ∙ ap (λ (j : ℕ). unwrap_or (value_of_literal view.trail.entries (positive_lit j)) false) next ∙ ap (λ (o : Option Bool). unwrap_or o false) e
 
-true-literal : (view : ViewLists) (l : Literal) → is_lit_over view.trail.vars l ≡ true → value_of_literal view.trail.entries l ≡ Some true → is_true (assignment_of view) l ≡ true
+true-literal : (view : TrailAndWeights) (l : Literal) → is_lit_over view.trail.vars l ≡ true → value_of_literal view.trail.entries l ≡ Some true → is_true (assignment_of view) l ≡ true
 true-literal view l h e =
     let p = is_lit_over-parts view.trail.vars l h in
     let v = assigned-at view l.var l.positive p.0 p.1 (value-positive_lit view.trail.entries l e) in
@@ -59,7 +59,7 @@ not-false None h k = absurd (h refl)
 not-false (Some true) h k = refl
 not-false (Some false) h k = absurd (cc)
 
-true-clause : (view : ViewLists) (c : List Literal) → has_distinct_vars (lits_of view.trail.entries) ≡ true → AllSet view → is_clause_over view.trail.vars c ≡ true → is_falsified (lits_of view.trail.entries) c ≡ false
+true-clause : (view : TrailAndWeights) (c : List Literal) → has_distinct_vars (lits_of view.trail.entries) ≡ true → AllSet view → is_clause_over view.trail.vars c ≡ true → is_falsified (lits_of view.trail.entries) c ≡ false
     → is_clause_true (assignment_of view) c ≡ true
 true-clause view [] d s h f = absurd (cc)
 true-clause view (l ∷ c) d s h f =
@@ -72,7 +72,7 @@ true-clause view (l ∷ c) d s h f =
       | inr a ↦ or_left (is_true (assignment_of view) l) (is_clause_true (assignment_of view) c) (true-literal view l p.0 (not-false (value_of_literal es l) (λ n. true≢false (sym (s l.var within.0 within.1) ∙ value-none es l n)) (sym t.denied ∙ a)))
     ]
 
-pub satisfied : (view : ViewLists) (cs : List (List Literal)) →
+pub satisfied : (view : TrailAndWeights) (cs : List (List Literal)) →
     has_distinct_vars (lits_of view.trail.entries) ≡ true → AllSet view → are_clauses_over view.trail.vars cs ≡ true →
     is_saturated cs (lits_of view.trail.entries) ≡ true → satisfies (assignment_of view) cs ≡ true
 satisfied view [] d s h k = refl
@@ -83,7 +83,7 @@ satisfied view (c ∷ cs) d s h k =
     let open_clause = not-true (is_falsified set c) (and_parts (not (is_falsified set c)) (is_none (unit_lit set c)) q.0).0 in
     and_from (is_clause_true (assignment_of view) c) (satisfies (assignment_of view) cs) (true-clause view c d s p.0 open_clause) (satisfied view cs d s p.1 q.1)
 
-pub solution : (f : Formula) (n : ℕ) (view : ViewLists) → IsFormula f → IsView view →
+pub solution : (f : Formula) (n : ℕ) (view : TrailAndWeights) → IsFormula f → IsValidView view →
     view.trail.vars ≡ f.vars → AllSet view → is_saturated f.clauses (lits_of view.trail.entries) ≡ true →
     IsSolution (record { vars = f.vars; clauses = take n f.clauses }) (assignment_of view)
 solution f n view k w same s h =

@@ -11,7 +11,7 @@ use Rattle.ilk_trail.specs.Trail.{level_of}
 use Rattle.ilk_trail.specs.Laws.{is_set, lits_of}
 use Rattle.ilk_trail.proofs.Levels.{level-small}
 use Rattle.ilk_solver.specs.Assigned.{AllSet, SomeUnset}
-use Rattle.ilk_solver.specs.View.{ViewLists, IsView}
+use Rattle.ilk_solver.specs.View.{TrailAndWeights, IsValidView}
 use Rattle.ilk_solver.specs.Search.{SearchLists, IsSearch}
 
 abbrev count_set : ℕ → List Literal → ℕ
@@ -83,26 +83,26 @@ one-unset (suc n) ls h =
       | inr t ↦ (suc n, omega arith, omega arith, t)
     ]
 
-count-entries : (view : ViewLists) → IsView view → count_set view.trail.vars (lits_of view.trail.entries) ≡ length view.trail.entries
+count-entries : (view : TrailAndWeights) → IsValidView view → count_set view.trail.vars (lits_of view.trail.entries) ≡ length view.trail.entries
 count-entries view k =
     count-all view.trail.vars (lits_of view.trail.entries) k.trail.within k.trail.once ∙ length-map view.trail.entries (λ (e : Entry). e.lit)
 
-pub all-set : (view : ViewLists) → IsView view → view.trail.vars ≤ length view.trail.entries → AllSet view
+pub all-set : (view : TrailAndWeights) → IsValidView view → view.trail.vars ≤ length view.trail.entries → AllSet view
 all-set view k h = λ v p w. each-set view.trail.vars (lits_of view.trail.entries) v (let c = count-entries view k in omega (arith, c, h)) p w
 
-pub few-entries : (view : ViewLists) → IsView view → length view.trail.entries ≤ view.trail.vars
+pub few-entries : (view : TrailAndWeights) → IsValidView view → length view.trail.entries ≤ view.trail.vars
 few-entries view k =
     let c = count-entries view k in
     let m = count-most view.trail.vars (lits_of view.trail.entries) in
     omega (arith, c, m)
 
-pub some-unset : (view : ViewLists) → IsView view → length view.trail.entries < view.trail.vars → SomeUnset view
+pub some-unset : (view : TrailAndWeights) → IsValidView view → length view.trail.entries < view.trail.vars → SomeUnset view
 some-unset view k h =
     let c = count-entries view k in
     let u = one-unset view.trail.vars (lits_of view.trail.entries) (omega (arith, c, h)) in
     (u.0, and_from _ _ (and_from _ _ (lt-ltb 0 u.0 u.1) (le-leb u.0 view.trail.vars u.2)) (not_from_false (is_set view.trail.entries u.0) u.3))
 
-pub level-few : (s : SearchLists) → IsSearch s → IsView s.view → level_of s.view.trail.entries ≤ s.formula.vars
+pub level-few : (s : SearchLists) → IsSearch s → IsValidView s.view → level_of s.view.trail.entries ≤ s.formula.vars
 level-few s h k =
     let few = few-entries s.view k in
     let small = level-small 0 s.view.trail.entries k.trail.climbing in

@@ -2,8 +2,8 @@ use Rattle.std.proofs.Common.{◌≡◌, ◌≢◌, ◌⊎◌, ◌+◌, ◌*◌,
 use Rattle.std.proofs.lemmas.Bool.{cases_eq, cases_lt}
 use Rattle.std.proofs.lemmas.List.{get_or-drop, get_or-set_same, get_or-set_other, length-set, drop-set-lt, drop-set-add, get_or_past, length-drop}
 use Rattle.ilk_solver.specs.declared.word.TheConstants.{MOST_VARIABLES}
-use Rattle.ilk_solver.specs.Word.{IsGreaterOfTwo, variable_of, word_of}
-use Rattle.ilk_solver.specs.Tree.{IsTree, IsTreeExceptAt, IsWinnerNode, HasSameVariables, IsAtLeaf, leaves_of, variable_at_top}
+use Rattle.ilk_solver.specs.Word.{IsGreaterOfTwo, variable_of, packed_weight_and_variable}
+use Rattle.ilk_solver.specs.Tree.{IsWinnerTree, IsWinnerTreeExceptAt, IsWinnerNode, HasSameVariables, IsVariableInTree, leaves_of, variable_at_top}
 use Rattle.ilk_solver.proofs.Words.{variable-is, variable-none}
 
 won-other : (t : List ℕ) (i x k : ℕ) → k ≢ i → 2 * k ≢ i → 2 * k + 1 ≢ i → IsWinnerNode t k → IsWinnerNode (set t i x) k
@@ -13,14 +13,14 @@ won-other t i x k a b c w =
     let g = get_or-set_other t i (2 * k + 1) x 0 c in
     rw (e, f, g) w
 
-pub decided-node : (ws t : List ℕ) (j x : ℕ) → IsTreeExceptAt ws t j → 0 < j → j ≤ length ws → IsGreaterOfTwo x (get_or t (2 * j) 0) (get_or t (2 * j + 1) 0) → IsTreeExceptAt ws (set t j x) (j / 2)
+pub decided-node : (ws t : List ℕ) (j x : ℕ) → IsWinnerTreeExceptAt ws t j → 0 < j → j ≤ length ws → IsGreaterOfTwo x (get_or t (2 * j) 0) (get_or t (2 * j + 1) 0) → IsWinnerTreeExceptAt ws (set t j x) (j / 2)
 decided-node ws t j x h p q e =
     let same : leaves_of ws (set t j x) ≡ leaves_of ws t = drop-set-lt (length ws + 1) t j x (omega (arith, q)) in
     let inside : j < length t = (let s = h.size in omega (arith, s, q)) in
     record {
       numbered = h.numbered;
       size = length-set t j x ∙ h.size;
-      leaf = (let P : List ℕ → Type 0 = λ ls. (v : ℕ) → v ≤ length ws → (get_or ls v 0 ≡ 0) ⊎ ((0 < v) × (get_or ls v 0 ≡ word_of ws v)) in subst P (sym same) h.leaf);
+      leaf = (let P : List ℕ → Type 0 = λ ls. (v : ℕ) → v ≤ length ws → (get_or ls v 0 ≡ 0) ⊎ ((0 < v) × (get_or ls v 0 ≡ packed_weight_and_variable ws v)) in subst P (sym same) h.leaf);
       won = λ k a b c. elim (cases_eq k j) [
         | inl d ↦ (let W : ℕ → Type 0 = IsWinnerNode (set t j x) in
             let f = get_or-set_same t j x 0 inside in
@@ -32,7 +32,7 @@ decided-node ws t j x h p q e =
       ];
     }
 
-pub right-node : (ws t : List ℕ) (j : ℕ) → IsTreeExceptAt ws t j → IsGreaterOfTwo (get_or t j 0) (get_or t (2 * j) 0) (get_or t (2 * j + 1) 0) → IsTree ws t
+pub right-node : (ws t : List ℕ) (j : ℕ) → IsWinnerTreeExceptAt ws t j → IsGreaterOfTwo (get_or t j 0) (get_or t (2 * j) 0) (get_or t (2 * j + 1) 0) → IsWinnerTree ws t
 right-node ws t j h e = record {
   numbered = h.numbered;
   size = h.size;
@@ -43,9 +43,9 @@ right-node ws t j h e = record {
   ];
 }
 
-pub leaf-written : (ws ws2 t : List ℕ) (v x : ℕ) → IsTree ws t → length ws2 ≡ length ws → 0 < v →
-    v ≤ length ws → (x ≡ 0) ⊎ (x ≡ word_of ws2 v) → ((u : ℕ) → 0 < u → u ≢ v → word_of ws2 u ≡ word_of ws u) →
-    IsTreeExceptAt ws2 (set t (length ws + 1 + v) x) ((length ws + 1 + v) / 2)
+pub leaf-written : (ws ws2 t : List ℕ) (v x : ℕ) → IsWinnerTree ws t → length ws2 ≡ length ws → 0 < v →
+    v ≤ length ws → (x ≡ 0) ⊎ (x ≡ packed_weight_and_variable ws2 v) → ((u : ℕ) → 0 < u → u ≢ v → packed_weight_and_variable ws2 u ≡ packed_weight_and_variable ws u) →
+    IsWinnerTreeExceptAt ws2 (set t (length ws + 1 + v) x) ((length ws + 1 + v) / 2)
 leaf-written ws ws2 t v x h n p q e others =
     let i = length ws + 1 + v in
     let inside : i < length t = (let s = h.size in omega (arith, s, q)) in
@@ -54,7 +54,7 @@ leaf-written ws ws2 t v x h n p q e others =
       numbered = (let a = h.numbered in omega (arith, a, n));
       size = (let s = length-set t i x ∙ h.size in omega (arith, s, n));
       leaf = rw n (λ u r. elim (cases_eq u v) [
-        | inl d ↦ (let P : ℕ → Type 0 = λ y. (get_or (leaves_of ws (set t i x)) y 0 ≡ 0) ⊎ ((0 < y) × (get_or (leaves_of ws (set t i x)) y 0 ≡ word_of ws2 y)) in
+        | inl d ↦ (let P : ℕ → Type 0 = λ y. (get_or (leaves_of ws (set t i x)) y 0 ≡ 0) ⊎ ((0 < y) × (get_or (leaves_of ws (set t i x)) y 0 ≡ packed_weight_and_variable ws2 y)) in
             let f : get_or (leaves_of ws (set t i x)) v 0 ≡ x = get_or-drop (length ws + 1) (set t i x) v 0 ∙ get_or-set_same t i x 0 inside in
             subst P (sym d) (elim e [ inl g ↦ inl (f ∙ g) | inr g ↦ inr (p, f ∙ g) ]))
         | inr d ↦ (let f : get_or (leaves_of ws (set t i x)) u 0 ≡ get_or (leaves_of ws t) u 0 = ap (λ (ls : List ℕ). get_or ls u 0) same ∙ get_or-set_other (leaves_of ws t) v u x 0 d in
@@ -68,9 +68,9 @@ leaf-at ws t v = get_or-drop (length ws + 1) t v 0
 
 -- A node has a variable that is at its leaf, or none.
 abbrev pub IsOf : List ℕ → List ℕ → ℕ → Type 0
-IsOf ws t x = (x ≡ 0) ⊎ ((v : ℕ) × (0 < v) × (v ≤ length ws) × IsAtLeaf ws t v × (x ≡ word_of ws v))
+IsOf ws t x = (x ≡ 0) ⊎ ((v : ℕ) × (0 < v) × (v ≤ length ws) × IsVariableInTree ws t v × (x ≡ packed_weight_and_variable ws v))
 
-stands-below : (fuel : ℕ) (ws t : List ℕ) (k : ℕ) → IsTree ws t → 0 < k → 2 * length ws + 2 ≤ k + fuel → IsOf ws t (get_or t k 0)
+stands-below : (fuel : ℕ) (ws t : List ℕ) (k : ℕ) → IsWinnerTree ws t → 0 < k → 2 * length ws + 2 ≤ k + fuel → IsOf ws t (get_or t k 0)
 stands-below zero ws t k h a f = inl (get_or_past t k 0 (let s = h.size in omega (arith, s, f)))
 stands-below (suc n) ws t k h a f =
     elim (cases_lt (length ws) k) [
@@ -96,20 +96,21 @@ stands-below (suc n) ws t k h a f =
       ]
     ]
 
-pub top-stands : (ws t : List ℕ) → IsTree ws t → ((get_or t 1 0 ≡ 0) × (variable_at_top t ≡ 0)) ⊎ ((0 < variable_at_top t) × (variable_at_top t ≤ length ws) × IsAtLeaf ws t (variable_at_top t) × (get_or t 1 0 ≡ word_of ws (variable_at_top t)))
+pub top-stands : (ws t : List ℕ) → IsWinnerTree ws t → ((get_or t 1 0 ≡ 0) × (variable_at_top t ≡ 0))
+    ⊎ ((0 < variable_at_top t) × (variable_at_top t ≤ length ws) × IsVariableInTree ws t (variable_at_top t) × (get_or t 1 0 ≡ packed_weight_and_variable ws (variable_at_top t)))
 top-stands ws t h =
     elim (stands-below (2 * length ws + 2) ws t 1 h (omega arith) (omega arith)) [
       | inl e ↦ inl (e, ap variable_of e ∙ variable-none)
       | inr z ↦ (let v = z.0 in
           let same : variable_at_top t ≡ v = ap variable_of z.4 ∙ variable-is ws v (let n = h.numbered in let b = z.2 in omega (arith, n, b)) in
-          let P : ℕ → Type 0 = λ w. (0 < w) × (w ≤ length ws) × IsAtLeaf ws t w × (get_or t 1 0 ≡ word_of ws w) in
+          let P : ℕ → Type 0 = λ w. (0 < w) × (w ≤ length ws) × IsVariableInTree ws t w × (get_or t 1 0 ≡ packed_weight_and_variable ws w) in
           inr (subst P (sym same) (z.1, z.2, z.3, z.4)))
     ]
 
-pub top-within : (ws t : List ℕ) → IsTree ws t → variable_at_top t ≤ length ws
+pub top-within : (ws t : List ℕ) → IsWinnerTree ws t → variable_at_top t ≤ length ws
 top-within ws t h = elim (top-stands ws t h) [ inl z ↦ omega (arith, z.1) | inr z ↦ z.1 ]
 
-below-top : (fuel : ℕ) (ws t : List ℕ) (k : ℕ) → IsTree ws t → 0 < k → k ≤ fuel → get_or t k 0 ≤ get_or t 1 0
+below-top : (fuel : ℕ) (ws t : List ℕ) (k : ℕ) → IsWinnerTree ws t → 0 < k → k ≤ fuel → get_or t k 0 ≤ get_or t 1 0
 below-top zero ws t k h a f = absurd (omega (arith, a, f))
 below-top (suc n) ws t k h a f =
     elim (cases_eq k 1) [
@@ -127,17 +128,17 @@ below-top (suc n) ws t k h a f =
       ]
     ]
 
-pub top-pick_greatest_positive : (ws t : List ℕ) (u : ℕ) → IsTree ws t → IsAtLeaf ws t u → word_of ws u ≤ get_or t 1 0
+pub top-pick_greatest_positive : (ws t : List ℕ) (u : ℕ) → IsWinnerTree ws t → IsVariableInTree ws t u → packed_weight_and_variable ws u ≤ get_or t 1 0
 top-pick_greatest_positive ws t u h s =
     let k = length ws + 1 + u in
-    let at : get_or t k 0 ≡ word_of ws u = sym (leaf-at ws t u) ∙ s in
+    let at : get_or t k 0 ≡ packed_weight_and_variable ws u = sym (leaf-at ws t u) ∙ s in
     let b = below-top k ws t k h (omega arith) (omega arith) in
     omega (arith, at, b)
 
-pub word-other : (ws : List ℕ) (v x u : ℕ) → 0 < v → 0 < u → u ≢ v → word_of (set ws (v - 1) x) u ≡ word_of ws u
+pub word-other : (ws : List ℕ) (v x u : ℕ) → 0 < v → 0 < u → u ≢ v → packed_weight_and_variable (set ws (v - 1) x) u ≡ packed_weight_and_variable ws u
 word-other ws v x u p q d = (let g = get_or-set_other ws (v - 1) (u - 1) x 0 (λ y. d (omega (arith, y, p, q))) in rw g refl)
 
-pub reweighed : (ws t : List ℕ) (v x : ℕ) → IsTree ws t → 0 < v → get_or (leaves_of ws t) v 0 ≡ 0 → IsTree (set ws (v - 1) x) t
+pub reweighed : (ws t : List ℕ) (v x : ℕ) → IsWinnerTree ws t → 0 < v → get_or (leaves_of ws t) v 0 ≡ 0 → IsWinnerTree (set ws (v - 1) x) t
 reweighed ws t v x h p e =
     let n = length-set ws (v - 1) x in
     record {
@@ -150,7 +151,7 @@ reweighed ws t v x h p e =
       won = λ k a b c. h.won k a (rw n at b) c;
     }
 
-pub empty-tree : (n : ℕ) (ws t : List ℕ) → n ≡ length ws → n ≤ MOST_VARIABLES → length t ≡ 2 * length ws + 2 → ((k : ℕ) → get_or t k 0 ≡ 0) → IsTree ws t
+pub empty-tree : (n : ℕ) (ws t : List ℕ) → n ≡ length ws → n ≤ MOST_VARIABLES → length t ≡ 2 * length ws + 2 → ((k : ℕ) → get_or t k 0 ≡ 0) → IsWinnerTree ws t
 empty-tree n ws t e b s z = record {
   numbered = omega (arith, e, b);
   size = s;
@@ -158,7 +159,7 @@ empty-tree n ws t e b s z = record {
   won = λ k a c d. (let x = z k in let y = z (2 * k) in let u = z (2 * k + 1) in (omega (arith, x, y), omega (arith, x, u), inl (x ∙ sym y)));
 }
 
-pub leaves-short : (ws t : List ℕ) (v : ℕ) → IsTree ws t → v ≤ length ws → v < length (leaves_of ws t)
+pub leaves-short : (ws t : List ℕ) (v : ℕ) → IsWinnerTree ws t → v ≤ length ws → v < length (leaves_of ws t)
 leaves-short ws t v h q = (let s = h.size in let d = length-drop (length ws + 1) t in omega (arith, s, d, q))
 
 pub keeps-all : (ws t : List ℕ) → HasSameVariables ws t ws t
@@ -175,19 +176,20 @@ keeps-out ws t v x p b e =
     let n = length-set ws (v - 1) x in
     record {
       kept = rw n (λ u q s. elim (cases_eq u v) [
-        | inl d ↦ absurd (let g : word_of ws v ≡ 0 = (let P : ℕ → Type 0 = λ j. get_or (leaves_of ws t) j 0 ≡ word_of ws j in sym (subst P d s) ∙ e) in omega (arith, g, b))
+        | inl d ↦ absurd (let g : packed_weight_and_variable ws v ≡ 0 = (let P : ℕ → Type 0 = λ j. get_or (leaves_of ws t) j 0 ≡ packed_weight_and_variable ws j in sym (subst P d s) ∙ e) in omega (arith, g, b))
         | inr d ↦ s ∙ sym (word-other ws v x u p q d)
       ]);
       none = rw n (λ u z. z);
     }
 
-pub keeps-in : (ws t t2 : List ℕ) (v x : ℕ) → 0 < v → v < length (leaves_of ws t) → get_or (leaves_of ws t) v 0 ≢ 0 → leaves_of ws t2 ≡ set (leaves_of ws t) v (word_of (set ws (v - 1) x) v) → HasSameVariables ws t (set ws (v - 1) x) t2
+pub keeps-in : (ws t t2 : List ℕ) (v x : ℕ) → 0 < v → v < length (leaves_of ws t) → get_or (leaves_of ws t) v 0 ≢ 0 → leaves_of ws t2 ≡ set (leaves_of ws t) v (packed_weight_and_variable (set ws (v - 1) x) v)
+    → HasSameVariables ws t (set ws (v - 1) x) t2
 keeps-in ws t t2 v x p inside full e =
     let n = length-set ws (v - 1) x in
-    let w = word_of (set ws (v - 1) x) v in
+    let w = packed_weight_and_variable (set ws (v - 1) x) v in
     record {
       kept = rw n (λ u q s. elim (cases_eq u v) [
-        | inl d ↦ (let P : ℕ → Type 0 = λ j. get_or (leaves_of ws t2) j 0 ≡ word_of (set ws (v - 1) x) j in
+        | inl d ↦ (let P : ℕ → Type 0 = λ j. get_or (leaves_of ws t2) j 0 ≡ packed_weight_and_variable (set ws (v - 1) x) j in
             subst P (sym d) (ap (λ (ls : List ℕ). get_or ls v 0) e ∙ get_or-set_same (leaves_of ws t) v w 0 inside))
         | inr d ↦ ap (λ (ls : List ℕ). get_or ls u 0) e ∙ get_or-set_other (leaves_of ws t) v u w 0 d ∙ s ∙ sym (word-other ws v x u p q d)
       ]);

@@ -5,14 +5,14 @@ use Rattle.ilk_log.specs.declared.step.Step.{Step}
 use Rattle.ilk_log.specs.Derived.{step_clauses}
 use Rattle.ilk_trail.specs.declared.entry.Entry.{Entry}
 use Rattle.ilk_watches.specs.Reasons.{HasReasons}
-use Rattle.ilk_solver.specs.View.{ViewLists, weight_of, with_trail_entries}
+use Rattle.ilk_solver.specs.View.{TrailAndWeights, weight_of, with_trail_entries}
 use Rattle.ilk_solver.specs.Levels.{LowerLevelsAreSaturated}
 
 -- The content of a search: the formula, the steps so far, and the view.
 pub record SearchLists : Type 0 where
   pub formula : Formula
   pub log : List Step
-  pub view : ViewLists
+  pub view : TrailAndWeights
 
 -- Returns the clauses of the formula, then those of the steps.
 abbrev pub all_clauses : SearchLists → List (List Literal)
@@ -27,7 +27,7 @@ abbrev pub with_trail : SearchLists → List Entry → SearchLists
 with_trail s entries = record s { view = with_trail_entries s.view entries }
 
 -- Holds if the weight of each variable is the number of steps in `log` whose clause contains it.
-abbrev pub WeightsCountSteps : List Step → ViewLists → Type 0
+abbrev pub WeightsCountSteps : List Step → TrailAndWeights → Type 0
 WeightsCountSteps log view = (v : ℕ) → IsTrue (is_lit_over view.trail.vars (positive_lit v)) → weight_of view v ≡ count_by (has_var v) (step_clauses log)
 
 -- Holds for every search between calls. Each forced entry has a reason, propagation is complete at

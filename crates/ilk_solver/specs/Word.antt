@@ -7,8 +7,8 @@ use Rattle.std.specs.Prelude.{ℕ, ◌≡◌, ◌==◌, ◌⊎◌, ◌≤◌, �
 use Rattle.ilk_solver.specs.declared.word.TheConstants.{WEIGHT_LIMIT}
 
 -- Returns the word of variable `v`, whose weight is entry `v - 1`.
-abbrev pub word_of : List ℕ → ℕ → ℕ
-word_of weights v = slice_index weights (v - 1) * WEIGHT_LIMIT + (WEIGHT_LIMIT - 1 - v)
+abbrev pub packed_weight_and_variable : List ℕ → ℕ → ℕ
+packed_weight_and_variable weights v = slice_index weights (v - 1) * WEIGHT_LIMIT + (WEIGHT_LIMIT - 1 - v)
 
 -- Returns the variable with this word, or 0 if the word is 0.
 abbrev pub variable_of : ℕ → ℕ

@@ -1,7 +1,7 @@
 ghost use Rattle.std.specs.Prelude.{◌≡◌, ◌⊎◌, ◌≤◌, ◌<◌, ℕ, true, false, length, IfOk};
 ghost use Rattle.ilk_trail.specs.Laws.{is_set};
-ghost use Rattle.ilk_solver.specs.Order.{HasEntriesAbove, HasNoSetTop, LosesNoUnset};
-ghost use Rattle.ilk_solver.specs.Tree.{IsTree, LosesNoVariable, IsAtLeaf};
+ghost use Rattle.ilk_solver.specs.Order.{HasVarsSetAboveLevel, HasNoSetTop, LosesNoUnset};
+ghost use Rattle.ilk_solver.specs.Tree.{IsWinnerTree, KeepsVariablesInTree, IsVariableInTree};
 ghost use Rattle.ilk_solver.specs.declared.word.TheConstants.{MOST_VARIABLES};
 
 use crate::tree::{put_variable, write_leaf};
@@ -13,9 +13,10 @@ use std::alloc::{AllocError, Global};
 /// Creates a tree that contains every variable, with entry `v - 1` as the weight of variable `v`.
 pub(crate) fn new_tree(alloc: Global, weights: &[u32]) -> Result<Vec<u64>, AllocError>
     requires { length weights.now ≤ MOST_VARIABLES }
-    ensures tree { IfOk result (λ tree. IsTree weights.now tree.items) }
+    ensures tree { IfOk result (λ tree. IsWinnerTree weights.now tree.items) }
     ensures each { IfOk result
-        (λ tree. (v : ℕ) → 0 < v → v ≤ length weights.now → IsAtLeaf weights.now tree.items v) }
+        (λ tree. (v : ℕ) → 0 < v → v ≤ length weights.now →
+        IsVariableInTree weights.now tree.items v) }
 {
     let mut tree = vec![in alloc; 0; 2 * weights.len() + 2]?;
     for v in 0..weights.len() as u64 {
@@ -38,8 +39,8 @@ fn is_past(trail: &Trail, v: u64) -> bool
 /// Removes the variable at the top of `tree` as long as it is set.
 pub(crate) fn drop_set_from_top(trail: &Trail, weights: &[u32], tree: &mut [u64])
     requires vars { trail.now.vars ≡ length weights.now }
-    requires tree { IsTree weights.now tree.old }
-    ensures tree { IsTree weights.now tree.new }
+    requires tree { IsWinnerTree weights.now tree.old }
+    ensures tree { IsWinnerTree weights.now tree.new }
     ensures kept { LosesNoUnset trail.now.entries weights.now tree.old tree.new }
     ensures settled { HasNoSetTop trail.now.entries tree.new }
 {
@@ -52,10 +53,10 @@ pub(crate) fn drop_set_from_top(trail: &Trail, weights: &[u32], tree: &mut [u64]
 /// Puts the variables of the trail's entries above `level` back into `tree`.
 pub(crate) fn put_back_above(trail: &Trail, weights: &[u32], tree: &mut [u64], level: u64)
     requires vars { trail.now.vars ≡ length weights.now }
-    requires tree { IsTree weights.now tree.old }
-    ensures tree { IsTree weights.now tree.new }
-    ensures kept { LosesNoVariable weights.now tree.old tree.new }
-    ensures above { HasEntriesAbove trail.now.entries level weights.now tree.new }
+    requires tree { IsWinnerTree weights.now tree.old }
+    ensures tree { IsWinnerTree weights.now tree.new }
+    ensures kept { KeepsVariablesInTree weights.now tree.old tree.new }
+    ensures above { HasVarsSetAboveLevel trail.now.entries level weights.now tree.new }
 {
     let mut i = trail.count();
     'entries: while i > 0 {

@@ -2,7 +2,7 @@ ghost use Rattle.std.specs.Prelude.{◌≡◌, ℕ, IsTrue};
 ghost use Rattle.std.specs.Borrow.{Bor};
 ghost use Rattle.ilk_cnf.specs.Literal.{Literal};
 ghost use Rattle.ilk_solver.specs.Assigned.{SomeUnset};
-ghost use Rattle.ilk_solver.specs.View.{ViewLists, IsView, is_unset};
+ghost use Rattle.ilk_solver.specs.View.{TrailAndWeights, IsValidView, is_unset};
 
 use crate::view::View;
 use ilk_cnf::Lit;
@@ -13,18 +13,18 @@ use ilk_cnf::Lit;
 #[derive(Drop)]
 pub struct Picker {
     picks: Box<dyn Fn(&View) -> Lit>,
-    ghost callable: { (view : Bor ViewLists) (v : ℕ) → IsView view.now →
+    ghost callable: { (view : Bor TrailAndWeights) (v : ℕ) → IsValidView view.now →
         IsTrue (is_unset view.now v) → pre picks view },
-    ghost unset: { (view : Bor ViewLists) (v : ℕ) (l : Literal) → IsView view.now →
+    ghost unset: { (view : Bor TrailAndWeights) (v : ℕ) (l : Literal) → IsValidView view.now →
         IsTrue (is_unset view.now v) → post picks view l → IsTrue (is_unset view.now l.var) },
 }
 
 impl Picker {
     /// Creates a picker that decides by the closure `picks`.
     pub fn new(picks: Box<dyn Fn(&View) -> Lit>) -> Picker
-        requires callable { (view : Bor ViewLists) (v : ℕ) → IsView view.now →
+        requires callable { (view : Bor TrailAndWeights) (v : ℕ) → IsValidView view.now →
             IsTrue (is_unset view.now v) → pre picks view }
-        requires unset { (view : Bor ViewLists) (v : ℕ) (l : Literal) → IsView view.now →
+        requires unset { (view : Bor TrailAndWeights) (v : ℕ) (l : Literal) → IsValidView view.now →
             IsTrue (is_unset view.now v) → post picks view l → IsTrue (is_unset view.now l.var) }
         ensures { result.picks ≡ picks }
     {

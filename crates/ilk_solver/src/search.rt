@@ -9,7 +9,7 @@ ghost use Rattle.ilk_trail.specs.Trail.{with_decision, level_of, entries_up_to};
 ghost use Rattle.ilk_trail.specs.Laws.{IsTrail, is_set, lits_of};
 ghost use Rattle.ilk_watches.specs.Propagated.{ExtendsByPropagation};
 ghost use Rattle.ilk_solver.specs.Search.{HasStepAdded, IsSearch, all_clauses, new_search, with_trail};
-ghost use Rattle.ilk_solver.specs.View.{IsView};
+ghost use Rattle.ilk_solver.specs.View.{IsValidView};
 ghost use Rattle.ilk_solver.specs.Levels.{LowerLevelsAreSaturated};
 ghost use Rattle.ilk_solver.specs.Assigned.{AllSet, SomeUnset};
 ghost use Rattle.ilk_solver.specs.Learned.{IsLearnedAssertingStep, HasOneStepMore};
@@ -39,11 +39,11 @@ pub(crate) struct Search {
 impl Model for Search {
     ghost use Rattle.ilk_solver.specs.Search.{SearchLists};
     ghost use Rattle.ilk_watches.specs.Chained.{formula_of};
-    ghost use Rattle.ilk_solver.specs.Held.{search_from_clauses, HoldsSearchInArena};
+    ghost use Rattle.ilk_solver.specs.Held.{search_with_log_and_view, HoldsSearchInArena};
 
     ghost Value = { SearchLists };
 
-    ghost view = { λ s. search_from_clauses (formula_of s.clauses) s.given s.log s.view };
+    ghost view = { λ s. search_with_log_and_view (formula_of s.clauses) s.given s.log s.view };
 
     ghost invariant = { λ s. HoldsSearchInArena s.clauses s.queue.head s.queue.settled s.given s.log
         s.view };
@@ -72,7 +72,7 @@ impl Search {
     pub fn view(&self) -> &View
         ensures view { result.now ≡ self.now.view }
         ensures search { IsSearch self.now }
-        ensures lists { IsView self.now.view }
+        ensures lists { IsValidView self.now.view }
     {
         let _ = self.view.vars();
         &self.view

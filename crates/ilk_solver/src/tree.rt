@@ -1,15 +1,15 @@
 ghost use Rattle.std.specs.Prelude.{◌≡◌, ◌⊎◌, ◌≤◌, ◌<◌, ◌+◌, ◌-◌, length, slice_index, slice_set};
-ghost use Rattle.ilk_solver.specs.Word.{word_of};
+ghost use Rattle.ilk_solver.specs.Word.{packed_weight_and_variable};
 ghost use Rattle.ilk_solver.specs.declared.word.TheConstants.{WEIGHT_LIMIT};
-ghost use Rattle.ilk_solver.specs.Tree.{IsTree, IsTreeExceptAt, LosesNoVariable, HasSameVariables, IsAtLeaf, leaves_of};
+ghost use Rattle.ilk_solver.specs.Tree.{IsWinnerTree, IsWinnerTreeExceptAt, KeepsVariablesInTree, HasSameVariables, IsVariableInTree, leaves_of};
 
 use crate::word::{greater, word};
 
 // Decides node `from` again, then the nodes above it, as long as the winner changes.
 fn replay(weights: &[u32], tree: &mut [u64], from: u64)
     requires from { from ≤ length weights.now }
-    requires tree { IsTreeExceptAt weights.now tree.old from }
-    ensures tree { IsTree weights.now tree.new }
+    requires tree { IsWinnerTreeExceptAt weights.now tree.old from }
+    ensures tree { IsWinnerTree weights.now tree.new }
     ensures leaves { leaves_of weights.now tree.new ≡ leaves_of weights.now tree.old }
 {
     let mut at = from as usize;
@@ -28,9 +28,9 @@ fn replay(weights: &[u32], tree: &mut [u64], from: u64)
 pub(crate) fn write_leaf(weights: &[u32], tree: &mut [u64], v: u64, entry: u64)
     requires from_1 { 0 < v }
     requires within { v ≤ length weights.now }
-    requires entry { (entry ≡ 0) ⊎ (entry ≡ word_of weights.now v) }
-    requires tree { IsTree weights.now tree.old }
-    ensures tree { IsTree weights.now tree.new }
+    requires entry { (entry ≡ 0) ⊎ (entry ≡ packed_weight_and_variable weights.now v) }
+    requires tree { IsWinnerTree weights.now tree.old }
+    ensures tree { IsWinnerTree weights.now tree.new }
     ensures leaves { leaves_of weights.now tree.new
         ≡ slice_set (leaves_of weights.now tree.old) v entry }
 {
@@ -46,10 +46,10 @@ pub(crate) fn write_leaf(weights: &[u32], tree: &mut [u64], v: u64, entry: u64)
 pub(crate) fn put_variable(weights: &[u32], tree: &mut [u64], v: u64)
     requires from_1 { 0 < v }
     requires within { v ≤ length weights.now }
-    requires tree { IsTree weights.now tree.old }
-    ensures tree { IsTree weights.now tree.new }
-    ensures kept { LosesNoVariable weights.now tree.old tree.new }
-    ensures stands { IsAtLeaf weights.now tree.new v }
+    requires tree { IsWinnerTree weights.now tree.old }
+    ensures tree { IsWinnerTree weights.now tree.new }
+    ensures kept { KeepsVariablesInTree weights.now tree.old tree.new }
+    ensures stands { IsVariableInTree weights.now tree.new v }
 {
     let leaf = weights.len() + 1 + v as usize;
     if tree[leaf] != 0 {
@@ -64,8 +64,8 @@ pub(crate) fn add_one_weight(weights: &mut [u32], tree: &mut [u64], v: u64)
     requires from_1 { 0 < v }
     requires within { v ≤ length weights.old }
     requires room { slice_index weights.old (v - 1) + 1 < WEIGHT_LIMIT }
-    requires tree { IsTree weights.old tree.old }
-    ensures tree { IsTree weights.new tree.new }
+    requires tree { IsWinnerTree weights.old tree.old }
+    ensures tree { IsWinnerTree weights.new tree.new }
     ensures leaves { HasSameVariables weights.old tree.old weights.new tree.new }
     ensures weights { weights.new
         ≡ slice_set weights.old (v - 1) (slice_index weights.old (v - 1) + 1) }

@@ -11,8 +11,8 @@ ghost use Rattle.ilk_watches.specs.Watched.{IsPropagationInvariant};
 ghost use Rattle.ilk_solver.specs.declared.word.TheConstants.{WEIGHT_LIMIT};
 ghost use Rattle.ilk_solver.specs.Assigned.{AllSet, SomeUnset};
 ghost use Rattle.ilk_solver.specs.Heaviest.{IsHeaviest};
-ghost use Rattle.ilk_solver.specs.Tree.{IsTree, HasSameVariables};
-ghost use Rattle.ilk_solver.specs.View.{IsView, weight_of, with_trail_entries};
+ghost use Rattle.ilk_solver.specs.Tree.{IsWinnerTree, HasSameVariables};
+ghost use Rattle.ilk_solver.specs.View.{IsValidView, weight_of, with_trail_entries};
 
 use crate::order::{drop_set_from_top, new_tree, put_back_above};
 use crate::tree::add_one_weight;
@@ -35,9 +35,9 @@ pub struct View {
 
 impl Model for View {
     ghost use Rattle.ilk_solver.specs.Order.{TreeHasAllUnsetVars};
-    ghost use Rattle.ilk_solver.specs.View.{ViewLists};
+    ghost use Rattle.ilk_solver.specs.View.{TrailAndWeights};
 
-    ghost Value = { ViewLists };
+    ghost Value = { TrailAndWeights };
 
     ghost view = { λ v. record { trail = v.trail; weights = v.weights.items } };
 
@@ -76,7 +76,7 @@ impl View {
     pub fn vars(&self) -> u64
         ensures count { result ≡ self.now.trail.vars }
         ensures numbered { result ≤ 2 ^ 62 }
-        ensures view { IsView self.now }
+        ensures view { IsValidView self.now }
     {
         self.weights.len() as u64
     }
@@ -208,11 +208,11 @@ fn count_in(weights: &mut [u32], tree: &mut [u64], clause: &[Lit])
     requires within { IsTrue (is_clause_over (length weights.old) clause.now) }
     requires differ { IsTrue (has_distinct_vars clause.now) }
     requires room { (i : ℕ) → slice_index weights.old i + 1 < WEIGHT_LIMIT }
-    requires tree { IsTree weights.old tree.old }
+    requires tree { IsWinnerTree weights.old tree.old }
     ensures weights { (v : ℕ) → 0 < v →
         slice_index weights.new (v - 1)
         ≡ slice_index weights.old (v - 1) + (if has_var v clause.now then 1 else 0) }
-    ensures tree { IsTree weights.new tree.new }
+    ensures tree { IsWinnerTree weights.new tree.new }
     ensures leaves { HasSameVariables weights.old tree.old weights.new tree.new }
 {
     for lit in clause {

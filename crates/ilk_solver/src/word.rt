@@ -1,5 +1,5 @@
 ghost use Rattle.std.specs.Prelude.{◌≡◌, ◌⊎◌, ◌≤◌, ◌<◌, length};
-ghost use Rattle.ilk_solver.specs.Word.{variable_of, word_of};
+ghost use Rattle.ilk_solver.specs.Word.{variable_of, packed_weight_and_variable};
 ghost use Rattle.ilk_solver.specs.declared.word.TheConstants.{MOST_VARIABLES};
 
 // The greatest number of variables; their numbers fit the lower half of a word.
@@ -14,7 +14,7 @@ pub(crate) fn word(weights: &[u32], v: u64) -> u64
     requires from_1 { 0 < v }
     requires within { v ≤ length weights.now }
     requires few { length weights.now ≤ MOST_VARIABLES }
-    ensures { result ≡ word_of weights.now v }
+    ensures { result ≡ packed_weight_and_variable weights.now v }
 {
     weights[v as usize - 1] as u64 * WEIGHT_LIMIT + (WEIGHT_LIMIT - 1 - v)
 }

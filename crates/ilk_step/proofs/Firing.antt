@@ -5,7 +5,7 @@ use Rattle.std.proofs.lemmas.Bool.{and_parts, and_from, or_parts, or_from, or_ca
 use Rattle.std.proofs.lemmas.Option.{slice_get_within}
 use Rattle.ilk_base.specs.Option.{is_some_and, then_some}
 use Rattle.ilk_base.proofs.Lists.{slice_get-set_same, slice_get-set_other, same_by_slice_get}
-use Rattle.ilk_ir.specs.Tree.{tree_holds, tree_valid, var_has_value, value_valid}
+use Rattle.ilk_ir.specs.Tree.{tree_holds, tree_valid, is_value_of_var, value_valid}
 use Rattle.ilk_ir.specs.System.{PlainRule, rule_valid, sets_distinct_vars, after_settings, after_rule, in_ranges}
 use Rattle.ilk_ir.specs.declared.system.Setting.{Setting}
 use Rattle.ilk_step.specs.Frame.{sets_variable}
@@ -18,7 +18,7 @@ kept is_set v (w ∷ ws) [] = false
 kept is_set v (w ∷ ws) (x ∷ xs) = (is_set v || w == x) && kept is_set (v + 1) ws xs
 
 abbrev pub rule_met : List ℕ → List ℕ → PlainRule → Bool
-rule_met ws xs r = tree_holds ws r.guard && list_all (λ s. var_has_value xs s.var s.value) r.sets
+rule_met ws xs r = tree_holds ws r.guard && list_all (λ s. is_value_of_var xs s.var s.value) r.sets
 
 pub kept-congr : (p q : ℕ → Bool) (v : ℕ) (ws xs : List ℕ) → ((u : ℕ) → p u ≡ q u) → kept p v ws xs ≡ kept q v ws xs
 kept-congr p q v [] [] h = refl
@@ -65,7 +65,7 @@ unset-at (s ∷ sets) ws v h =
     let parts = or_parts _ _ h in
     unset-at sets (set ws s.var s.value) v parts.1 ∙ slice_get-set_other ws s.var v s.value (eqb-false s.var v parts.0)
 
-has_value-at : (xs : List ℕ) (v c : ℕ) → var_has_value xs v c ≡ true → slice_get xs v ≡ Some c
+has_value-at : (xs : List ℕ) (v c : ℕ) → is_value_of_var xs v c ≡ true → slice_get xs v ≡ Some c
 has_value-at xs v c h = by_case (slice_get xs v) refl h
   where
     by_case : (o : Option ℕ) → slice_get xs v ≡ o → is_some_and o (λ x. x == c) ≡ true → slice_get xs v ≡ Some c
@@ -73,7 +73,7 @@ has_value-at xs v c h = by_case (slice_get xs v) refl h
     by_case (Some x) is k = is ∙ ap Some (eqb-true x c k)
 
 met-at : (sets : List Setting) (ws xs : List ℕ) (v : ℕ) → length ws ≡ length xs →
-    list_all (λ s. var_has_value xs s.var s.value) sets ≡ true →
+    list_all (λ s. is_value_of_var xs s.var s.value) sets ≡ true →
     (sets_variable v sets ≡ false → slice_get ws v ≡ slice_get xs v) →
     slice_get (after_settings ws sets) v ≡ slice_get xs v
 met-at [] ws xs v long met same = same refl
@@ -81,7 +81,7 @@ met-at (s ∷ sets) ws xs v long met same =
     let parts = and_parts _ _ met in
     met-at sets (set ws s.var s.value) xs v (length-set ws s.var s.value ∙ long) parts.1 (λ none. by_case (cases_eq s.var v) parts.0 none)
   where
-    by_case : (s.var ≡ v) ⊎ (s.var ≡ v → ⊥) → var_has_value xs s.var s.value ≡ true → sets_variable v sets ≡ false → slice_get (set ws s.var s.value) v ≡ slice_get xs v
+    by_case : (s.var ≡ v) ⊎ (s.var ≡ v → ⊥) → is_value_of_var xs s.var s.value ≡ true → sets_variable v sets ≡ false → slice_get (set ws s.var s.value) v ≡ slice_get xs v
     by_case (inl e) here none =
         let at : slice_get xs s.var ≡ Some s.value = has_value-at xs s.var s.value here in
         let less : s.var < length xs = slice_get_within xs s.var s.value at in
@@ -99,7 +99,7 @@ value_valid-within ranges v c h = by_case (slice_get ranges v) refl h
     by_case (Some range) is k = slice_get_within ranges v range is
 
 settings-met : (sets : List Setting) (ws ranges : List ℕ) → length ws ≡ length ranges → list_all (λ s. value_valid ranges s.var s.value) sets ≡ true → sets_distinct_vars sets ≡ true
-    → list_all (λ s. var_has_value (after_settings ws sets) s.var s.value) sets ≡ true
+    → list_all (λ s. is_value_of_var (after_settings ws sets) s.var s.value) sets ≡ true
 settings-met [] ws ranges long valid apart = refl
 settings-met (s ∷ sets) ws ranges long valid apart =
     let valids = and_parts _ _ valid in
@@ -107,12 +107,12 @@ settings-met (s ∷ sets) ws ranges long valid apart =
     let next = set ws s.var s.value in
     let less : s.var < length ranges = value_valid-within ranges s.var s.value valids.0 in
     let here : slice_get (after_settings next sets) s.var ≡ Some s.value = unset-at sets next s.var (not-true _ aparts.0) ∙ slice_get-set_same ws s.var s.value (omega (arith, long, less)) in
-    let says : var_has_value (after_settings next sets) s.var s.value ≡ true = ap (λ (o : Option ℕ). is_some_and o (λ x. x == s.value)) here ∙ eq-eqb s.value s.value refl in
+    let says : is_value_of_var (after_settings next sets) s.var s.value ≡ true = ap (λ (o : Option ℕ). is_some_and o (λ x. x == s.value)) here ∙ eq-eqb s.value s.value refl in
     and_from _ _ says (settings-met sets next ranges (length-set ws s.var s.value ∙ long) valids.1 aparts.1)
 
 pub met-after_rule : (r : PlainRule) (ws xs ranges : List ℕ) → in_ranges ws ranges ≡ true → in_ranges xs ranges ≡ true → rule_met ws xs r ≡ true → kept (λ v. sets_variable v r.sets) 0 ws xs ≡ true → after_rule r ws ≡ Some xs
 met-after_rule r ws xs ranges now next met keeps =
-    let parts = and_parts (tree_holds ws r.guard) (list_all (λ (s : Setting). var_has_value xs s.var s.value) r.sets) met in
+    let parts = and_parts (tree_holds ws r.guard) (list_all (λ (s : Setting). is_value_of_var xs s.var s.value) r.sets) met in
     let long : length ws ≡ length xs = in_ranges-length ws ranges now ∙ sym (in_ranges-length xs ranges next) in
     let same : after_settings ws r.sets ≡ xs = same_by_slice_get (after_settings ws r.sets) xs
     (λ i. met-at r.sets ws xs i long parts.1
@@ -134,6 +134,6 @@ after_rule-met r ws xs ranges now valid is = by_case (tree_holds ws r.guard) ref
         (λ v. sets_variable v r.sets) 0 ws (after_settings ws r.sets) (sym (length-after_settings r.sets ws))
         (λ i none. let z : 0 + i ≡ i = omega arith in
         sym (unset-at r.sets ws i (ap (λ (u : ℕ). sets_variable u r.sets) (sym z) ∙ none))) in (
-          and_from _ _ holds (subst (λ (ys : List ℕ). list_all (λ s. var_has_value ys s.var s.value) r.sets ≡ true) same met),
+          and_from _ _ holds (subst (λ (ys : List ℕ). list_all (λ s. is_value_of_var ys s.var s.value) r.sets ≡ true) same met),
           subst (λ (ys : List ℕ). kept (λ v. sets_variable v r.sets) 0 ws ys ≡ true) same keeps,
         )

@@ -15,7 +15,7 @@ use Rattle.ilk_ir.specs.System.{PlainRule, in_ranges}
 use Rattle.ilk_forms.specs.declared.copy.VarValueAndBoundLits.{VarValueAndBoundLits}
 use Rattle.ilk_forms.specs.Copy.{LiteralsEncode}
 use Rattle.ilk_step.specs.Choice.{chosen_lits}
-use Rattle.ilk_step.specs.Frame.{sets_variable, setter_lits, lits_to_carry_over, equal_unless_any_true, frame_axiom, frame_axioms}
+use Rattle.ilk_step.specs.Frame.{sets_variable, setter_lits, value_lits_to_carry_over, equal_unless_any_true, frame_axiom, frame_axioms}
 use Rattle.ilk_step.proofs.Firing.{kept}
 
 pair_says : (f p q r : Bool) → ((f || (not p || (q || false))) && ((f || (p || (not q || false))) && (f || r))) ≡ (f || (cond q p (not p) && r))
@@ -56,8 +56,8 @@ values-differ (suc j) w x v low high ne =
 abbrev pub carried_bits : Bool → ℕ → ℕ → List Bool
 carried_bits two range w = cond two (take 1 (one_hot_bits w 0 range)) (one_hot_bits w 0 range)
 
-lits_to_carry_over-say : (a : List Bool) (ls : List Literal) (range w : ℕ) → map (is_true a) ls ≡ one_hot_bits w 0 range → map (is_true a) (lits_to_carry_over ls) ≡ carried_bits (eqb range 2) range w
-lits_to_carry_over-say a ls range w values =
+value_lits_to_carry_over-say : (a : List Bool) (ls : List Literal) (range w : ℕ) → map (is_true a) ls ≡ one_hot_bits w 0 range → map (is_true a) (value_lits_to_carry_over ls) ≡ carried_bits (eqb range 2) range w
+value_lits_to_carry_over-say a ls range w values =
     let long : length ls ≡ range = sym (length-map ls (is_true a)) ∙ ap length values ∙ length-one_hot_bits w 0 range in
     ap (λ (n : ℕ). map (is_true a) (cond (eqb n 2) (take 1 ls) ls)) long ∙ by_case (eqb range 2)
   where
@@ -70,8 +70,8 @@ length-carried_bits true zero w x = refl
 length-carried_bits true (suc range) w x = refl
 length-carried_bits false range w x = length-one_hot_bits w 0 range ∙ sym (length-one_hot_bits x 0 range)
 
-lits_to_carry_over-same : (range w x : ℕ) → w < range → x < range → same_bits (carried_bits (eqb range 2) range w) (carried_bits (eqb range 2) range x) ≡ eqb w x
-lits_to_carry_over-same range w x hw hx =
+value_lits_to_carry_over-same : (range w x : ℕ) → w < range → x < range → same_bits (carried_bits (eqb range 2) range w) (carried_bits (eqb range 2) range x) ≡ eqb w x
+value_lits_to_carry_over-same range w x hw hx =
     elim (cases_eq w x) [
       | inl same ↦ ap (λ (u : ℕ). same_bits (carried_bits (eqb range 2) range w) (carried_bits (eqb range 2) range u)) (sym same) ∙ same_bits-self (carried_bits (eqb range 2) range w) ∙ sym (eq-eqb w x same)
       | inr other ↦ apart (eqb range 2) refl other ∙ sym (ne_eqb w x other)
@@ -112,17 +112,17 @@ frame-say : (a : List Bool) (first : List Literal) (c d : VarValueAndBoundLits) 
     map (is_true a) d.bounds ≡ bound_bits x 1 (bound_count range) →
     satisfies a (frame_axiom first c d) ≡ (is_clause_true a first || w == x)
 frame-say a first c d range w x hw hx cv cb dv db =
-    let one = lits_to_carry_over-say a c.values range w cv in
-    let two = lits_to_carry_over-say a d.values range x dv in
+    let one = value_lits_to_carry_over-say a c.values range w cv in
+    let two = value_lits_to_carry_over-say a d.values range x dv in
     let n = bound_count range in
-    let values : satisfies a (equal_unless_any_true first (lits_to_carry_over c.values) (lits_to_carry_over d.values)) ≡ (is_clause_true a first || eqb w x) =
-    equal_unless_any_true-say a first (lits_to_carry_over c.values) (lits_to_carry_over d.values)
-    (same_length a (lits_to_carry_over c.values) (lits_to_carry_over d.values) _ _ one two
+    let values : satisfies a (equal_unless_any_true first (value_lits_to_carry_over c.values) (value_lits_to_carry_over d.values)) ≡ (is_clause_true a first || eqb w x) =
+    equal_unless_any_true-say a first (value_lits_to_carry_over c.values) (value_lits_to_carry_over d.values)
+    (same_length a (value_lits_to_carry_over c.values) (value_lits_to_carry_over d.values) _ _ one two
     (length-carried_bits (eqb range 2) range w x))
-    ∙ ap (λ (b : Bool). is_clause_true a first || b) (rw (one, two) (lits_to_carry_over-same range w x hw hx)) in
+    ∙ ap (λ (b : Bool). is_clause_true a first || b) (rw (one, two) (value_lits_to_carry_over-same range w x hw hx)) in
     let bounds : satisfies a (equal_unless_any_true first c.bounds d.bounds) ≡ (is_clause_true a first || same_bits (bound_bits w 1 n) (bound_bits x 1 n)) =
     equal_unless_any_true-say a first c.bounds d.bounds (same_length a c.bounds d.bounds _ _ cb db (length-bound_bits n w 1 ∙ sym (length-bound_bits n x 1))) ∙ rw (cb, db) refl in
-    list_all-append (is_clause_true a) (equal_unless_any_true first (lits_to_carry_over c.values) (lits_to_carry_over d.values))
+    list_all-append (is_clause_true a) (equal_unless_any_true first (value_lits_to_carry_over c.values) (value_lits_to_carry_over d.values))
     (equal_unless_any_true first c.bounds d.bounds)
     ∙ rw (values, bounds)
     (sym

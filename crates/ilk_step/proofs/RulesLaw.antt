@@ -15,7 +15,7 @@ use Rattle.ilk_cnf.proofs.Literals.{is_clause_over-more, are_clauses_over-more}
 use Rattle.ilk_cnf.proofs.Parts.{value-left, is_true-left}
 use Rattle.ilk_cnf.proofs.Extending.{no_more_if, if_then_if}
 use Rattle.ilk_ints.specs.Named.{one_hot_bits}
-use Rattle.ilk_ir.specs.Tree.{is, tree_holds, tree_valid, value_valid, var_has_value}
+use Rattle.ilk_ir.specs.Tree.{is, tree_holds, tree_valid, value_valid, is_value_of_var}
 use Rattle.ilk_ir.specs.System.{PlainRule, rule_valid, sets_distinct_vars}
 use Rattle.ilk_ir.specs.declared.system.Setting.{Setting}
 use Rattle.ilk_forms.specs.declared.copy.VarValueAndBoundLits.{VarValueAndBoundLits}
@@ -96,15 +96,15 @@ pub settings-law :
     length a ≡ n → Reads a next ranges xs → has_lits_within_vars n next ≡ true → is_clause_over n (skip ∷ []) ≡ true →
     settings_valid (ranges_of next) sets ≡ true →
     ExtensionsAreExactly a (settings_unless_skipped_part next skip sets n).vars (settings_unless_skipped_part next skip sets n).clauses
-    (PassesAndEqualsGivenValues (is_true a skip || list_all (λ s. var_has_value xs s.var s.value) sets) [])
+    (PassesAndEqualsGivenValues (is_true a skip || list_all (λ s. is_value_of_var xs s.var s.value) sets) [])
 settings-law [] next ranges xs skip a n size r h f k = no_more_if a n [] (is_true a skip || true) size (sym (or-true (is_true a skip)))
 settings-law (s ∷ sets) next ranges xs skip a n size r h f k =
     let parts = and_parts (value_valid (ranges_of next) s.var s.value) (settings_valid (ranges_of next) sets) k in
     let p = some_lit_or_form_part next (skip ∷ []) (is s.var s.value) n in
     let rest = settings_unless_skipped_part next skip sets n in
     let x = is_true a skip in
-    let here = var_has_value xs s.var s.value in
-    let others = list_all (λ (t : Setting). var_has_value xs t.var t.value) sets in
+    let here = is_value_of_var xs s.var s.value in
+    let others = list_all (λ (t : Setting). is_value_of_var xs t.var t.value) sets in
     let law = settings-law sets next ranges xs skip a n size r h f parts.1 in
     let moved : ExtensionsAreExactly (a ++ []) rest.vars rest.clauses (PassesAndEqualsGivenValues (x || others) []) = subst
     (λ (u : List Bool). ExtensionsAreExactly u rest.vars rest.clauses (PassesAndEqualsGivenValues (x || others) [])) (sym (append-nil a)) law in
@@ -132,7 +132,7 @@ rule-law r now next ws xs skip a n size rn rx hn hx same_ranges f k =
     let one = demand_of-fits r.guard now (skip ∷ []) true n hn f guard_valid in
     let grows = one.low in
     let sets : settings_valid (ranges_of next) r.sets ≡ true = ap (λ (u : List ℕ). settings_valid u r.sets) same_ranges ∙ rule_valid-settings (ranges_of now) r k in
-    let met = list_all (λ (s : Setting). var_has_value xs s.var s.value) r.sets in
+    let met = list_all (λ (s : Setting). is_value_of_var xs s.var s.value) r.sets in
     let next_in = has_lits_within_vars-more n m next grows hx in
     let skip_in = is_clause_over-more n m (skip ∷ []) grows f in
     let skip_var : skip.var ≤ length a = rw size (leb-true _ _ (and_parts _ _ (and_parts _ _ f).0).1) in

@@ -26,14 +26,14 @@ equal_unless_any_true first (l ∷ ls) (m ∷ ms) =
 
 -- The literals of a variable's values that frame axioms carry over. If there are only two values,
 -- the first literal is enough.
-abbrev pub lits_to_carry_over : List Literal → List Literal
-lits_to_carry_over values = if length values == 2 then take 1 values else values
+abbrev pub value_lits_to_carry_over : List Literal → List Literal
+value_lits_to_carry_over values = if length values == 2 then take 1 values else values
 
 -- The clauses that say: a literal of `first` is true, or the variable has the same value before the
 -- step (`now`) and after it (`next`).
 abbrev pub frame_axiom : List Literal → VarValueAndBoundLits → VarValueAndBoundLits → List (List Literal)
 frame_axiom first now next =
-    equal_unless_any_true first (lits_to_carry_over now.values) (lits_to_carry_over next.values) ++ equal_unless_any_true first now.bounds next.bounds
+    equal_unless_any_true first (value_lits_to_carry_over now.values) (value_lits_to_carry_over next.values) ++ equal_unless_any_true first now.bounds next.bounds
 
 -- The clauses that each variable is set by the chosen rule or has the same value before and after
 -- the step.

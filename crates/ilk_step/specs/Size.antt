@@ -5,9 +5,9 @@ use Rattle.ilk_forms.specs.declared.copy.VarValueAndBoundLits.{VarValueAndBoundL
 use Rattle.ilk_forms.specs.Size.{tree_size}
 
 -- The total number of constructors in the rules' guards.
-abbrev pub guards_size : List PlainRule → ℕ
-guards_size [] = 0
-guards_size (r ∷ rs) = tree_size r.guard + guards_size rs
+abbrev pub total_guard_tree_size : List PlainRule → ℕ
+total_guard_tree_size [] = 0
+total_guard_tree_size (r ∷ rs) = tree_size r.guard + total_guard_tree_size rs
 
 abbrev pub settings_count : List PlainRule → ℕ
 settings_count [] = 0

@@ -1,9 +1,9 @@
 ghost use Rattle.std.specs.Prelude.{◌≡◌, ◌+◌, ◌≤◌, ◌<◌, ◌^◌, ◌++◌, ◌∷◌, [], length, map, OnOk, IfOk, IsTrue};
-ghost use Rattle.ilk_cnf.specs.Formula.{with_vars_and_clauses, clause_unless_tautology, is_clause_over};
+ghost use Rattle.ilk_cnf.specs.Formula.{with_var_count_and_clauses, clause_unless_tautology, is_clause_over};
 ghost use Rattle.ilk_cnf.specs.Part.{with_part, clauses_from_lists};
 ghost use Rattle.ilk_ir.specs.System.{plain_rule};
 ghost use Rattle.ilk_forms.specs.Leaf.{has_lits_within_vars, ranges_of};
-ghost use Rattle.ilk_step.specs.Frame.{sets_variable, setter_lits, equal_unless_any_true, lits_to_carry_over, frame_axiom, frame_axioms_part};
+ghost use Rattle.ilk_step.specs.Frame.{sets_variable, setter_lits, equal_unless_any_true, value_lits_to_carry_over, frame_axiom, frame_axioms_part};
 
 use ilk_cnf::{Cnf, Lit, Lits};
 use ilk_forms::{CopyLits, VarValueAndBoundLits};
@@ -34,13 +34,13 @@ fn add_pair(alloc: Global, cnf: &mut Cnf, first: &Lits, l: Lit, m: Lit) -> Resul
     requires first { IsTrue (is_clause_over cnf.old.vars first.now) }
     requires pair { IsTrue (is_clause_over cnf.old.vars (l ∷ m ∷ [])) }
     ensures { OnOk result
-        (cnf.new ≡ with_vars_and_clauses cnf.old cnf.old.vars
+        (cnf.new ≡ with_var_count_and_clauses cnf.old cnf.old.vars
         (clause_unless_tautology (first.now ++ l ∷ m ∷ []))) }
 {
     let mut lits = first.copy()?;
     lits.push(l)?;
     lits.push(m)?;
-    cnf.add_clause_from_lits(lits.as_slice())?;
+    cnf.add_clause_unless_tautology(lits.as_slice())?;
     Ok(())
 }
 
@@ -49,7 +49,7 @@ fn add_same(alloc: Global, cnf: &mut Cnf, first: &Lits, l: Lit, m: Lit) -> Resul
     requires pair { IsTrue (is_clause_over cnf.old.vars (l ∷ m ∷ [])) }
     ensures { OnOk result
         (cnf.new
-        ≡ with_vars_and_clauses cnf.old cnf.old.vars
+        ≡ with_var_count_and_clauses cnf.old cnf.old.vars
         (clauses_from_lists (equal_unless_any_true first.now (l ∷ []) (m ∷ [])))) }
 {
     add_pair(alloc, cnf, first, l.negated(), m)?;
@@ -69,7 +69,7 @@ fn equal_unless_any_true(
     requires next { IsTrue (is_clause_over cnf.old.vars next.now) }
     ensures { OnOk result
         (cnf.new
-        ≡ with_vars_and_clauses cnf.old cnf.old.vars
+        ≡ with_var_count_and_clauses cnf.old cnf.old.vars
         (clauses_from_lists (equal_unless_any_true first.now now.now next.now))) }
 {
     for i in 0..now.len().min(next.len()) {
@@ -79,7 +79,7 @@ fn equal_unless_any_true(
 }
 
 fn carried(values: &[Lit]) -> &[Lit]
-    ensures { result.now ≡ lits_to_carry_over values.now }
+    ensures { result.now ≡ value_lits_to_carry_over values.now }
 {
     if values.len() == 2 {
         &values[..1]
@@ -98,7 +98,7 @@ fn add_frame(
     requires first { IsTrue (is_clause_over cnf.old.vars first.now) }
     requires columns { IsTrue (has_lits_within_vars cnf.old.vars (now.now ∷ next.now ∷ [])) }
     ensures { OnOk result
-        (cnf.new ≡ with_vars_and_clauses cnf.old cnf.old.vars
+        (cnf.new ≡ with_var_count_and_clauses cnf.old cnf.old.vars
         (clauses_from_lists (frame_axiom first.now now.now next.now))) }
 {
     equal_unless_any_true(

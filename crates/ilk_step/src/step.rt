@@ -6,7 +6,7 @@ ghost use Rattle.ilk_ir.specs.System.{plain_rule, rule_valid, in_ranges};
 ghost use Rattle.ilk_forms.specs.Copy.{LiteralsEncode};
 ghost use Rattle.ilk_forms.specs.Leaf.{has_lits_within_vars, ranges_of};
 ghost use Rattle.ilk_step.specs.Choice.{Chooses};
-ghost use Rattle.ilk_step.specs.Size.{guards_size, settings_count, copy_literals_count};
+ghost use Rattle.ilk_step.specs.Size.{total_guard_tree_size, settings_count, copy_literals_count};
 ghost use Rattle.ilk_step.specs.Step.{step_part, step_bits, values_after_rule, AreStepBits};
 
 use crate::choice::{Choice, add_rule_choice};
@@ -63,12 +63,12 @@ pub fn add_step(
 
     ensures vars { OnOk result
         (cnf.new.vars
-        ≤ cnf.old.vars + 2 * length rules.now + guards_size
+        ≤ cnf.old.vars + 2 * length rules.now + total_guard_tree_size
         (map plain_rule rules.now)) }
     ensures clauses { OnOk result
         (length cnf.new.clauses
         ≤ length cnf.old.clauses +
-        (4 * length rules.now + 1 + 2 * guards_size (map plain_rule rules.now) +
+        (4 * length rules.now + 1 + 2 * total_guard_tree_size (map plain_rule rules.now) +
         settings_count (map plain_rule rules.now) + 2 * copy_literals_count now.now)) }
 {
     let first = cnf.vars() + 1;

@@ -16,7 +16,7 @@ use Rattle.ilk_plant.specs.declared.state.State.{State}
 use Rattle.ilk_plant.specs.declared.state.Train.{Train}
 use Rattle.ilk_plant.specs.declared.table.Route.{Route}
 use Rattle.ilk_routes.specs.Locks.{with_locks}
-use Rattle.ilk_model.specs.Families.{keeps_v1_consistent_counts, keeps_v2_sections_held_once, keeps_v3_locks_match_routes, keeps_v4_allocating_paths_vacant, keeps_v5_open_needs_locked, keeps_v6_route_points_set, keeps_v7_heads_have_routes, keeps_v8_bodies_have_routes, keeps_v9_protecting_boards_closed}
+use Rattle.ilk_model.specs.Families.{meets_v1_consistent_counts, meets_v2_sections_held_once, meets_v3_locks_match_routes, meets_v4_allocating_paths_vacant, meets_v5_open_needs_locked, meets_v6_points_match_modes, meets_v7_heads_have_routes, meets_v8_bodies_have_routes, meets_v9_protecting_boards_closed}
 use Rattle.ilk_model.specs.Hazard.{has_two_trains, is_wrong_under_train}
 use Rattle.ilk_model.proofs.RouteFrames.{ChangesRoute}
 use Rattle.ilk_strict.proofs.Reading.{RouteIn}
@@ -91,56 +91,56 @@ same-occupied s t e x =
     ap (λ (trains : List Train). is_occupied (record s { trains = trains }) x) e
 
 module _ (p : PlantLists) (s t : State) where
-  pub v1-reads : t.routes ≡ s.routes → keeps_v1_consistent_counts p s ≡ true → keeps_v1_consistent_counts p t ≡ true
+  pub v1-reads : t.routes ≡ s.routes → meets_v1_consistent_counts p s ≡ true → meets_v1_consistent_counts p t ≡ true
   v1-reads routes kept =
-      let P : List RouteState → Type 0 = λ now. keeps_v1_consistent_counts p (record s { routes = now }) ≡ true in subst P (sym routes) kept
+      let P : List RouteState → Type 0 = λ now. meets_v1_consistent_counts p (record s { routes = now }) ≡ true in subst P (sym routes) kept
 
-  pub v2-reads : t.routes ≡ s.routes → keeps_v2_sections_held_once p s ≡ true → keeps_v2_sections_held_once p t ≡ true
+  pub v2-reads : t.routes ≡ s.routes → meets_v2_sections_held_once p s ≡ true → meets_v2_sections_held_once p t ≡ true
   v2-reads routes kept =
-      let P : List RouteState → Type 0 = λ now. keeps_v2_sections_held_once p (record s { routes = now }) ≡ true in subst P (sym routes) kept
+      let P : List RouteState → Type 0 = λ now. meets_v2_sections_held_once p (record s { routes = now }) ≡ true in subst P (sym routes) kept
 
-  pub v3-reads : t.routes ≡ s.routes → t.locks ≡ s.locks → keeps_v3_locks_match_routes p s ≡ true → keeps_v3_locks_match_routes p t ≡ true
+  pub v3-reads : t.routes ≡ s.routes → t.locks ≡ s.locks → meets_v3_locks_match_routes p s ≡ true → meets_v3_locks_match_routes p t ≡ true
   v3-reads routes locks kept =
-      let P : List RouteState → Type 0 = λ now. keeps_v3_locks_match_routes p (record s { routes = now }) ≡ true in
-      let Q : List Hold → Type 0 = λ now. keeps_v3_locks_match_routes p (record s { routes = t.routes; locks = now }) ≡ true in
+      let P : List RouteState → Type 0 = λ now. meets_v3_locks_match_routes p (record s { routes = now }) ≡ true in
+      let Q : List Hold → Type 0 = λ now. meets_v3_locks_match_routes p (record s { routes = t.routes; locks = now }) ≡ true in
       subst Q (sym locks) (subst P (sym routes) kept)
 
-  pub v4-reads : t.routes ≡ s.routes → t.trains ≡ s.trains → keeps_v4_allocating_paths_vacant p s ≡ true → keeps_v4_allocating_paths_vacant p t ≡ true
+  pub v4-reads : t.routes ≡ s.routes → t.trains ≡ s.trains → meets_v4_allocating_paths_vacant p s ≡ true → meets_v4_allocating_paths_vacant p t ≡ true
   v4-reads routes trains kept =
-      let P : List RouteState → Type 0 = λ now. keeps_v4_allocating_paths_vacant p (record s { routes = now }) ≡ true in
-      let Q : List Train → Type 0 = λ now. keeps_v4_allocating_paths_vacant p (record s { routes = t.routes; trains = now }) ≡ true in
+      let P : List RouteState → Type 0 = λ now. meets_v4_allocating_paths_vacant p (record s { routes = now }) ≡ true in
+      let Q : List Train → Type 0 = λ now. meets_v4_allocating_paths_vacant p (record s { routes = t.routes; trains = now }) ≡ true in
       subst Q (sym trains) (subst P (sym routes) kept)
 
-  pub v5-reads : t.routes ≡ s.routes → t.boards ≡ s.boards → t.trains ≡ s.trains → keeps_v5_open_needs_locked p s ≡ true → keeps_v5_open_needs_locked p t ≡ true
+  pub v5-reads : t.routes ≡ s.routes → t.boards ≡ s.boards → t.trains ≡ s.trains → meets_v5_open_needs_locked p s ≡ true → meets_v5_open_needs_locked p t ≡ true
   v5-reads routes boards trains kept =
-      let P : List RouteState → Type 0 = λ now. keeps_v5_open_needs_locked p (record s { routes = now }) ≡ true in
-      let Q : List Aspect → Type 0 = λ now. keeps_v5_open_needs_locked p (record s { routes = t.routes; boards = now }) ≡ true in
-      let R : List Train → Type 0 = λ now. keeps_v5_open_needs_locked p (record s { routes = t.routes; boards = t.boards; trains = now }) ≡ true in
+      let P : List RouteState → Type 0 = λ now. meets_v5_open_needs_locked p (record s { routes = now }) ≡ true in
+      let Q : List Aspect → Type 0 = λ now. meets_v5_open_needs_locked p (record s { routes = t.routes; boards = now }) ≡ true in
+      let R : List Train → Type 0 = λ now. meets_v5_open_needs_locked p (record s { routes = t.routes; boards = t.boards; trains = now }) ≡ true in
       subst R (sym trains) (subst Q (sym boards) (subst P (sym routes) kept))
 
-  pub v6-reads : t.routes ≡ s.routes → t.points ≡ s.points → keeps_v6_route_points_set p s ≡ true → keeps_v6_route_points_set p t ≡ true
+  pub v6-reads : t.routes ≡ s.routes → t.points ≡ s.points → meets_v6_points_match_modes p s ≡ true → meets_v6_points_match_modes p t ≡ true
   v6-reads routes points kept =
-      let P : List RouteState → Type 0 = λ now. keeps_v6_route_points_set p (record s { routes = now }) ≡ true in
-      let Q : List PointState → Type 0 = λ now. keeps_v6_route_points_set p (record s { routes = t.routes; points = now }) ≡ true in
+      let P : List RouteState → Type 0 = λ now. meets_v6_points_match_modes p (record s { routes = now }) ≡ true in
+      let Q : List PointState → Type 0 = λ now. meets_v6_points_match_modes p (record s { routes = t.routes; points = now }) ≡ true in
       subst Q (sym points) (subst P (sym routes) kept)
 
-  pub v7-reads : t.routes ≡ s.routes → t.boards ≡ s.boards → t.trains ≡ s.trains → keeps_v7_heads_have_routes p s ≡ true → keeps_v7_heads_have_routes p t ≡ true
+  pub v7-reads : t.routes ≡ s.routes → t.boards ≡ s.boards → t.trains ≡ s.trains → meets_v7_heads_have_routes p s ≡ true → meets_v7_heads_have_routes p t ≡ true
   v7-reads routes boards trains kept =
-      let P : List RouteState → Type 0 = λ now. keeps_v7_heads_have_routes p (record s { routes = now }) ≡ true in
-      let Q : List Aspect → Type 0 = λ now. keeps_v7_heads_have_routes p (record s { routes = t.routes; boards = now }) ≡ true in
-      let R : List Train → Type 0 = λ now. keeps_v7_heads_have_routes p (record s { routes = t.routes; boards = t.boards; trains = now }) ≡ true in
+      let P : List RouteState → Type 0 = λ now. meets_v7_heads_have_routes p (record s { routes = now }) ≡ true in
+      let Q : List Aspect → Type 0 = λ now. meets_v7_heads_have_routes p (record s { routes = t.routes; boards = now }) ≡ true in
+      let R : List Train → Type 0 = λ now. meets_v7_heads_have_routes p (record s { routes = t.routes; boards = t.boards; trains = now }) ≡ true in
       subst R (sym trains) (subst Q (sym boards) (subst P (sym routes) kept))
 
-  pub v8-reads : t.routes ≡ s.routes → t.trains ≡ s.trains → keeps_v8_bodies_have_routes p s ≡ true → keeps_v8_bodies_have_routes p t ≡ true
+  pub v8-reads : t.routes ≡ s.routes → t.trains ≡ s.trains → meets_v8_bodies_have_routes p s ≡ true → meets_v8_bodies_have_routes p t ≡ true
   v8-reads routes trains kept =
-      let P : List RouteState → Type 0 = λ now. keeps_v8_bodies_have_routes p (record s { routes = now }) ≡ true in
-      let Q : List Train → Type 0 = λ now. keeps_v8_bodies_have_routes p (record s { routes = t.routes; trains = now }) ≡ true in
+      let P : List RouteState → Type 0 = λ now. meets_v8_bodies_have_routes p (record s { routes = now }) ≡ true in
+      let Q : List Train → Type 0 = λ now. meets_v8_bodies_have_routes p (record s { routes = t.routes; trains = now }) ≡ true in
       subst Q (sym trains) (subst P (sym routes) kept)
 
-  pub v9-reads : t.routes ≡ s.routes → t.boards ≡ s.boards → keeps_v9_protecting_boards_closed p s ≡ true → keeps_v9_protecting_boards_closed p t ≡ true
+  pub v9-reads : t.routes ≡ s.routes → t.boards ≡ s.boards → meets_v9_protecting_boards_closed p s ≡ true → meets_v9_protecting_boards_closed p t ≡ true
   v9-reads routes boards kept =
-      let P : List RouteState → Type 0 = λ now. keeps_v9_protecting_boards_closed p (record s { routes = now }) ≡ true in
-      let Q : List Aspect → Type 0 = λ now. keeps_v9_protecting_boards_closed p (record s { routes = t.routes; boards = now }) ≡ true in
+      let P : List RouteState → Type 0 = λ now. meets_v9_protecting_boards_closed p (record s { routes = now }) ≡ true in
+      let Q : List Aspect → Type 0 = λ now. meets_v9_protecting_boards_closed p (record s { routes = t.routes; boards = now }) ≡ true in
       subst Q (sym boards) (subst P (sym routes) kept)
 
   pub two-reads : (x : ℕ) → t.trains ≡ s.trains → has_two_trains s x ≡ false → has_two_trains t x ≡ false

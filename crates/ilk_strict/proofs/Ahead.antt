@@ -8,12 +8,12 @@ use Rattle.std.proofs.lemmas.Option.{same_Some}
 use Rattle.ilk_base.specs.Option.{◌>>=◌, is_some_and}
 use Rattle.ilk_base.proofs.Options.{bind_some, some-and}
 use Rattle.ilk_base.proofs.Tested.{list_any-at}
-use Rattle.ilk_plant.specs.ColumnRules.{is_leg_at_position, is_listed_towards_any}
+use Rattle.ilk_plant.specs.ColumnRules.{is_leg_at_position, is_listed_towards_any_section}
 use Rattle.ilk_plant.specs.Network.{neighbours_on, board_on, contains_section, same_direction}
 use Rattle.ilk_plant.specs.NetworkRules.{opposite_direction}
 use Rattle.ilk_plant.specs.Once.{numbers_differ}
 use Rattle.ilk_plant.specs.Plant.{IsPlant, PlantLists, board_of, next_to}
-use Rattle.ilk_plant.specs.State.{detected_position}
+use Rattle.ilk_plant.specs.State.{detected_position_in_state}
 use Rattle.ilk_plant.specs.declared.network.Dir.{Dir}
 use Rattle.ilk_plant.specs.declared.network.Dir.TheVariants.{Up, Down}
 use Rattle.ilk_plant.specs.declared.network.Position.{Position}
@@ -27,7 +27,7 @@ use Rattle.ilk_plant.proofs.Sides.{back-opposite}
 use Rattle.ilk_plant.proofs.InLists.{only-one}
 use Rattle.ilk_plant.proofs.Alike.{one_direction}
 use Rattle.ilk_motion.specs.Ahead.{ahead, section_led_to, detected_leg}
-use Rattle.ilk_routes.specs.Lies.{lie_from_position, is_detected_as_listed, is_lie_at_position}
+use Rattle.ilk_routes.specs.Lies.{lie_from_position, is_point_detected_as_listed, is_lie_at_position}
 use Rattle.ilk_model.specs.Hazard.{are_adjacent_in_body, is_wrong_under_body}
 use Rattle.ilk_model.proofs.Alike.{one_lie}
 
@@ -123,24 +123,24 @@ pub record LeadsToLeg (p : PlantLists) (s : State) (x : ℕ) (d : Dir) (y : ℕ)
   pub section : slice_get p.sections x ≡ Some (Point stem plus minus faces)
   pub same : faces ≡ d
   pub lie : Lie
-  pub lies : detected_position p s x ≡ Some lie
+  pub lies : detected_position_in_state p s x ≡ Some lie
   pub to_leg : detected_leg plus minus lie ≡ Some y
 
 pub ahead-cases : (p : PlantLists) (s : State) (x y z : ℕ) (d : Dir) → ahead p s x d ≡ Some y → contains_section z (next_to p x d) ≡ true → (y ≡ z) ⊎ LeadsToLeg p s x d y
 ahead-cases p s x y z d e h =
-    let section = bind_some (slice_get p.sections x) (λ it. section_led_to it d (detected_position p s x)) y e in
+    let section = bind_some (slice_get p.sections x) (λ it. section_led_to it d (detected_position_in_state p s x)) y e in
     let one : contains_section z (neighbours_on section.0 d) ≡ true = rw section.1 at h in
     of_section section.0 d section.1 section.2 one
   where
-    of_section : (it : Section) (d : Dir) → slice_get p.sections x ≡ Some it → section_led_to it d (detected_position p s x) ≡ Some y → contains_section z (neighbours_on it d) ≡ true → (y ≡ z) ⊎ LeadsToLeg p s x d y
+    of_section : (it : Section) (d : Dir) → slice_get p.sections x ≡ Some it → section_led_to it d (detected_position_in_state p s x) ≡ Some y → contains_section z (neighbours_on it d) ≡ true → (y ≡ z) ⊎ LeadsToLeg p s x d y
     of_section (Linear down up board_down board_up) Down at leads h =
         let one : contains_section z (y ∷ []) ≡ true = rw leads at h in inl (only-one z y one)
     of_section (Linear down up board_down board_up) Up at leads h =
         let one : contains_section z (y ∷ []) ≡ true = rw leads at h in inl (only-one z y one)
     of_section (Point stem plus minus faces) d at leads h = elim (cases_Bool (same_direction faces d)) [
       | inl same ↦
-          (let by_lie : (detected_position p s x >>= detected_leg plus minus) ≡ Some y = rw same at leads in
-          let lie = bind_some (detected_position p s x) (detected_leg plus minus) y by_lie in
+          (let by_lie : (detected_position_in_state p s x >>= detected_leg plus minus) ≡ Some y = rw same at leads in
+          let lie = bind_some (detected_position_in_state p s x) (detected_leg plus minus) y by_lie in
           inr (record {
             stem = stem;
             plus = plus;
@@ -168,7 +168,7 @@ pub record IsListedTo (p : PlantLists) (points : List Listed) (sections : List �
   pub among : slice_get sections j ≡ Some w
   pub leads : is_some_and (slice_get p.sections x) (is_leg_at_position listed.at w) ≡ true
 
-pub listed_towards-at : (p : PlantLists) (points : List Listed) (sections : List ℕ) (x : ℕ) → is_listed_towards_any p points sections x ≡ true → IsListedTo p points sections x
+pub listed_towards-at : (p : PlantLists) (points : List Listed) (sections : List ℕ) (x : ℕ) → is_listed_towards_any_section p points sections x ≡ true → IsListedTo p points sections x
 listed_towards-at p points sections x h =
     let entry : (k : ℕ) × (listed : Listed) × (slice_get points k ≡ Some listed) × (((listed.point == x) && towards listed) ≡ true) = list_any-at (λ listed. (listed.point == x) && towards listed) points h in
     let both = and_parts (entry.1.point == x) (towards entry.1) entry.3 in
@@ -188,7 +188,7 @@ listed_towards-at p points sections x h =
     towards : Listed → Bool
     towards listed = list_any (λ y. is_some_and (slice_get p.sections x) (is_leg_at_position listed.at y)) sections
 
-pub lies-listed : (p : PlantLists) (s : State) (listed : Listed) (x : ℕ) → is_detected_as_listed p s listed ≡ true → listed.point ≡ x → detected_position p s x ≡ Some (lie_from_position listed.at)
+pub lies-listed : (p : PlantLists) (s : State) (listed : Listed) (x : ℕ) → is_point_detected_as_listed p s listed ≡ true → listed.point ≡ x → detected_position_in_state p s x ≡ Some (lie_from_position listed.at)
 lies-listed p s listed x h same =
-    let lie = some-and (detected_position p s listed.point) (λ it. is_lie_at_position it listed.at) h in
-    ap (detected_position p s) (sym same) ∙ lie.1 ∙ ap Some (one_lie lie.0 listed.at lie.2)
+    let lie = some-and (detected_position_in_state p s listed.point) (λ it. is_lie_at_position it listed.at) h in
+    ap (detected_position_in_state p s) (sym same) ∙ lie.1 ∙ ap Some (one_lie lie.0 listed.at lie.2)

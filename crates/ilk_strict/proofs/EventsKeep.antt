@@ -12,15 +12,15 @@ use Rattle.ilk_strict.specs.IsStrict.{IsStrict}
 use Rattle.ilk_model.proofs.PointFrames.{IsSettled, IsThrown, settle-frame, throw-frame}
 use Rattle.ilk_model.proofs.RouteFrames.{IsAllocated, IsCancelled, IsFinished, IsLocked, IsMarked, IsReleased, IsSensed, allocate-frame, cancel-frame, finish-frame, lock-frame, mark-frame, release-frame, sense-frame}
 use Rattle.ilk_model.proofs.TrainFrames.{IsEntered, IsHeaded, IsLeft, IsTailed, enter-frame, head-frame, leave-frame, tail-frame}
-use Rattle.ilk_strict.proofs.KeepsV1.{allocate-keeps_v1_consistent_counts, cancel-keeps_v1_consistent_counts, enter-keeps_v1_consistent_counts, finish-keeps_v1_consistent_counts, head-keeps_v1_consistent_counts, leave-keeps_v1_consistent_counts, lock-keeps_v1_consistent_counts, mark-keeps_v1_consistent_counts, release-keeps_v1_consistent_counts, sense-keeps_v1_consistent_counts, settle-keeps_v1_consistent_counts, tail-keeps_v1_consistent_counts, throw-keeps_v1_consistent_counts}
-use Rattle.ilk_strict.proofs.KeepsV2.{allocate-keeps_v2_sections_held_once, cancel-keeps_v2_sections_held_once, enter-keeps_v2_sections_held_once, finish-keeps_v2_sections_held_once, head-keeps_v2_sections_held_once, leave-keeps_v2_sections_held_once, lock-keeps_v2_sections_held_once, mark-keeps_v2_sections_held_once, release-keeps_v2_sections_held_once, sense-keeps_v2_sections_held_once, settle-keeps_v2_sections_held_once, tail-keeps_v2_sections_held_once, throw-keeps_v2_sections_held_once}
-use Rattle.ilk_strict.proofs.KeepsV3.{allocate-keeps_v3_locks_match_routes, cancel-keeps_v3_locks_match_routes, enter-keeps_v3_locks_match_routes, finish-keeps_v3_locks_match_routes, head-keeps_v3_locks_match_routes, leave-keeps_v3_locks_match_routes, lock-keeps_v3_locks_match_routes, mark-keeps_v3_locks_match_routes, release-keeps_v3_locks_match_routes, sense-keeps_v3_locks_match_routes, settle-keeps_v3_locks_match_routes, tail-keeps_v3_locks_match_routes, throw-keeps_v3_locks_match_routes}
-use Rattle.ilk_strict.proofs.KeepsV4.{allocate-keeps_v4_allocating_paths_vacant, cancel-keeps_v4_allocating_paths_vacant, enter-keeps_v4_allocating_paths_vacant, finish-keeps_v4_allocating_paths_vacant, head-keeps_v4_allocating_paths_vacant, leave-keeps_v4_allocating_paths_vacant, lock-keeps_v4_allocating_paths_vacant, mark-keeps_v4_allocating_paths_vacant, release-keeps_v4_allocating_paths_vacant, sense-keeps_v4_allocating_paths_vacant, settle-keeps_v4_allocating_paths_vacant, tail-keeps_v4_allocating_paths_vacant, throw-keeps_v4_allocating_paths_vacant}
-use Rattle.ilk_strict.proofs.KeepsV5.{allocate-keeps_v5_open_needs_locked, cancel-keeps_v5_open_needs_locked, enter-keeps_v5_open_needs_locked, finish-keeps_v5_open_needs_locked, head-keeps_v5_open_needs_locked, leave-keeps_v5_open_needs_locked, lock-keeps_v5_open_needs_locked, mark-keeps_v5_open_needs_locked, release-keeps_v5_open_needs_locked, sense-keeps_v5_open_needs_locked, settle-keeps_v5_open_needs_locked, tail-keeps_v5_open_needs_locked, throw-keeps_v5_open_needs_locked}
-use Rattle.ilk_strict.proofs.KeepsV6.{allocate-keeps_v6_route_points_set, cancel-keeps_v6_route_points_set, enter-keeps_v6_route_points_set, finish-keeps_v6_route_points_set, head-keeps_v6_route_points_set, leave-keeps_v6_route_points_set, lock-keeps_v6_route_points_set, mark-keeps_v6_route_points_set, release-keeps_v6_route_points_set, sense-keeps_v6_route_points_set, settle-keeps_v6_route_points_set, tail-keeps_v6_route_points_set, throw-keeps_v6_route_points_set}
-use Rattle.ilk_strict.proofs.KeepsV7.{allocate-keeps_v7_heads_have_routes, cancel-keeps_v7_heads_have_routes, enter-keeps_v7_heads_have_routes, finish-keeps_v7_heads_have_routes, head-keeps_v7_heads_have_routes, leave-keeps_v7_heads_have_routes, lock-keeps_v7_heads_have_routes, mark-keeps_v7_heads_have_routes, release-keeps_v7_heads_have_routes, sense-keeps_v7_heads_have_routes, settle-keeps_v7_heads_have_routes, tail-keeps_v7_heads_have_routes, throw-keeps_v7_heads_have_routes}
-use Rattle.ilk_strict.proofs.KeepsV8.{allocate-keeps_v8_bodies_have_routes, cancel-keeps_v8_bodies_have_routes, enter-keeps_v8_bodies_have_routes, finish-keeps_v8_bodies_have_routes, head-keeps_v8_bodies_have_routes, leave-keeps_v8_bodies_have_routes, lock-keeps_v8_bodies_have_routes, mark-keeps_v8_bodies_have_routes, release-keeps_v8_bodies_have_routes, sense-keeps_v8_bodies_have_routes, settle-keeps_v8_bodies_have_routes, tail-keeps_v8_bodies_have_routes, throw-keeps_v8_bodies_have_routes}
-use Rattle.ilk_strict.proofs.KeepsV9.{allocate-keeps_v9_protecting_boards_closed, cancel-keeps_v9_protecting_boards_closed, enter-keeps_v9_protecting_boards_closed, finish-keeps_v9_protecting_boards_closed, head-keeps_v9_protecting_boards_closed, leave-keeps_v9_protecting_boards_closed, lock-keeps_v9_protecting_boards_closed, mark-keeps_v9_protecting_boards_closed, release-keeps_v9_protecting_boards_closed, sense-keeps_v9_protecting_boards_closed, settle-keeps_v9_protecting_boards_closed, tail-keeps_v9_protecting_boards_closed, throw-keeps_v9_protecting_boards_closed}
+use Rattle.ilk_strict.proofs.KeepsV1.{allocate-meets_v1_consistent_counts, cancel-meets_v1_consistent_counts, enter-meets_v1_consistent_counts, finish-meets_v1_consistent_counts, head-meets_v1_consistent_counts, leave-meets_v1_consistent_counts, lock-meets_v1_consistent_counts, mark-meets_v1_consistent_counts, release-meets_v1_consistent_counts, sense-meets_v1_consistent_counts, settle-meets_v1_consistent_counts, tail-meets_v1_consistent_counts, throw-meets_v1_consistent_counts}
+use Rattle.ilk_strict.proofs.KeepsV2.{allocate-meets_v2_sections_held_once, cancel-meets_v2_sections_held_once, enter-meets_v2_sections_held_once, finish-meets_v2_sections_held_once, head-meets_v2_sections_held_once, leave-meets_v2_sections_held_once, lock-meets_v2_sections_held_once, mark-meets_v2_sections_held_once, release-meets_v2_sections_held_once, sense-meets_v2_sections_held_once, settle-meets_v2_sections_held_once, tail-meets_v2_sections_held_once, throw-meets_v2_sections_held_once}
+use Rattle.ilk_strict.proofs.KeepsV3.{allocate-meets_v3_locks_match_routes, cancel-meets_v3_locks_match_routes, enter-meets_v3_locks_match_routes, finish-meets_v3_locks_match_routes, head-meets_v3_locks_match_routes, leave-meets_v3_locks_match_routes, lock-meets_v3_locks_match_routes, mark-meets_v3_locks_match_routes, release-meets_v3_locks_match_routes, sense-meets_v3_locks_match_routes, settle-meets_v3_locks_match_routes, tail-meets_v3_locks_match_routes, throw-meets_v3_locks_match_routes}
+use Rattle.ilk_strict.proofs.KeepsV4.{allocate-meets_v4_allocating_paths_vacant, cancel-meets_v4_allocating_paths_vacant, enter-meets_v4_allocating_paths_vacant, finish-meets_v4_allocating_paths_vacant, head-meets_v4_allocating_paths_vacant, leave-meets_v4_allocating_paths_vacant, lock-meets_v4_allocating_paths_vacant, mark-meets_v4_allocating_paths_vacant, release-meets_v4_allocating_paths_vacant, sense-meets_v4_allocating_paths_vacant, settle-meets_v4_allocating_paths_vacant, tail-meets_v4_allocating_paths_vacant, throw-meets_v4_allocating_paths_vacant}
+use Rattle.ilk_strict.proofs.KeepsV5.{allocate-meets_v5_open_needs_locked, cancel-meets_v5_open_needs_locked, enter-meets_v5_open_needs_locked, finish-meets_v5_open_needs_locked, head-meets_v5_open_needs_locked, leave-meets_v5_open_needs_locked, lock-meets_v5_open_needs_locked, mark-meets_v5_open_needs_locked, release-meets_v5_open_needs_locked, sense-meets_v5_open_needs_locked, settle-meets_v5_open_needs_locked, tail-meets_v5_open_needs_locked, throw-meets_v5_open_needs_locked}
+use Rattle.ilk_strict.proofs.KeepsV6.{allocate-meets_v6_points_match_modes, cancel-meets_v6_points_match_modes, enter-meets_v6_points_match_modes, finish-meets_v6_points_match_modes, head-meets_v6_points_match_modes, leave-meets_v6_points_match_modes, lock-meets_v6_points_match_modes, mark-meets_v6_points_match_modes, release-meets_v6_points_match_modes, sense-meets_v6_points_match_modes, settle-meets_v6_points_match_modes, tail-meets_v6_points_match_modes, throw-meets_v6_points_match_modes}
+use Rattle.ilk_strict.proofs.KeepsV7.{allocate-meets_v7_heads_have_routes, cancel-meets_v7_heads_have_routes, enter-meets_v7_heads_have_routes, finish-meets_v7_heads_have_routes, head-meets_v7_heads_have_routes, leave-meets_v7_heads_have_routes, lock-meets_v7_heads_have_routes, mark-meets_v7_heads_have_routes, release-meets_v7_heads_have_routes, sense-meets_v7_heads_have_routes, settle-meets_v7_heads_have_routes, tail-meets_v7_heads_have_routes, throw-meets_v7_heads_have_routes}
+use Rattle.ilk_strict.proofs.KeepsV8.{allocate-meets_v8_bodies_have_routes, cancel-meets_v8_bodies_have_routes, enter-meets_v8_bodies_have_routes, finish-meets_v8_bodies_have_routes, head-meets_v8_bodies_have_routes, leave-meets_v8_bodies_have_routes, lock-meets_v8_bodies_have_routes, mark-meets_v8_bodies_have_routes, release-meets_v8_bodies_have_routes, sense-meets_v8_bodies_have_routes, settle-meets_v8_bodies_have_routes, tail-meets_v8_bodies_have_routes, throw-meets_v8_bodies_have_routes}
+use Rattle.ilk_strict.proofs.KeepsV9.{allocate-meets_v9_protecting_boards_closed, cancel-meets_v9_protecting_boards_closed, enter-meets_v9_protecting_boards_closed, finish-meets_v9_protecting_boards_closed, head-meets_v9_protecting_boards_closed, leave-meets_v9_protecting_boards_closed, lock-meets_v9_protecting_boards_closed, mark-meets_v9_protecting_boards_closed, release-meets_v9_protecting_boards_closed, sense-meets_v9_protecting_boards_closed, settle-meets_v9_protecting_boards_closed, tail-meets_v9_protecting_boards_closed, throw-meets_v9_protecting_boards_closed}
 use Rattle.ilk_strict.proofs.KeepsTrainsApart.{allocate-keeps_apart, cancel-keeps_apart, enter-keeps_apart, finish-keeps_apart, head-keeps_apart, leave-keeps_apart, lock-keeps_apart, mark-keeps_apart, release-keeps_apart, sense-keeps_apart, settle-keeps_apart, tail-keeps_apart, throw-keeps_apart}
 use Rattle.ilk_strict.proofs.KeepsPointsRight.{allocate-keeps_right, cancel-keeps_right, enter-keeps_right, finish-keeps_right, head-keeps_right, leave-keeps_right, lock-keeps_right, mark-keeps_right, release-keeps_right, sense-keeps_right, settle-keeps_right, tail-keeps_right, throw-keeps_right}
 use Rattle.ilk_strict.proofs.TrainFacts.{Keeps}
@@ -29,15 +29,15 @@ module _ (p : PlantLists) (plant : IsPlant p) (strict : IsStrict p) (s t : State
   mark-keeps : HasShape p t → IsMarked p s t n → Keeps p t
   mark-keeps shape it = record {
     shape = shape;
-    v1 = mark-keeps_v1_consistent_counts p s t keeps shape n it;
-    v2 = mark-keeps_v2_sections_held_once p s t keeps n it;
-    v3 = mark-keeps_v3_locks_match_routes p plant s t keeps shape n it;
-    v4 = mark-keeps_v4_allocating_paths_vacant p plant strict s t keeps shape n it;
-    v5 = mark-keeps_v5_open_needs_locked p plant strict s t keeps n it;
-    v6 = mark-keeps_v6_route_points_set p plant s t keeps shape n it;
-    v7 = mark-keeps_v7_heads_have_routes p plant strict s t keeps shape n it;
-    v8 = mark-keeps_v8_bodies_have_routes p plant strict s t keeps n it;
-    v9 = mark-keeps_v9_protecting_boards_closed p plant s t keeps shape n it;
+    v1 = mark-meets_v1_consistent_counts p s t keeps shape n it;
+    v2 = mark-meets_v2_sections_held_once p s t keeps n it;
+    v3 = mark-meets_v3_locks_match_routes p plant s t keeps shape n it;
+    v4 = mark-meets_v4_allocating_paths_vacant p plant strict s t keeps shape n it;
+    v5 = mark-meets_v5_open_needs_locked p plant strict s t keeps n it;
+    v6 = mark-meets_v6_points_match_modes p plant s t keeps shape n it;
+    v7 = mark-meets_v7_heads_have_routes p plant strict s t keeps shape n it;
+    v8 = mark-meets_v8_bodies_have_routes p plant strict s t keeps n it;
+    v9 = mark-meets_v9_protecting_boards_closed p plant s t keeps shape n it;
     one_train = mark-keeps_apart p plant strict s t keeps n it;
     right_point = mark-keeps_right p plant strict s t keeps n it;
   }
@@ -45,15 +45,15 @@ module _ (p : PlantLists) (plant : IsPlant p) (strict : IsStrict p) (s t : State
   allocate-keeps : HasShape p t → IsAllocated p s t n → Keeps p t
   allocate-keeps shape it = record {
     shape = shape;
-    v1 = allocate-keeps_v1_consistent_counts p s t keeps shape n it;
-    v2 = allocate-keeps_v2_sections_held_once p s t keeps n it;
-    v3 = allocate-keeps_v3_locks_match_routes p plant s t keeps shape n it;
-    v4 = allocate-keeps_v4_allocating_paths_vacant p plant strict s t keeps shape n it;
-    v5 = allocate-keeps_v5_open_needs_locked p plant strict s t keeps n it;
-    v6 = allocate-keeps_v6_route_points_set p plant s t keeps shape n it;
-    v7 = allocate-keeps_v7_heads_have_routes p plant strict s t keeps shape n it;
-    v8 = allocate-keeps_v8_bodies_have_routes p plant strict s t keeps n it;
-    v9 = allocate-keeps_v9_protecting_boards_closed p plant s t keeps shape n it;
+    v1 = allocate-meets_v1_consistent_counts p s t keeps shape n it;
+    v2 = allocate-meets_v2_sections_held_once p s t keeps n it;
+    v3 = allocate-meets_v3_locks_match_routes p plant s t keeps shape n it;
+    v4 = allocate-meets_v4_allocating_paths_vacant p plant strict s t keeps shape n it;
+    v5 = allocate-meets_v5_open_needs_locked p plant strict s t keeps n it;
+    v6 = allocate-meets_v6_points_match_modes p plant s t keeps shape n it;
+    v7 = allocate-meets_v7_heads_have_routes p plant strict s t keeps shape n it;
+    v8 = allocate-meets_v8_bodies_have_routes p plant strict s t keeps n it;
+    v9 = allocate-meets_v9_protecting_boards_closed p plant s t keeps shape n it;
     one_train = allocate-keeps_apart p plant strict s t keeps n it;
     right_point = allocate-keeps_right p plant strict s t keeps n it;
   }
@@ -61,15 +61,15 @@ module _ (p : PlantLists) (plant : IsPlant p) (strict : IsStrict p) (s t : State
   lock-keeps : HasShape p t → IsLocked p s t n → Keeps p t
   lock-keeps shape it = record {
     shape = shape;
-    v1 = lock-keeps_v1_consistent_counts p s t keeps shape n it;
-    v2 = lock-keeps_v2_sections_held_once p s t keeps n it;
-    v3 = lock-keeps_v3_locks_match_routes p plant s t keeps shape n it;
-    v4 = lock-keeps_v4_allocating_paths_vacant p plant strict s t keeps shape n it;
-    v5 = lock-keeps_v5_open_needs_locked p plant strict s t keeps n it;
-    v6 = lock-keeps_v6_route_points_set p plant s t keeps shape n it;
-    v7 = lock-keeps_v7_heads_have_routes p plant strict s t keeps shape n it;
-    v8 = lock-keeps_v8_bodies_have_routes p plant strict s t keeps n it;
-    v9 = lock-keeps_v9_protecting_boards_closed p plant s t keeps shape n it;
+    v1 = lock-meets_v1_consistent_counts p s t keeps shape n it;
+    v2 = lock-meets_v2_sections_held_once p s t keeps n it;
+    v3 = lock-meets_v3_locks_match_routes p plant s t keeps shape n it;
+    v4 = lock-meets_v4_allocating_paths_vacant p plant strict s t keeps shape n it;
+    v5 = lock-meets_v5_open_needs_locked p plant strict s t keeps n it;
+    v6 = lock-meets_v6_points_match_modes p plant s t keeps shape n it;
+    v7 = lock-meets_v7_heads_have_routes p plant strict s t keeps shape n it;
+    v8 = lock-meets_v8_bodies_have_routes p plant strict s t keeps n it;
+    v9 = lock-meets_v9_protecting_boards_closed p plant s t keeps shape n it;
     one_train = lock-keeps_apart p plant strict s t keeps n it;
     right_point = lock-keeps_right p plant strict s t keeps n it;
   }
@@ -77,15 +77,15 @@ module _ (p : PlantLists) (plant : IsPlant p) (strict : IsStrict p) (s t : State
   sense-keeps : HasShape p t → IsSensed p s t n → Keeps p t
   sense-keeps shape it = record {
     shape = shape;
-    v1 = sense-keeps_v1_consistent_counts p s t keeps shape n it;
-    v2 = sense-keeps_v2_sections_held_once p s t keeps n it;
-    v3 = sense-keeps_v3_locks_match_routes p plant s t keeps shape n it;
-    v4 = sense-keeps_v4_allocating_paths_vacant p plant strict s t keeps shape n it;
-    v5 = sense-keeps_v5_open_needs_locked p plant strict s t keeps n it;
-    v6 = sense-keeps_v6_route_points_set p plant s t keeps shape n it;
-    v7 = sense-keeps_v7_heads_have_routes p plant strict s t keeps shape n it;
-    v8 = sense-keeps_v8_bodies_have_routes p plant strict s t keeps n it;
-    v9 = sense-keeps_v9_protecting_boards_closed p plant s t keeps shape n it;
+    v1 = sense-meets_v1_consistent_counts p s t keeps shape n it;
+    v2 = sense-meets_v2_sections_held_once p s t keeps n it;
+    v3 = sense-meets_v3_locks_match_routes p plant s t keeps shape n it;
+    v4 = sense-meets_v4_allocating_paths_vacant p plant strict s t keeps shape n it;
+    v5 = sense-meets_v5_open_needs_locked p plant strict s t keeps n it;
+    v6 = sense-meets_v6_points_match_modes p plant s t keeps shape n it;
+    v7 = sense-meets_v7_heads_have_routes p plant strict s t keeps shape n it;
+    v8 = sense-meets_v8_bodies_have_routes p plant strict s t keeps n it;
+    v9 = sense-meets_v9_protecting_boards_closed p plant s t keeps shape n it;
     one_train = sense-keeps_apart p plant strict s t keeps n it;
     right_point = sense-keeps_right p plant strict s t keeps n it;
   }
@@ -93,15 +93,15 @@ module _ (p : PlantLists) (plant : IsPlant p) (strict : IsStrict p) (s t : State
   release-keeps : HasShape p t → IsReleased p s t n → Keeps p t
   release-keeps shape it = record {
     shape = shape;
-    v1 = release-keeps_v1_consistent_counts p s t keeps shape n it;
-    v2 = release-keeps_v2_sections_held_once p s t keeps n it;
-    v3 = release-keeps_v3_locks_match_routes p plant s t keeps shape n it;
-    v4 = release-keeps_v4_allocating_paths_vacant p plant strict s t keeps shape n it;
-    v5 = release-keeps_v5_open_needs_locked p plant strict s t keeps n it;
-    v6 = release-keeps_v6_route_points_set p plant s t keeps shape n it;
-    v7 = release-keeps_v7_heads_have_routes p plant strict s t keeps shape n it;
-    v8 = release-keeps_v8_bodies_have_routes p plant strict s t keeps n it;
-    v9 = release-keeps_v9_protecting_boards_closed p plant s t keeps shape n it;
+    v1 = release-meets_v1_consistent_counts p s t keeps shape n it;
+    v2 = release-meets_v2_sections_held_once p s t keeps n it;
+    v3 = release-meets_v3_locks_match_routes p plant s t keeps shape n it;
+    v4 = release-meets_v4_allocating_paths_vacant p plant strict s t keeps shape n it;
+    v5 = release-meets_v5_open_needs_locked p plant strict s t keeps n it;
+    v6 = release-meets_v6_points_match_modes p plant s t keeps shape n it;
+    v7 = release-meets_v7_heads_have_routes p plant strict s t keeps shape n it;
+    v8 = release-meets_v8_bodies_have_routes p plant strict s t keeps n it;
+    v9 = release-meets_v9_protecting_boards_closed p plant s t keeps shape n it;
     one_train = release-keeps_apart p plant strict s t keeps n it;
     right_point = release-keeps_right p plant strict s t keeps n it;
   }
@@ -109,15 +109,15 @@ module _ (p : PlantLists) (plant : IsPlant p) (strict : IsStrict p) (s t : State
   finish-keeps : HasShape p t → IsFinished p s t n → Keeps p t
   finish-keeps shape it = record {
     shape = shape;
-    v1 = finish-keeps_v1_consistent_counts p s t keeps shape n it;
-    v2 = finish-keeps_v2_sections_held_once p s t keeps n it;
-    v3 = finish-keeps_v3_locks_match_routes p plant s t keeps shape n it;
-    v4 = finish-keeps_v4_allocating_paths_vacant p plant strict s t keeps shape n it;
-    v5 = finish-keeps_v5_open_needs_locked p plant strict s t keeps n it;
-    v6 = finish-keeps_v6_route_points_set p plant s t keeps shape n it;
-    v7 = finish-keeps_v7_heads_have_routes p plant strict s t keeps shape n it;
-    v8 = finish-keeps_v8_bodies_have_routes p plant strict s t keeps n it;
-    v9 = finish-keeps_v9_protecting_boards_closed p plant s t keeps shape n it;
+    v1 = finish-meets_v1_consistent_counts p s t keeps shape n it;
+    v2 = finish-meets_v2_sections_held_once p s t keeps n it;
+    v3 = finish-meets_v3_locks_match_routes p plant s t keeps shape n it;
+    v4 = finish-meets_v4_allocating_paths_vacant p plant strict s t keeps shape n it;
+    v5 = finish-meets_v5_open_needs_locked p plant strict s t keeps n it;
+    v6 = finish-meets_v6_points_match_modes p plant s t keeps shape n it;
+    v7 = finish-meets_v7_heads_have_routes p plant strict s t keeps shape n it;
+    v8 = finish-meets_v8_bodies_have_routes p plant strict s t keeps n it;
+    v9 = finish-meets_v9_protecting_boards_closed p plant s t keeps shape n it;
     one_train = finish-keeps_apart p plant strict s t keeps n it;
     right_point = finish-keeps_right p plant strict s t keeps n it;
   }
@@ -125,15 +125,15 @@ module _ (p : PlantLists) (plant : IsPlant p) (strict : IsStrict p) (s t : State
   throw-keeps : HasShape p t → IsThrown p s t n → Keeps p t
   throw-keeps shape it = record {
     shape = shape;
-    v1 = throw-keeps_v1_consistent_counts p s t keeps shape n it;
-    v2 = throw-keeps_v2_sections_held_once p s t keeps n it;
-    v3 = throw-keeps_v3_locks_match_routes p plant s t keeps shape n it;
-    v4 = throw-keeps_v4_allocating_paths_vacant p plant strict s t keeps shape n it;
-    v5 = throw-keeps_v5_open_needs_locked p plant strict s t keeps n it;
-    v6 = throw-keeps_v6_route_points_set p plant s t keeps shape n it;
-    v7 = throw-keeps_v7_heads_have_routes p plant strict s t keeps shape n it;
-    v8 = throw-keeps_v8_bodies_have_routes p plant strict s t keeps n it;
-    v9 = throw-keeps_v9_protecting_boards_closed p plant s t keeps shape n it;
+    v1 = throw-meets_v1_consistent_counts p s t keeps shape n it;
+    v2 = throw-meets_v2_sections_held_once p s t keeps n it;
+    v3 = throw-meets_v3_locks_match_routes p plant s t keeps shape n it;
+    v4 = throw-meets_v4_allocating_paths_vacant p plant strict s t keeps shape n it;
+    v5 = throw-meets_v5_open_needs_locked p plant strict s t keeps n it;
+    v6 = throw-meets_v6_points_match_modes p plant s t keeps shape n it;
+    v7 = throw-meets_v7_heads_have_routes p plant strict s t keeps shape n it;
+    v8 = throw-meets_v8_bodies_have_routes p plant strict s t keeps n it;
+    v9 = throw-meets_v9_protecting_boards_closed p plant s t keeps shape n it;
     one_train = throw-keeps_apart p plant strict s t keeps n it;
     right_point = throw-keeps_right p plant strict s t keeps n it;
   }
@@ -141,15 +141,15 @@ module _ (p : PlantLists) (plant : IsPlant p) (strict : IsStrict p) (s t : State
   settle-keeps : HasShape p t → IsSettled p s t n → Keeps p t
   settle-keeps shape it = record {
     shape = shape;
-    v1 = settle-keeps_v1_consistent_counts p s t keeps shape n it;
-    v2 = settle-keeps_v2_sections_held_once p s t keeps n it;
-    v3 = settle-keeps_v3_locks_match_routes p plant s t keeps shape n it;
-    v4 = settle-keeps_v4_allocating_paths_vacant p plant strict s t keeps shape n it;
-    v5 = settle-keeps_v5_open_needs_locked p plant strict s t keeps n it;
-    v6 = settle-keeps_v6_route_points_set p plant s t keeps shape n it;
-    v7 = settle-keeps_v7_heads_have_routes p plant strict s t keeps shape n it;
-    v8 = settle-keeps_v8_bodies_have_routes p plant strict s t keeps n it;
-    v9 = settle-keeps_v9_protecting_boards_closed p plant s t keeps shape n it;
+    v1 = settle-meets_v1_consistent_counts p s t keeps shape n it;
+    v2 = settle-meets_v2_sections_held_once p s t keeps n it;
+    v3 = settle-meets_v3_locks_match_routes p plant s t keeps shape n it;
+    v4 = settle-meets_v4_allocating_paths_vacant p plant strict s t keeps shape n it;
+    v5 = settle-meets_v5_open_needs_locked p plant strict s t keeps n it;
+    v6 = settle-meets_v6_points_match_modes p plant s t keeps shape n it;
+    v7 = settle-meets_v7_heads_have_routes p plant strict s t keeps shape n it;
+    v8 = settle-meets_v8_bodies_have_routes p plant strict s t keeps n it;
+    v9 = settle-meets_v9_protecting_boards_closed p plant s t keeps shape n it;
     one_train = settle-keeps_apart p plant strict s t keeps n it;
     right_point = settle-keeps_right p plant strict s t keeps n it;
   }
@@ -157,15 +157,15 @@ module _ (p : PlantLists) (plant : IsPlant p) (strict : IsStrict p) (s t : State
   enter-keeps : HasShape p t → IsEntered p s t n → Keeps p t
   enter-keeps shape it = record {
     shape = shape;
-    v1 = enter-keeps_v1_consistent_counts p s t keeps shape n it;
-    v2 = enter-keeps_v2_sections_held_once p s t keeps n it;
-    v3 = enter-keeps_v3_locks_match_routes p plant s t keeps shape n it;
-    v4 = enter-keeps_v4_allocating_paths_vacant p plant strict s t keeps shape n it;
-    v5 = enter-keeps_v5_open_needs_locked p plant strict s t keeps n it;
-    v6 = enter-keeps_v6_route_points_set p plant s t keeps shape n it;
-    v7 = enter-keeps_v7_heads_have_routes p plant strict s t keeps shape n it;
-    v8 = enter-keeps_v8_bodies_have_routes p plant strict s t keeps n it;
-    v9 = enter-keeps_v9_protecting_boards_closed p plant s t keeps shape n it;
+    v1 = enter-meets_v1_consistent_counts p s t keeps shape n it;
+    v2 = enter-meets_v2_sections_held_once p s t keeps n it;
+    v3 = enter-meets_v3_locks_match_routes p plant s t keeps shape n it;
+    v4 = enter-meets_v4_allocating_paths_vacant p plant strict s t keeps shape n it;
+    v5 = enter-meets_v5_open_needs_locked p plant strict s t keeps n it;
+    v6 = enter-meets_v6_points_match_modes p plant s t keeps shape n it;
+    v7 = enter-meets_v7_heads_have_routes p plant strict s t keeps shape n it;
+    v8 = enter-meets_v8_bodies_have_routes p plant strict s t keeps n it;
+    v9 = enter-meets_v9_protecting_boards_closed p plant s t keeps shape n it;
     one_train = enter-keeps_apart p plant strict s t keeps n it;
     right_point = enter-keeps_right p plant strict s t keeps n it;
   }
@@ -173,15 +173,15 @@ module _ (p : PlantLists) (plant : IsPlant p) (strict : IsStrict p) (s t : State
   head-keeps : HasShape p t → IsHeaded p s t n → Keeps p t
   head-keeps shape it = record {
     shape = shape;
-    v1 = head-keeps_v1_consistent_counts p s t keeps shape n it;
-    v2 = head-keeps_v2_sections_held_once p s t keeps n it;
-    v3 = head-keeps_v3_locks_match_routes p plant s t keeps shape n it;
-    v4 = head-keeps_v4_allocating_paths_vacant p plant strict s t keeps shape n it;
-    v5 = head-keeps_v5_open_needs_locked p plant strict s t keeps n it;
-    v6 = head-keeps_v6_route_points_set p plant s t keeps shape n it;
-    v7 = head-keeps_v7_heads_have_routes p plant strict s t keeps shape n it;
-    v8 = head-keeps_v8_bodies_have_routes p plant strict s t keeps n it;
-    v9 = head-keeps_v9_protecting_boards_closed p plant s t keeps shape n it;
+    v1 = head-meets_v1_consistent_counts p s t keeps shape n it;
+    v2 = head-meets_v2_sections_held_once p s t keeps n it;
+    v3 = head-meets_v3_locks_match_routes p plant s t keeps shape n it;
+    v4 = head-meets_v4_allocating_paths_vacant p plant strict s t keeps shape n it;
+    v5 = head-meets_v5_open_needs_locked p plant strict s t keeps n it;
+    v6 = head-meets_v6_points_match_modes p plant s t keeps shape n it;
+    v7 = head-meets_v7_heads_have_routes p plant strict s t keeps shape n it;
+    v8 = head-meets_v8_bodies_have_routes p plant strict s t keeps n it;
+    v9 = head-meets_v9_protecting_boards_closed p plant s t keeps shape n it;
     one_train = head-keeps_apart p plant strict s t keeps n it;
     right_point = head-keeps_right p plant strict s t keeps n it;
   }
@@ -189,15 +189,15 @@ module _ (p : PlantLists) (plant : IsPlant p) (strict : IsStrict p) (s t : State
   tail-keeps : HasShape p t → IsTailed p s t n → Keeps p t
   tail-keeps shape it = record {
     shape = shape;
-    v1 = tail-keeps_v1_consistent_counts p s t keeps shape n it;
-    v2 = tail-keeps_v2_sections_held_once p s t keeps n it;
-    v3 = tail-keeps_v3_locks_match_routes p plant s t keeps shape n it;
-    v4 = tail-keeps_v4_allocating_paths_vacant p plant strict s t keeps shape n it;
-    v5 = tail-keeps_v5_open_needs_locked p plant strict s t keeps n it;
-    v6 = tail-keeps_v6_route_points_set p plant s t keeps shape n it;
-    v7 = tail-keeps_v7_heads_have_routes p plant strict s t keeps shape n it;
-    v8 = tail-keeps_v8_bodies_have_routes p plant strict s t keeps n it;
-    v9 = tail-keeps_v9_protecting_boards_closed p plant s t keeps shape n it;
+    v1 = tail-meets_v1_consistent_counts p s t keeps shape n it;
+    v2 = tail-meets_v2_sections_held_once p s t keeps n it;
+    v3 = tail-meets_v3_locks_match_routes p plant s t keeps shape n it;
+    v4 = tail-meets_v4_allocating_paths_vacant p plant strict s t keeps shape n it;
+    v5 = tail-meets_v5_open_needs_locked p plant strict s t keeps n it;
+    v6 = tail-meets_v6_points_match_modes p plant s t keeps shape n it;
+    v7 = tail-meets_v7_heads_have_routes p plant strict s t keeps shape n it;
+    v8 = tail-meets_v8_bodies_have_routes p plant strict s t keeps n it;
+    v9 = tail-meets_v9_protecting_boards_closed p plant s t keeps shape n it;
     one_train = tail-keeps_apart p plant strict s t keeps n it;
     right_point = tail-keeps_right p plant strict s t keeps n it;
   }
@@ -205,15 +205,15 @@ module _ (p : PlantLists) (plant : IsPlant p) (strict : IsStrict p) (s t : State
   leave-keeps : HasShape p t → IsLeft p s t n → Keeps p t
   leave-keeps shape it = record {
     shape = shape;
-    v1 = leave-keeps_v1_consistent_counts p s t keeps shape n it;
-    v2 = leave-keeps_v2_sections_held_once p s t keeps n it;
-    v3 = leave-keeps_v3_locks_match_routes p plant s t keeps shape n it;
-    v4 = leave-keeps_v4_allocating_paths_vacant p plant strict s t keeps shape n it;
-    v5 = leave-keeps_v5_open_needs_locked p plant strict s t keeps n it;
-    v6 = leave-keeps_v6_route_points_set p plant s t keeps shape n it;
-    v7 = leave-keeps_v7_heads_have_routes p plant strict s t keeps shape n it;
-    v8 = leave-keeps_v8_bodies_have_routes p plant strict s t keeps n it;
-    v9 = leave-keeps_v9_protecting_boards_closed p plant s t keeps shape n it;
+    v1 = leave-meets_v1_consistent_counts p s t keeps shape n it;
+    v2 = leave-meets_v2_sections_held_once p s t keeps n it;
+    v3 = leave-meets_v3_locks_match_routes p plant s t keeps shape n it;
+    v4 = leave-meets_v4_allocating_paths_vacant p plant strict s t keeps shape n it;
+    v5 = leave-meets_v5_open_needs_locked p plant strict s t keeps n it;
+    v6 = leave-meets_v6_points_match_modes p plant s t keeps shape n it;
+    v7 = leave-meets_v7_heads_have_routes p plant strict s t keeps shape n it;
+    v8 = leave-meets_v8_bodies_have_routes p plant strict s t keeps n it;
+    v9 = leave-meets_v9_protecting_boards_closed p plant s t keeps shape n it;
     one_train = leave-keeps_apart p plant strict s t keeps n it;
     right_point = leave-keeps_right p plant strict s t keeps n it;
   }
@@ -221,15 +221,15 @@ module _ (p : PlantLists) (plant : IsPlant p) (strict : IsStrict p) (s t : State
   cancel-keeps : HasShape p t → IsCancelled p s t n → Keeps p t
   cancel-keeps shape it = record {
     shape = shape;
-    v1 = cancel-keeps_v1_consistent_counts p s t keeps shape n it;
-    v2 = cancel-keeps_v2_sections_held_once p s t keeps n it;
-    v3 = cancel-keeps_v3_locks_match_routes p plant s t keeps shape n it;
-    v4 = cancel-keeps_v4_allocating_paths_vacant p plant strict s t keeps shape n it;
-    v5 = cancel-keeps_v5_open_needs_locked p plant strict s t keeps n it;
-    v6 = cancel-keeps_v6_route_points_set p plant s t keeps shape n it;
-    v7 = cancel-keeps_v7_heads_have_routes p plant strict s t keeps shape n it;
-    v8 = cancel-keeps_v8_bodies_have_routes p plant strict s t keeps n it;
-    v9 = cancel-keeps_v9_protecting_boards_closed p plant s t keeps shape n it;
+    v1 = cancel-meets_v1_consistent_counts p s t keeps shape n it;
+    v2 = cancel-meets_v2_sections_held_once p s t keeps n it;
+    v3 = cancel-meets_v3_locks_match_routes p plant s t keeps shape n it;
+    v4 = cancel-meets_v4_allocating_paths_vacant p plant strict s t keeps shape n it;
+    v5 = cancel-meets_v5_open_needs_locked p plant strict s t keeps n it;
+    v6 = cancel-meets_v6_points_match_modes p plant s t keeps shape n it;
+    v7 = cancel-meets_v7_heads_have_routes p plant strict s t keeps shape n it;
+    v8 = cancel-meets_v8_bodies_have_routes p plant strict s t keeps n it;
+    v9 = cancel-meets_v9_protecting_boards_closed p plant s t keeps shape n it;
     one_train = cancel-keeps_apart p plant strict s t keeps n it;
     right_point = cancel-keeps_right p plant strict s t keeps n it;
   }

@@ -2,7 +2,7 @@
 -- For each rule that is used, a plant that breaks only this rule, with a run to a hazard or out of
 -- the invariant.
 use Rattle.std.proofs.Common.{◌≡◌, ℕ, ◌<◌, Bool, true, false, not, Option, Some, None, List, [], ◌∷◌, option_map, codes, is_some, map, unwrap_or, refl}
-use Rattle.ilk_base.specs.Each.{all_below}
+use Rattle.ilk_base.specs.Each.{is_true_for_all_below}
 use Rattle.ilk_base.proofs.Truth.{fails}
 use Rattle.ilk_plant.specs.ColumnRules.{breaks_column_rule_at, column_rules_broken}
 use Rattle.ilk_plant.specs.Plant.{PlantLists}
@@ -26,8 +26,8 @@ use Rattle.ilk_model.specs.declared.event.Event.TheVariants.{Mark, Allocate, Loc
 use Rattle.ilk_model.specs.declared.hazards.HazardAt.{HazardAt}
 use Rattle.ilk_model.specs.declared.hazards.HazardAt.TheVariants.{Two, Wrong}
 use Rattle.ilk_model.proofs.Examples.{station}
-use Rattle.ilk_strict.specs.IsStrict.{IsStrict, ends_at_board_or_border, path_points_listed_along_path}
-use Rattle.ilk_strict.proofs.Reading.{all_below-at}
+use Rattle.ilk_strict.specs.IsStrict.{IsStrict, does_not_end_between_boards, path_points_listed_along_path}
+use Rattle.ilk_strict.proofs.Reading.{is_true_for_all_below-at}
 use Rattle.ilk_strict.proofs.Strict.{strict_from_list, strict_from_rules}
 
 station_is_clean : column_rules_broken station ≡ []
@@ -39,13 +39,13 @@ station_is_strict = strict_from_list station station_is_clean
 abbrev without_conflicts : PlantLists
 without_conflicts = record station { routes = map (λ (route : Route). record route { conflicts = [] }) station.routes }
 
-kept-below : (n : ℕ) (test : ℕ → Bool) → all_below n (λ i. not (test i)) ≡ true → (i : ℕ) → i < n → test i ≡ false
-kept-below n test h i less = fails (test i) (all_below-at n (λ j. not (test j)) h i less)
+kept-below : (n : ℕ) (test : ℕ → Bool) → is_true_for_all_below n (λ i. not (test i)) ≡ true → (i : ℕ) → i < n → test i ≡ false
+kept-below n test h i less = fails (test i) (is_true_for_all_below-at n (λ j. not (test j)) h i less)
 
 without_conflicts_is_strict : IsStrict without_conflicts
 without_conflicts_is_strict = strict_from_rules without_conflicts (record {
   c1 = kept-below 8 (breaks_column_rule_at without_conflicts C1) refl;
-  c2 = kept-below 8 (route_fails without_conflicts (ends_at_board_or_border without_conflicts)) refl;
+  c2 = kept-below 8 (route_fails without_conflicts (does_not_end_between_boards without_conflicts)) refl;
   c3 = kept-below 8 (route_fails without_conflicts (path_points_listed_along_path without_conflicts)) refl;
   c7 = kept-below 6 (breaks_column_rule_at without_conflicts C7) refl;
 })
@@ -59,7 +59,7 @@ first_breaks_c2 = refl
 without_destinations_is_strict : IsStrict without_destinations
 without_destinations_is_strict = strict_from_rules without_destinations (record {
   c1 = kept-below 8 (breaks_column_rule_at without_destinations C1) refl;
-  c2 = kept-below 8 (route_fails without_destinations (ends_at_board_or_border without_destinations)) refl;
+  c2 = kept-below 8 (route_fails without_destinations (does_not_end_between_boards without_destinations)) refl;
   c3 = kept-below 8 (route_fails without_destinations (path_points_listed_along_path without_destinations)) refl;
   c7 = kept-below 6 (breaks_column_rule_at without_destinations C7) refl;
 })

@@ -11,7 +11,7 @@ use Rattle.ilk_base.proofs.Lists.{item_at}
 use Rattle.ilk_plant.specs.ColumnRules.{has_no_board}
 use Rattle.ilk_plant.specs.Network.{contains_section, same_direction}
 use Rattle.ilk_plant.specs.Plant.{IsPlant, PlantLists, board_of, next_to}
-use Rattle.ilk_plant.specs.State.{is_occupied, detected_position}
+use Rattle.ilk_plant.specs.State.{is_occupied, detected_position_in_state}
 use Rattle.ilk_plant.specs.declared.network.Board.{Board}
 use Rattle.ilk_plant.specs.declared.network.Dir.{Dir}
 use Rattle.ilk_plant.specs.declared.network.Position.{Position}
@@ -125,7 +125,7 @@ module _ (p : PlantLists) (plant : IsPlant p) (strict : IsStrict p) (s : State) 
       let leads_to = set-leg p s route before i x to_leg.stem plus minus to_leg.faces set_to to_leg.section in
       let stem = stem-before p plant before x to_leg.stem plus minus to_leg.faces source.dir to_leg.section to_leg.same (strict.leads r route source from i before x earlier at) in
       let differ = legs-differ p plant x to_leg.stem plus minus to_leg.faces to_leg.section in
-      let goes = leg-ahead plus minus to_leg.lie set_to.to y (detected_position p s x) to_leg.lies set_to.lies to_leg.to_leg in
+      let goes = leg-ahead plus minus to_leg.lie set_to.to y (detected_position_in_state p s x) to_leg.lies set_to.lies to_leg.to_leg in
       elim set_to.towards [
         | inl back ↦ absurd (stem-no_leg to_leg.stem plus minus set_to.to differ (stem ∙ back ∙ sym leads_to))
         | inr forth ↦ sym goes ∙ leads_to ∙ same_Some set_to.w z (sym forth ∙ next)
@@ -192,7 +192,7 @@ goes-on p plant strict s keeps i train x y at last leads passes = by_board (boar
 
 pub record LiesAhead (p : PlantLists) (s : State) (x y plus minus : ℕ) : Type 0 where
   pub to : Position
-  pub lies : detected_position p s y ≡ Some (lie_from_position to)
+  pub lies : detected_position_in_state p s y ≡ Some (lie_from_position to)
   pub apart : x ≡ other_leg plus minus to → ⊥
 
 pub lies-ahead : (p : PlantLists) → IsPlant p → IsStrict p → (s : State) → Keeps p s → (x y : ℕ) (d : Dir) →

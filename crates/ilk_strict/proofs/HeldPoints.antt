@@ -6,7 +6,7 @@ use Rattle.ilk_base.specs.Option.{is_some_and}
 use Rattle.ilk_base.proofs.Lists.{get-dropped, taken-before}
 use Rattle.ilk_plant.specs.ColumnRules.{is_leg_at_position}
 use Rattle.ilk_plant.specs.Plant.{PlantLists, is_point_section}
-use Rattle.ilk_plant.specs.State.{detected_position}
+use Rattle.ilk_plant.specs.State.{detected_position_in_state}
 use Rattle.ilk_plant.specs.declared.network.Board.{Board}
 use Rattle.ilk_plant.specs.declared.network.Dir.{Dir}
 use Rattle.ilk_plant.specs.declared.network.Position.{Position}
@@ -15,8 +15,8 @@ use Rattle.ilk_plant.specs.declared.state.RouteState.{RouteState}
 use Rattle.ilk_plant.specs.declared.state.State.{State}
 use Rattle.ilk_plant.specs.declared.table.Route.{Route}
 use Rattle.ilk_routes.specs.Lies.{lie_from_position}
-use Rattle.ilk_model.specs.Commanded.{commanded_position}
-use Rattle.ilk_model.specs.Families.{keeps_v6_route_points_set}
+use Rattle.ilk_model.specs.Commanded.{commanded_position_in_state}
+use Rattle.ilk_model.specs.Families.{meets_v6_points_match_modes}
 use Rattle.ilk_model.specs.Holding.{is_unreleased_on_path, is_locked_or_occupied}
 use Rattle.ilk_strict.specs.IsStrict.{IsRouteWithSource, IsStrict}
 use Rattle.ilk_strict.proofs.Ahead.{IsListedTo, leg, leg-is, lies-listed, listed_towards-at}
@@ -26,8 +26,8 @@ use Rattle.ilk_strict.proofs.BoardFacts.{lies-at}
 
 pub record IsSet (p : PlantLists) (s : State) (route : Route) (before i x : ℕ) : Type 0 where
   pub to : Position
-  pub commanded : commanded_position p s x ≡ Some to
-  pub lies : detected_position p s x ≡ Some (lie_from_position to)
+  pub commanded : commanded_position_in_state p s x ≡ Some to
+  pub lies : detected_position_in_state p s x ≡ Some (lie_from_position to)
   pub w : ℕ
   pub towards : (before ≡ w) ⊎ (slice_get route.path (suc i) ≡ Some w)
   pub leads : is_some_and (slice_get p.sections x) (is_leg_at_position to w) ≡ true
@@ -45,7 +45,7 @@ before-or_next path i before (suc j) w among =
     let place : i + 1 + j ≡ suc i = omega (arith, first) in
     inr (ap (slice_get path) (sym place) ∙ sym (get-dropped path (i + 1) j) ∙ taken.1)
 
-module _ (p : PlantLists) (strict : IsStrict p) (s : State) (kept : keeps_v6_route_points_set p s ≡ true) (r : ℕ) (route : Route) (now : RouteState) (it : RouteIn p s r route now) (mode : is_locked_or_occupied now ≡ true) where
+module _ (p : PlantLists) (strict : IsStrict p) (s : State) (kept : meets_v6_points_match_modes p s ≡ true) (r : ℕ) (route : Route) (now : RouteState) (it : RouteIn p s r route now) (mode : is_locked_or_occupied now ≡ true) where
   listed-set : (before i x : ℕ) → now.rel ≤ i → slice_get route.path i ≡ Some x → IsListedTo p route.points (before ∷ take 1 (drop (i + 1) route.path)) x → IsSet p s route before i x
   listed-set before i x least at listed =
       let entry = listed.listed in
@@ -54,7 +54,7 @@ module _ (p : PlantLists) (strict : IsStrict p) (s : State) (kept : keeps_v6_rou
       let both = lies-at p s kept r route now it listed.k entry listed.at mode on in
       record {
         to = entry.at;
-        commanded = ap (commanded_position p s) (sym same) ∙ commanded-at_listed p s entry both.0;
+        commanded = ap (commanded_position_in_state p s) (sym same) ∙ commanded-at_listed p s entry both.0;
         lies = lies-listed p s entry x both.1 same;
         w = listed.w;
         towards = before-or_next route.path i before listed.j listed.w listed.among;

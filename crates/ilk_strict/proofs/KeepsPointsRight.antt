@@ -7,7 +7,7 @@ use Rattle.std.proofs.lemmas.Option.{same_Some, slice_get_within}
 use Rattle.ilk_base.proofs.Lists.{item_at}
 use Rattle.ilk_plant.specs.Network.{contains_section, is_point}
 use Rattle.ilk_plant.specs.Plant.{IsPlant, PlantLists, is_point_section, point_number}
-use Rattle.ilk_plant.specs.State.{detected_position}
+use Rattle.ilk_plant.specs.State.{detected_position_in_state}
 use Rattle.ilk_plant.specs.declared.network.Dir.{Dir}
 use Rattle.ilk_plant.specs.declared.network.Position.{Position}
 use Rattle.ilk_plant.specs.declared.network.Section.{Section}
@@ -44,21 +44,21 @@ use Rattle.ilk_strict.proofs.LyingRight.{AreRight, ahead-no_other, lie_from_posi
 
 module _ (p : PlantLists) (plant : IsPlant p) (strict : IsStrict p) (s t : State) (keeps : Keeps p s) (n : ℕ) where
   no-is_wrong_under_body : (z stem plus minus : ℕ) (faces : Dir) → slice_get p.sections z ≡ Some (Point stem plus minus faces) → (i : ℕ) (train : Train) → slice_get s.trains i ≡ Some train
-      → is_wrong_under_body z plus minus (detected_position p s z) train.body ≡ false
+      → is_wrong_under_body z plus minus (detected_position_in_state p s z) train.body ≡ false
   no-is_wrong_under_body z stem plus minus faces section i train at =
       wrong-at p s z (keeps.right_point z (slice_get_within p.sections z (Point stem plus minus faces) section)) stem plus minus faces section i train at
 
   same-points : t.points ≡ s.points → t.trains ≡ s.trains → AreRight p t
   same-points points trains x within = wrong-reads p s t x points trains (keeps.right_point x within)
 
-  lie-as_before : ((x : ℕ) → detected_position p t x ≡ detected_position p s x) →
+  lie-as_before : ((x : ℕ) → detected_position_in_state p t x ≡ detected_position_in_state p s x) →
       ((z stem plus minus : ℕ) (faces : Dir) → slice_get p.sections z ≡ Some (Point stem plus minus faces) →
       (i : ℕ) (train : Train) → slice_get t.trains i ≡ Some train →
-      is_wrong_under_body z plus minus (detected_position p s z) train.body ≡ false) → AreRight p t
+      is_wrong_under_body z plus minus (detected_position_in_state p s z) train.body ≡ false) → AreRight p t
   lie-as_before lies each z within =
       wrong-from p t z (λ stem plus minus faces section i train at. rw (lies z) (each z stem plus minus faces section i train at))
 
-  points-lie : t.points ≡ s.points → (x : ℕ) → detected_position p t x ≡ detected_position p s x
+  points-lie : t.points ≡ s.points → (x : ℕ) → detected_position_in_state p t x ≡ detected_position_in_state p s x
   points-lie points x = lie-alike p s t x (λ m number. ap (λ (l : List PointState). slice_get l m) points)
 
   pub mark-keeps_right : IsMarked p s t n → AreRight p t
@@ -89,7 +89,7 @@ module _ (p : PlantLists) (plant : IsPlant p) (strict : IsStrict p) (s t : State
       wrong-from p t z (λ stem plus minus faces section i train there.
       let was : slice_get s.trains i ≡ Some train = sym (ap (λ (l : List Train). slice_get l i) trains) ∙ there in
       elim (cases_eq z x) [
-        | inl same ↦ false_from_ne_true (is_wrong_under_body z plus minus (detected_position p t z) train.body) (λ h. free i train was (rw same at (is_wrong_under_body-has z plus minus (detected_position p t z) train.body h)))
+        | inl same ↦ false_from_ne_true (is_wrong_under_body z plus minus (detected_position_in_state p t z) train.body) (λ h. free i train was (rw same at (is_wrong_under_body-has z plus minus (detected_position_in_state p t z) train.body h)))
         | inr apart ↦ rw (lie-other p s t x m point new number at points z apart) (no-is_wrong_under_body z stem plus minus faces section i train was)
       ])
 
@@ -138,7 +138,7 @@ module _ (p : PlantLists) (plant : IsPlant p) (strict : IsStrict p) (s t : State
           of_section : (section : Section) → slice_get p.sections n ≡ Some section → is_point section ≡ true → ⊥
           of_section (Linear down up board_down board_up) section h = cc
           of_section (Point stem plus minus faces) section h =
-              let lie : detected_position p s n ≡ Some Moving = lie-is p s n it.n it.point it.number it.state ∙ ap Some (moving-is it.point.at it.moved) in
+              let lie : detected_position_in_state p s n ≡ Some Moving = lie-is p s n it.n it.point it.number it.state ∙ ap Some (moving-is it.point.at it.moved) in
               let none : contains_section n train.body ≡ false = rw lie at (no-is_wrong_under_body n stem plus minus faces section i train at) in
               both_ways (contains_section n train.body) none has
 
@@ -146,8 +146,8 @@ module _ (p : PlantLists) (plant : IsPlant p) (strict : IsStrict p) (s t : State
   enter-keeps_right it =
       lie-as_before (points-lie it.points) (λ z stem plus minus faces section i train at. elim (enter-trains p s t n it i train at) [
         | inl old ↦ no-is_wrong_under_body z stem plus minus faces section i train old
-        | inr new ↦ false_from_ne_true (is_wrong_under_body z plus minus (detected_position p s z) train.body) (λ h.
-            let has = is_wrong_under_body-has z plus minus (detected_position p s z) train.body h in
+        | inr new ↦ false_from_ne_true (is_wrong_under_body z plus minus (detected_position_in_state p s z) train.body) (λ h.
+            let has = is_wrong_under_body-has z plus minus (detected_position_in_state p s z) train.body h in
             let here : n ≡ z = only-one z n (subst (λ (one : Train). contains_section z one.body ≡ true) new.1 has) in
             point-no_border p z stem plus minus faces it.inward section (rw here at it.borders))
       ])
@@ -155,10 +155,10 @@ module _ (p : PlantLists) (plant : IsPlant p) (strict : IsStrict p) (s t : State
   pub head-keeps_right : IsHeaded p s t n → AreRight p t
   head-keeps_right it =
       lie-as_before (points-lie it.points) (λ z stem plus minus faces section i train at. elim (head-trains p s t n it i train at) [
-        | inl moved ↦ subst (λ (one : Train). is_wrong_under_body z plus minus (detected_position p s z) one.body ≡ false)
+        | inl moved ↦ subst (λ (one : Train). is_wrong_under_body z plus minus (detected_position_in_state p s z) one.body ≡ false)
             (sym moved.1)
-            (false_from_ne_true (is_wrong_under_body z plus minus (detected_position p s z) (it.train.body ++ it.y ∷ []))
-            (strayed z stem plus minus faces section (detected_position p s z) refl))
+            (false_from_ne_true (is_wrong_under_body z plus minus (detected_position_in_state p s z) (it.train.body ++ it.y ∷ []))
+            (strayed z stem plus minus faces section (detected_position_in_state p s z) refl))
         | inr other ↦ no-is_wrong_under_body z stem plus minus faces section i train other.1
       ])
     where
@@ -168,7 +168,7 @@ module _ (p : PlantLists) (plant : IsPlant p) (strict : IsStrict p) (s t : State
       head-at : last_or None it.train.body ≡ Some n
       head-at = last-is n it.train.body it.heads None
 
-      at_position : (z stem plus minus : ℕ) (faces : Dir) → slice_get p.sections z ≡ Some (Point stem plus minus faces) → (to : Position) → detected_position p s z ≡ Some (lie_from_position to)
+      at_position : (z stem plus minus : ℕ) (faces : Dir) → slice_get p.sections z ≡ Some (Point stem plus minus faces) → (to : Position) → detected_position_in_state p s z ≡ Some (lie_from_position to)
           → are_adjacent_in_body z (other_leg plus minus to) (it.train.body ++ it.y ∷ []) ≡ true → ⊥
       at_position z stem plus minus faces section to lie h = elim (pair-pushed z (other_leg plus minus to) n it.y it.train.body head-at h) [
         | inl old ↦
@@ -180,17 +180,17 @@ module _ (p : PlantLists) (plant : IsPlant p) (strict : IsStrict p) (s t : State
           | inr onto ↦
               (let here : slice_get p.sections it.y ≡ Some (Point stem plus minus faces) = rw onto.1 at section in
               let right = lies-ahead p plant strict s keeps n it.y it.train.dir on stem plus minus faces here in
-              let same : right.to ≡ to = lie_from_position-once right.to to (same_Some (lie_from_position right.to) (lie_from_position to) (sym right.lies ∙ ap (detected_position p s) (sym onto.1) ∙ lie)) in
+              let same : right.to ≡ to = lie_from_position-once right.to to (same_Some (lie_from_position right.to) (lie_from_position to) (sym right.lies ∙ ap (detected_position_in_state p s) (sym onto.1) ∙ lie)) in
               right.apart (sym onto.0 ∙ ap (other_leg plus minus) (sym same)))
         ]
       ]
 
-      strayed : (z stem plus minus : ℕ) (faces : Dir) → slice_get p.sections z ≡ Some (Point stem plus minus faces) → (o : Option Lie) → detected_position p s z ≡ o
-          → is_wrong_under_body z plus minus (detected_position p s z) (it.train.body ++ it.y ∷ []) ≡ true → ⊥
+      strayed : (z stem plus minus : ℕ) (faces : Dir) → slice_get p.sections z ≡ Some (Point stem plus minus faces) → (o : Option Lie) → detected_position_in_state p s z ≡ o
+          → is_wrong_under_body z plus minus (detected_position_in_state p s z) (it.train.body ++ it.y ∷ []) ≡ true → ⊥
       strayed z stem plus minus faces section None lie h = let bad : false ≡ true = rw lie at h in cc
       strayed z stem plus minus faces section (Some lie) lies h = elim (moves-or_lies lie) [
         | inl moves ↦
-            (let moving : detected_position p s z ≡ Some Moving = lies ∙ ap Some moves in
+            (let moving : detected_position_in_state p s z ≡ Some Moving = lies ∙ ap Some moves in
             let has : contains_section z (it.train.body ++ it.y ∷ []) ≡ true = rw moving at h in
             elim (longer-has z it.y it.train.body has) [
               | inl old ↦
@@ -199,19 +199,20 @@ module _ (p : PlantLists) (plant : IsPlant p) (strict : IsStrict p) (s t : State
               | inr new ↦
                   (let here : slice_get p.sections it.y ≡ Some (Point stem plus minus faces) = rw new at section in
                   let right = lies-ahead p plant strict s keeps n it.y it.train.dir on stem plus minus faces here in
-                  moving-not_in right.to (same_Some Moving (lie_from_position right.to) (sym moving ∙ ap (detected_position p s) new ∙ right.lies)))
+                  moving-not_in right.to (same_Some Moving (lie_from_position right.to) (sym moving ∙ ap (detected_position_in_state p s) new ∙ right.lies)))
             ])
         | inr at ↦
-            (let lie_at : detected_position p s z ≡ Some (lie_from_position at.0) = lies ∙ ap Some at.1 in
+            (let lie_at : detected_position_in_state p s z ≡ Some (lie_from_position at.0) = lies ∙ ap Some at.1 in
             at_position z stem plus minus faces section at.0 lie_at (sym (is_wrong_under_body-lie_from_position z plus minus at.0 (it.train.body ++ it.y ∷ [])) ∙ (rw lie_at at h)))
       ]
 
   pub tail-keeps_right : IsTailed p s t n → AreRight p t
   tail-keeps_right it =
       lie-as_before (points-lie it.points) (λ z stem plus minus faces section i train at. elim (tail-trains p s t n it i train at) [
-        | inl moved ↦ subst (λ (one : Train). is_wrong_under_body z plus minus (detected_position p s z) one.body ≡ false) (sym moved.1) (false_from_ne_true (is_wrong_under_body z plus minus (detected_position p s z) (remove it.train.body 0)) (λ h.
-            both_ways (is_wrong_under_body z plus minus (detected_position p s z) it.train.body) (no-is_wrong_under_body z stem plus minus faces section it.i it.train it.at)
-            (rest-is_wrong_under_body z plus minus (detected_position p s z) it.train.body h)))
+        | inl moved ↦ subst (λ (one : Train). is_wrong_under_body z plus minus (detected_position_in_state p s z) one.body ≡ false) (sym moved.1)
+            (false_from_ne_true (is_wrong_under_body z plus minus (detected_position_in_state p s z) (remove it.train.body 0)) (λ h.
+            both_ways (is_wrong_under_body z plus minus (detected_position_in_state p s z) it.train.body) (no-is_wrong_under_body z stem plus minus faces section it.i it.train it.at)
+            (rest-is_wrong_under_body z plus minus (detected_position_in_state p s z) it.train.body h)))
         | inr other ↦ no-is_wrong_under_body z stem plus minus faces section i train other.1
       ])
 

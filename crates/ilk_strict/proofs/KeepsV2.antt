@@ -15,7 +15,7 @@ use Rattle.ilk_plant.specs.declared.state.RouteState.{RouteState}
 use Rattle.ilk_plant.specs.declared.state.State.{State}
 use Rattle.ilk_plant.specs.declared.table.Route.{Route}
 use Rattle.ilk_plant.proofs.InLists.{section-at}
-use Rattle.ilk_model.specs.Families.{keeps_v2_sections_held_once}
+use Rattle.ilk_model.specs.Families.{meets_v2_sections_held_once}
 use Rattle.ilk_model.specs.Holding.{holds_section, is_holding_state}
 use Rattle.ilk_strict.proofs.After.{after-cases, v2-reads}
 use Rattle.ilk_model.proofs.PointFrames.{IsSettled, IsThrown}
@@ -39,7 +39,7 @@ held-locked_for route now x held = elim (holds-cases route now x held).1 [
 ]
 
 module _ (p : PlantLists) (s t : State) (keeps : Keeps p s) (n : ℕ) where
-  shrinks : (route : Route) (now new : RouteState) → ChangesRoute p s t n route now new → ((x : ℕ) → holds_section x route new ≡ true → holds_section x route now ≡ true) → keeps_v2_sections_held_once p t ≡ true
+  shrinks : (route : Route) (now new : RouteState) → ChangesRoute p s t n route now new → ((x : ℕ) → holds_section x route new ≡ true → holds_section x route now ≡ true) → meets_v2_sections_held_once p t ≡ true
   shrinks route now new changes less =
       alone-from p t (λ q one its it r other their that x within first second.
       let a = held q one its it x first in
@@ -55,22 +55,22 @@ module _ (p : PlantLists) (s t : State) (keeps : Keeps p s) (n : ℕ) where
         | inr other ↦ (its, other.1, h)
       ]
 
-  drops : (route : Route) (now new : RouteState) → ChangesRoute p s t n route now new → is_holding_state new ≡ false → keeps_v2_sections_held_once p t ≡ true
+  drops : (route : Route) (now new : RouteState) → ChangesRoute p s t n route now new → is_holding_state new ≡ false → meets_v2_sections_held_once p t ≡ true
   drops route now new changes none =
       shrinks route now new changes (λ x held. let holds = (holds-cases route new x held).0 in absurd (both_ways (is_holding_state new) none holds))
 
-  goes-on_holding : (route : Route) (now new : RouteState) → ChangesRoute p s t n route now new → is_holding_state now ≡ true → now.rel ≤ new.rel → keeps_v2_sections_held_once p t ≡ true
+  goes-on_holding : (route : Route) (now new : RouteState) → ChangesRoute p s t n route now new → is_holding_state now ≡ true → now.rel ≤ new.rel → meets_v2_sections_held_once p t ≡ true
   goes-on_holding route now new changes holds more =
       shrinks route now new changes (λ x held. elim (holds-cases route new x held).1 [
         | inl beside ↦ holds-beside route now x holds beside
         | inr place ↦ (let least = place.1 in holds-path route now place.0 x holds (omega (arith, more, least)) place.2)
       ])
 
-  pub mark-keeps_v2_sections_held_once : IsMarked p s t n → keeps_v2_sections_held_once p t ≡ true
-  mark-keeps_v2_sections_held_once it = let now = it.now in drops it.route now (record now { mode = Marked }) it.changes refl
+  pub mark-meets_v2_sections_held_once : IsMarked p s t n → meets_v2_sections_held_once p t ≡ true
+  mark-meets_v2_sections_held_once it = let now = it.now in drops it.route now (record now { mode = Marked }) it.changes refl
 
-  pub allocate-keeps_v2_sections_held_once : IsAllocated p s t n → keeps_v2_sections_held_once p t ≡ true
-  allocate-keeps_v2_sections_held_once it =
+  pub allocate-meets_v2_sections_held_once : IsAllocated p s t n → meets_v2_sections_held_once p t ≡ true
+  allocate-meets_v2_sections_held_once it =
       alone-from p t (λ q one its here r other their there x within first second. elim (cases_eq q r) [
         | inl same ↦ same
         | inr apart ↦ absurd (apart (of q one its here r other their there x within first second))
@@ -98,35 +98,35 @@ module _ (p : PlantLists) (s t : State) (keeps : Keeps p s) (n : ℕ) where
             ]
           ]
 
-  pub lock-keeps_v2_sections_held_once : IsLocked p s t n → keeps_v2_sections_held_once p t ≡ true
-  lock-keeps_v2_sections_held_once it = let now = it.now in goes-on_holding it.route now (record now { mode = Locked }) it.changes (allocating-holds now it.was) (omega arith)
+  pub lock-meets_v2_sections_held_once : IsLocked p s t n → meets_v2_sections_held_once p t ≡ true
+  lock-meets_v2_sections_held_once it = let now = it.now in goes-on_holding it.route now (record now { mode = Locked }) it.changes (allocating-holds now it.was) (omega arith)
 
-  pub sense-keeps_v2_sections_held_once : IsSensed p s t n → keeps_v2_sections_held_once p t ≡ true
-  sense-keeps_v2_sections_held_once it = let now = it.now in goes-on_holding it.route now (record now { mode = Occupied; seen = now.seen + 1 }) it.changes (locked-holds now it.was) (omega arith)
+  pub sense-meets_v2_sections_held_once : IsSensed p s t n → meets_v2_sections_held_once p t ≡ true
+  sense-meets_v2_sections_held_once it = let now = it.now in goes-on_holding it.route now (record now { mode = Occupied; seen = now.seen + 1 }) it.changes (locked-holds now it.was) (omega arith)
 
-  pub release-keeps_v2_sections_held_once : IsReleased p s t n → keeps_v2_sections_held_once p t ≡ true
-  release-keeps_v2_sections_held_once it = let now = it.now in goes-on_holding it.route now (record now { rel = now.rel + 1 }) it.changes (rw it.was refl) (omega arith)
+  pub release-meets_v2_sections_held_once : IsReleased p s t n → meets_v2_sections_held_once p t ≡ true
+  release-meets_v2_sections_held_once it = let now = it.now in goes-on_holding it.route now (record now { rel = now.rel + 1 }) it.changes (rw it.was refl) (omega arith)
 
-  pub finish-keeps_v2_sections_held_once : IsFinished p s t n → keeps_v2_sections_held_once p t ≡ true
-  finish-keeps_v2_sections_held_once it = drops it.route it.now (record { mode = Free; seen = 0; rel = 0 }) it.changes refl
+  pub finish-meets_v2_sections_held_once : IsFinished p s t n → meets_v2_sections_held_once p t ≡ true
+  finish-meets_v2_sections_held_once it = drops it.route it.now (record { mode = Free; seen = 0; rel = 0 }) it.changes refl
 
-  pub throw-keeps_v2_sections_held_once : IsThrown p s t n → keeps_v2_sections_held_once p t ≡ true
-  throw-keeps_v2_sections_held_once it = v2-reads p s t it.routes keeps.v2
+  pub throw-meets_v2_sections_held_once : IsThrown p s t n → meets_v2_sections_held_once p t ≡ true
+  throw-meets_v2_sections_held_once it = v2-reads p s t it.routes keeps.v2
 
-  pub settle-keeps_v2_sections_held_once : IsSettled p s t n → keeps_v2_sections_held_once p t ≡ true
-  settle-keeps_v2_sections_held_once it = v2-reads p s t it.routes keeps.v2
+  pub settle-meets_v2_sections_held_once : IsSettled p s t n → meets_v2_sections_held_once p t ≡ true
+  settle-meets_v2_sections_held_once it = v2-reads p s t it.routes keeps.v2
 
-  pub enter-keeps_v2_sections_held_once : IsEntered p s t n → keeps_v2_sections_held_once p t ≡ true
-  enter-keeps_v2_sections_held_once it = v2-reads p s t it.routes keeps.v2
+  pub enter-meets_v2_sections_held_once : IsEntered p s t n → meets_v2_sections_held_once p t ≡ true
+  enter-meets_v2_sections_held_once it = v2-reads p s t it.routes keeps.v2
 
-  pub head-keeps_v2_sections_held_once : IsHeaded p s t n → keeps_v2_sections_held_once p t ≡ true
-  head-keeps_v2_sections_held_once it = v2-reads p s t it.routes keeps.v2
+  pub head-meets_v2_sections_held_once : IsHeaded p s t n → meets_v2_sections_held_once p t ≡ true
+  head-meets_v2_sections_held_once it = v2-reads p s t it.routes keeps.v2
 
-  pub tail-keeps_v2_sections_held_once : IsTailed p s t n → keeps_v2_sections_held_once p t ≡ true
-  tail-keeps_v2_sections_held_once it = v2-reads p s t it.routes keeps.v2
+  pub tail-meets_v2_sections_held_once : IsTailed p s t n → meets_v2_sections_held_once p t ≡ true
+  tail-meets_v2_sections_held_once it = v2-reads p s t it.routes keeps.v2
 
-  pub leave-keeps_v2_sections_held_once : IsLeft p s t n → keeps_v2_sections_held_once p t ≡ true
-  leave-keeps_v2_sections_held_once it = v2-reads p s t it.routes keeps.v2
+  pub leave-meets_v2_sections_held_once : IsLeft p s t n → meets_v2_sections_held_once p t ≡ true
+  leave-meets_v2_sections_held_once it = v2-reads p s t it.routes keeps.v2
 
-  pub cancel-keeps_v2_sections_held_once : IsCancelled p s t n → keeps_v2_sections_held_once p t ≡ true
-  cancel-keeps_v2_sections_held_once it = let now = it.now in drops it.route now (record now { mode = Free }) it.changes refl
+  pub cancel-meets_v2_sections_held_once : IsCancelled p s t n → meets_v2_sections_held_once p t ≡ true
+  cancel-meets_v2_sections_held_once it = let now = it.now in drops it.route now (record now { mode = Free }) it.changes refl

@@ -21,7 +21,7 @@ use Rattle.ilk_routes.proofs.Shape.{beside-known}
 use Rattle.ilk_routes.specs.Claims.{sections_outside_path}
 use Rattle.ilk_routes.specs.Locks.{with_locks}
 use Rattle.ilk_routes.specs.Modes.{same_mode}
-use Rattle.ilk_model.specs.Families.{keeps_v3_locks_match_routes, path_section_lock}
+use Rattle.ilk_model.specs.Families.{meets_v3_locks_match_routes, path_section_lock}
 use Rattle.ilk_model.specs.Holding.{holds_section, is_holding_state}
 use Rattle.ilk_strict.proofs.After.{after-cases, before-change, given-lock, other-lock, same-here, v3-reads}
 use Rattle.ilk_model.proofs.Alike.{one_mode}
@@ -43,7 +43,7 @@ module _ (p : PlantLists) (plant : IsPlant p) (s t : State) (keeps : Keeps p s) 
       (Touched : ℕ → Type 0) → ((x : ℕ) → (Touched x → ⊥) → slice_get t.locks x ≡ slice_get s.locks x) →
       ((q : ℕ) (one : Route) (its : RouteState) → (q ≡ n → ⊥) → RouteIn p s q one its → (x : ℕ) →
       holds_section x one its ≡ true → Touched x → ⊥) →
-      (is_holding_state new ≡ true → HasItsLocks t route new) → keeps_v3_locks_match_routes p t ≡ true
+      (is_holding_state new ≡ true → HasItsLocks t route new) → meets_v3_locks_match_routes p t ≡ true
   changed route now new changes Touched same apart mine =
       locks-from p t shape.routes (λ q one its it holds. elim (after-cases p s t n route now new changes q one its it) [
         | inl here ↦ same-here
@@ -59,7 +59,7 @@ module _ (p : PlantLists) (plant : IsPlant p) (s t : State) (keeps : Keeps p s) 
         )
       ])
 
-  unlocked : (route : Route) (now new : RouteState) → ChangesRoute p s t n route now new → t.locks ≡ s.locks → (is_holding_state new ≡ true → HasItsLocks t route new) → keeps_v3_locks_match_routes p t ≡ true
+  unlocked : (route : Route) (now new : RouteState) → ChangesRoute p s t n route now new → t.locks ≡ s.locks → (is_holding_state new ≡ true → HasItsLocks t route new) → meets_v3_locks_match_routes p t ≡ true
   unlocked route now new changes locks mine =
       changed route now new changes (λ x. ⊥) (λ x none. ap (λ (l : List Hold). slice_get l x) locks) (λ q one its apart it x held none. none) mine
 
@@ -68,12 +68,12 @@ module _ (p : PlantLists) (plant : IsPlant p) (s t : State) (keeps : Keeps p s) 
       (q ≡ n → ⊥) → RouteIn p s q one its → holds_section x one its ≡ true → ⊥
   not-others route now it x within mine q one its apart that theirs = apart (alone p s keeps.v2 q one its that n route now it x within theirs mine)
 
-  pub mark-keeps_v3_locks_match_routes : IsMarked p s t n → keeps_v3_locks_match_routes p t ≡ true
-  mark-keeps_v3_locks_match_routes it =
+  pub mark-meets_v3_locks_match_routes : IsMarked p s t n → meets_v3_locks_match_routes p t ≡ true
+  mark-meets_v3_locks_match_routes it =
       let now = it.now in unlocked it.route now (record now { mode = Marked }) it.changes it.locks (λ holds. cc)
 
-  pub allocate-keeps_v3_locks_match_routes : IsAllocated p s t n → keeps_v3_locks_match_routes p t ≡ true
-  allocate-keeps_v3_locks_match_routes it =
+  pub allocate-meets_v3_locks_match_routes : IsAllocated p s t n → meets_v3_locks_match_routes p t ≡ true
+  allocate-meets_v3_locks_match_routes it =
       changed it.route it.now new it.changes (λ x. contains_section x (sections_locked_for it.route) ≡ true)
       (λ x away. ap (λ (l : List Hold). slice_get l x) it.locks ∙ other-lock s.locks (sections_locked_for it.route) LockedLock x (false_from_ne_true (contains_section x (sections_locked_for it.route)) away))
       (λ q one its apart that x held taken. held-not_free p s keeps.v3 q one its that x held (cleared s it.route it.clear x taken).0)
@@ -101,8 +101,8 @@ module _ (p : PlantLists) (plant : IsPlant p) (s t : State) (keeps : Keeps p s) 
           none_seen : (seen : ℕ) → seen ≡ 0 → (if nat_lt i seen then UsedLock else LockedLock) ≡ LockedLock
           none_seen seen e = let test : nat_lt i seen ≡ false = grind (arith, nat_tests) in rw test refl
 
-  pub lock-keeps_v3_locks_match_routes : IsLocked p s t n → keeps_v3_locks_match_routes p t ≡ true
-  lock-keeps_v3_locks_match_routes it =
+  pub lock-meets_v3_locks_match_routes : IsLocked p s t n → meets_v3_locks_match_routes p t ≡ true
+  lock-meets_v3_locks_match_routes it =
       let now = it.now in
       let was = before-change p s t n it.route now (record now { mode = Locked }) it.changes in
       let locks : (x : ℕ) → slice_get t.locks x ≡ slice_get s.locks x = λ x. ap (λ (l : List Hold). slice_get l x) it.locks in
@@ -111,8 +111,8 @@ module _ (p : PlantLists) (plant : IsPlant p) (s t : State) (keeps : Keeps p s) 
         beside = λ x beside. locks x ∙ lock-beside p s keeps.v3 n it.route now was (allocating-holds now it.was) x beside;
       })
 
-  pub sense-keeps_v3_locks_match_routes : IsSensed p s t n → keeps_v3_locks_match_routes p t ≡ true
-  sense-keeps_v3_locks_match_routes it =
+  pub sense-meets_v3_locks_match_routes : IsSensed p s t n → meets_v3_locks_match_routes p t ≡ true
+  sense-meets_v3_locks_match_routes it =
       changed it.route it.now new it.changes (λ y. y ≡ it.x) away
       (λ q one its apart that y held is. not-others it.route it.now was it.x (path-section p it.route of it.now.seen it.x it.next) mine q one its apart that (subst (λ z. holds_section z one its ≡ true) is held))
       (λ holds. record {
@@ -161,8 +161,8 @@ module _ (p : PlantLists) (plant : IsPlant p) (s t : State) (keeps : Keeps p s) 
             ∙ ap Some (seen-more i it.now.seen apart)
       ]
 
-  pub release-keeps_v3_locks_match_routes : IsReleased p s t n → keeps_v3_locks_match_routes p t ≡ true
-  release-keeps_v3_locks_match_routes it =
+  pub release-meets_v3_locks_match_routes : IsReleased p s t n → meets_v3_locks_match_routes p t ≡ true
+  release-meets_v3_locks_match_routes it =
       changed it.route it.now new it.changes (λ y. y ≡ it.x) away
       (λ q one its apart that y held is. not-others it.route it.now was it.x
       (path-section p it.route of it.now.rel it.x it.first)
@@ -190,8 +190,8 @@ module _ (p : PlantLists) (plant : IsPlant p) (s t : State) (keeps : Keeps p s) 
       away : (y : ℕ) → (y ≡ it.x → ⊥) → slice_get t.locks y ≡ slice_get s.locks y
       away y apart = ap (λ (l : List Hold). slice_get l y) it.locks ∙ slice_get-set_other s.locks it.x y FreeLock (λ e. apart (sym e))
 
-  pub finish-keeps_v3_locks_match_routes : IsFinished p s t n → keeps_v3_locks_match_routes p t ≡ true
-  finish-keeps_v3_locks_match_routes it =
+  pub finish-meets_v3_locks_match_routes : IsFinished p s t n → meets_v3_locks_match_routes p t ≡ true
+  finish-meets_v3_locks_match_routes it =
       changed it.route it.now new it.changes (λ y. (y ≡ it.x) ⊎ (contains_section y (sections_outside_path it.route) ≡ true)) away others (λ holds. cc)
     where
       new : RouteState
@@ -219,26 +219,26 @@ module _ (p : PlantLists) (plant : IsPlant p) (s t : State) (keeps : Keeps p s) 
           let found = section-at y (sections_outside_path it.route) beside in
           not-others it.route it.now was y (beside-known p it.route of found.0 y found.1) (holds-beside it.route it.now y holds_now beside) q one its apart that held
 
-  pub throw-keeps_v3_locks_match_routes : IsThrown p s t n → keeps_v3_locks_match_routes p t ≡ true
-  throw-keeps_v3_locks_match_routes it = v3-reads p s t it.routes it.locks keeps.v3
+  pub throw-meets_v3_locks_match_routes : IsThrown p s t n → meets_v3_locks_match_routes p t ≡ true
+  throw-meets_v3_locks_match_routes it = v3-reads p s t it.routes it.locks keeps.v3
 
-  pub settle-keeps_v3_locks_match_routes : IsSettled p s t n → keeps_v3_locks_match_routes p t ≡ true
-  settle-keeps_v3_locks_match_routes it = v3-reads p s t it.routes it.locks keeps.v3
+  pub settle-meets_v3_locks_match_routes : IsSettled p s t n → meets_v3_locks_match_routes p t ≡ true
+  settle-meets_v3_locks_match_routes it = v3-reads p s t it.routes it.locks keeps.v3
 
-  pub enter-keeps_v3_locks_match_routes : IsEntered p s t n → keeps_v3_locks_match_routes p t ≡ true
-  enter-keeps_v3_locks_match_routes it = v3-reads p s t it.routes it.locks keeps.v3
+  pub enter-meets_v3_locks_match_routes : IsEntered p s t n → meets_v3_locks_match_routes p t ≡ true
+  enter-meets_v3_locks_match_routes it = v3-reads p s t it.routes it.locks keeps.v3
 
-  pub head-keeps_v3_locks_match_routes : IsHeaded p s t n → keeps_v3_locks_match_routes p t ≡ true
-  head-keeps_v3_locks_match_routes it = v3-reads p s t it.routes it.locks keeps.v3
+  pub head-meets_v3_locks_match_routes : IsHeaded p s t n → meets_v3_locks_match_routes p t ≡ true
+  head-meets_v3_locks_match_routes it = v3-reads p s t it.routes it.locks keeps.v3
 
-  pub tail-keeps_v3_locks_match_routes : IsTailed p s t n → keeps_v3_locks_match_routes p t ≡ true
-  tail-keeps_v3_locks_match_routes it = v3-reads p s t it.routes it.locks keeps.v3
+  pub tail-meets_v3_locks_match_routes : IsTailed p s t n → meets_v3_locks_match_routes p t ≡ true
+  tail-meets_v3_locks_match_routes it = v3-reads p s t it.routes it.locks keeps.v3
 
-  pub leave-keeps_v3_locks_match_routes : IsLeft p s t n → keeps_v3_locks_match_routes p t ≡ true
-  leave-keeps_v3_locks_match_routes it = v3-reads p s t it.routes it.locks keeps.v3
+  pub leave-meets_v3_locks_match_routes : IsLeft p s t n → meets_v3_locks_match_routes p t ≡ true
+  leave-meets_v3_locks_match_routes it = v3-reads p s t it.routes it.locks keeps.v3
 
-  pub cancel-keeps_v3_locks_match_routes : IsCancelled p s t n → keeps_v3_locks_match_routes p t ≡ true
-  cancel-keeps_v3_locks_match_routes it = elim (cases_Bool (same_mode it.now.mode Allocating)) [
+  pub cancel-meets_v3_locks_match_routes : IsCancelled p s t n → meets_v3_locks_match_routes p t ≡ true
+  cancel-meets_v3_locks_match_routes it = elim (cases_Bool (same_mode it.now.mode Allocating)) [
     | inl allocating ↦
         (let locks : t.locks ≡ with_locks s.locks (sections_locked_for it.route) FreeLock = it.locks ∙ rw allocating refl in
         changed it.route it.now new it.changes (λ y. contains_section y (sections_locked_for it.route) ≡ true)

@@ -10,7 +10,7 @@ use Rattle.ilk_plant.specs.declared.state.Mode.TheVariants.{Free, Marked, Alloca
 use Rattle.ilk_plant.specs.declared.state.RouteState.{RouteState}
 use Rattle.ilk_plant.specs.declared.state.State.{State}
 use Rattle.ilk_plant.specs.declared.table.Route.{Route}
-use Rattle.ilk_model.specs.Families.{keeps_v4_allocating_paths_vacant}
+use Rattle.ilk_model.specs.Families.{meets_v4_allocating_paths_vacant}
 use Rattle.ilk_strict.specs.IsStrict.{IsStrict}
 use Rattle.ilk_strict.proofs.After.{after-cases, one-state, same-here, same-occupied, same-route, v4-reads}
 use Rattle.ilk_model.proofs.PointFrames.{IsSettled, IsThrown}
@@ -30,7 +30,7 @@ headed-goes_on p plant strict s t keeps x it =
 
 module _ (p : PlantLists) (plant : IsPlant p) (strict : IsStrict p) (s t : State) (keeps : Keeps p s) (shape : HasShape p t) (n : ℕ) where
   changed : (route : Route) (now new : RouteState) → ChangesRoute p s t n route now new → t.trains ≡ s.trains → (new.mode ≡ Allocating → (i x : ℕ) → slice_get route.path i ≡ Some x → is_occupied s x ≡ false) →
-      keeps_v4_allocating_paths_vacant p t ≡ true
+      meets_v4_allocating_paths_vacant p t ≡ true
   changed route now new changes trains mine =
       vacant-from p t shape.routes (λ q one its it mode i x at. same-occupied s t trains x ∙ elim (after-cases p s t n route now new changes q one its it) [
         | inl here ↦ same-here (λ u v. v.mode ≡ Allocating → (i x : ℕ) → slice_get u.path i ≡ Some x → is_occupied s x ≡ false) one route its new here.1 here.2 mine mode i x at
@@ -40,7 +40,7 @@ module _ (p : PlantLists) (plant : IsPlant p) (strict : IsStrict p) (s t : State
   trains-come : t.routes ≡ s.routes →
       ((q : ℕ) (one : Route) (its : RouteState) → RouteIn p s q one its → its.mode ≡ Allocating → (i x : ℕ) →
       its.rel ≤ i → slice_get one.path i ≡ Some x → is_occupied s x ≡ false → is_occupied t x ≡ false) →
-      keeps_v4_allocating_paths_vacant p t ≡ true
+      meets_v4_allocating_paths_vacant p t ≡ true
   trains-come routes stay =
       vacant-from p t shape.routes (λ q one its it mode i x at.
       let was = same-route p s t routes q one its it in
@@ -48,39 +48,39 @@ module _ (p : PlantLists) (plant : IsPlant p) (strict : IsStrict p) (s t : State
       let none = counts.1 in
       stay q one its was mode i x (omega (arith, none)) at (vacant-path p s keeps.v4 q one its was mode i x at))
 
-  pub mark-keeps_v4_allocating_paths_vacant : IsMarked p s t n → keeps_v4_allocating_paths_vacant p t ≡ true
-  mark-keeps_v4_allocating_paths_vacant it = let now = it.now in changed it.route now (record now { mode = Marked }) it.changes it.trains (λ e. cc)
+  pub mark-meets_v4_allocating_paths_vacant : IsMarked p s t n → meets_v4_allocating_paths_vacant p t ≡ true
+  mark-meets_v4_allocating_paths_vacant it = let now = it.now in changed it.route now (record now { mode = Marked }) it.changes it.trains (λ e. cc)
 
-  pub allocate-keeps_v4_allocating_paths_vacant : IsAllocated p s t n → keeps_v4_allocating_paths_vacant p t ≡ true
-  allocate-keeps_v4_allocating_paths_vacant it =
+  pub allocate-meets_v4_allocating_paths_vacant : IsAllocated p s t n → meets_v4_allocating_paths_vacant p t ≡ true
+  allocate-meets_v4_allocating_paths_vacant it =
       let now = it.now in
       changed it.route now (record now { mode = Allocating }) it.changes it.trains (λ e i x at. (cleared s it.route it.clear x (path-locked_for it.route i x at)).1)
 
-  pub lock-keeps_v4_allocating_paths_vacant : IsLocked p s t n → keeps_v4_allocating_paths_vacant p t ≡ true
-  lock-keeps_v4_allocating_paths_vacant it = let now = it.now in changed it.route now (record now { mode = Locked }) it.changes it.trains (λ e. cc)
+  pub lock-meets_v4_allocating_paths_vacant : IsLocked p s t n → meets_v4_allocating_paths_vacant p t ≡ true
+  lock-meets_v4_allocating_paths_vacant it = let now = it.now in changed it.route now (record now { mode = Locked }) it.changes it.trains (λ e. cc)
 
-  pub sense-keeps_v4_allocating_paths_vacant : IsSensed p s t n → keeps_v4_allocating_paths_vacant p t ≡ true
-  sense-keeps_v4_allocating_paths_vacant it = let now = it.now in changed it.route now (record now { mode = Occupied; seen = now.seen + 1 }) it.changes it.trains (λ e. cc)
+  pub sense-meets_v4_allocating_paths_vacant : IsSensed p s t n → meets_v4_allocating_paths_vacant p t ≡ true
+  sense-meets_v4_allocating_paths_vacant it = let now = it.now in changed it.route now (record now { mode = Occupied; seen = now.seen + 1 }) it.changes it.trains (λ e. cc)
 
-  pub release-keeps_v4_allocating_paths_vacant : IsReleased p s t n → keeps_v4_allocating_paths_vacant p t ≡ true
-  release-keeps_v4_allocating_paths_vacant it = let now = it.now in changed it.route now (record now { rel = now.rel + 1 }) it.changes it.trains (λ e. let bad : Occupied ≡ Allocating = sym it.was ∙ e in cc)
+  pub release-meets_v4_allocating_paths_vacant : IsReleased p s t n → meets_v4_allocating_paths_vacant p t ≡ true
+  release-meets_v4_allocating_paths_vacant it = let now = it.now in changed it.route now (record now { rel = now.rel + 1 }) it.changes it.trains (λ e. let bad : Occupied ≡ Allocating = sym it.was ∙ e in cc)
 
-  pub finish-keeps_v4_allocating_paths_vacant : IsFinished p s t n → keeps_v4_allocating_paths_vacant p t ≡ true
-  finish-keeps_v4_allocating_paths_vacant it = changed it.route it.now (record { mode = Free; seen = 0; rel = 0 }) it.changes it.trains (λ e. cc)
+  pub finish-meets_v4_allocating_paths_vacant : IsFinished p s t n → meets_v4_allocating_paths_vacant p t ≡ true
+  finish-meets_v4_allocating_paths_vacant it = changed it.route it.now (record { mode = Free; seen = 0; rel = 0 }) it.changes it.trains (λ e. cc)
 
-  pub throw-keeps_v4_allocating_paths_vacant : IsThrown p s t n → keeps_v4_allocating_paths_vacant p t ≡ true
-  throw-keeps_v4_allocating_paths_vacant it = v4-reads p s t it.routes it.trains keeps.v4
+  pub throw-meets_v4_allocating_paths_vacant : IsThrown p s t n → meets_v4_allocating_paths_vacant p t ≡ true
+  throw-meets_v4_allocating_paths_vacant it = v4-reads p s t it.routes it.trains keeps.v4
 
-  pub settle-keeps_v4_allocating_paths_vacant : IsSettled p s t n → keeps_v4_allocating_paths_vacant p t ≡ true
-  settle-keeps_v4_allocating_paths_vacant it = v4-reads p s t it.routes it.trains keeps.v4
+  pub settle-meets_v4_allocating_paths_vacant : IsSettled p s t n → meets_v4_allocating_paths_vacant p t ≡ true
+  settle-meets_v4_allocating_paths_vacant it = v4-reads p s t it.routes it.trains keeps.v4
 
-  pub enter-keeps_v4_allocating_paths_vacant : IsEntered p s t n → keeps_v4_allocating_paths_vacant p t ≡ true
-  enter-keeps_v4_allocating_paths_vacant it =
+  pub enter-meets_v4_allocating_paths_vacant : IsEntered p s t n → meets_v4_allocating_paths_vacant p t ≡ true
+  enter-meets_v4_allocating_paths_vacant it =
       trains-come it.routes (λ q one its that mode i x least at vacant. enter-vacant p s t n it x vacant (λ same.
       held-not_free p s keeps.v3 q one its that x (holds-path one its i x (allocating-holds its mode) least at) (ap (slice_get s.locks) same ∙ has_lock_state-at s n FreeLock it.free)))
 
-  pub head-keeps_v4_allocating_paths_vacant : IsHeaded p s t n → keeps_v4_allocating_paths_vacant p t ≡ true
-  head-keeps_v4_allocating_paths_vacant it =
+  pub head-meets_v4_allocating_paths_vacant : IsHeaded p s t n → meets_v4_allocating_paths_vacant p t ≡ true
+  head-meets_v4_allocating_paths_vacant it =
       let on = headed-goes_on p plant strict s t keeps n it in
       trains-come it.routes (λ q one its that mode i x least at vacant. head-vacant p s t n it x vacant (λ same.
       let mine = holds-path on.route on.now on.k x (locked-holds on.now on.mode) on.least (on.at ∙ ap Some (sym same)) in
@@ -92,11 +92,11 @@ module _ (p : PlantLists) (plant : IsPlant p) (strict : IsStrict p) (s t : State
         | inr occupied ↦ (let bad : Occupied ≡ Allocating = sym occupied ∙ allocating in cc)
       ]))
 
-  pub tail-keeps_v4_allocating_paths_vacant : IsTailed p s t n → keeps_v4_allocating_paths_vacant p t ≡ true
-  tail-keeps_v4_allocating_paths_vacant it = trains-come it.routes (λ q one its that mode i x least at vacant. tail-vacant p s t n it x vacant)
+  pub tail-meets_v4_allocating_paths_vacant : IsTailed p s t n → meets_v4_allocating_paths_vacant p t ≡ true
+  tail-meets_v4_allocating_paths_vacant it = trains-come it.routes (λ q one its that mode i x least at vacant. tail-vacant p s t n it x vacant)
 
-  pub leave-keeps_v4_allocating_paths_vacant : IsLeft p s t n → keeps_v4_allocating_paths_vacant p t ≡ true
-  leave-keeps_v4_allocating_paths_vacant it = trains-come it.routes (λ q one its that mode i x least at vacant. leave-vacant p s t n it x vacant)
+  pub leave-meets_v4_allocating_paths_vacant : IsLeft p s t n → meets_v4_allocating_paths_vacant p t ≡ true
+  leave-meets_v4_allocating_paths_vacant it = trains-come it.routes (λ q one its that mode i x least at vacant. leave-vacant p s t n it x vacant)
 
-  pub cancel-keeps_v4_allocating_paths_vacant : IsCancelled p s t n → keeps_v4_allocating_paths_vacant p t ≡ true
-  cancel-keeps_v4_allocating_paths_vacant it = let now = it.now in changed it.route now (record now { mode = Free }) it.changes it.trains (λ e. cc)
+  pub cancel-meets_v4_allocating_paths_vacant : IsCancelled p s t n → meets_v4_allocating_paths_vacant p t ≡ true
+  cancel-meets_v4_allocating_paths_vacant it = let now = it.now in changed it.route now (record now { mode = Free }) it.changes it.trains (λ e. cc)

@@ -13,7 +13,7 @@ use Rattle.ilk_plant.specs.declared.state.RouteState.{RouteState}
 use Rattle.ilk_plant.specs.declared.state.State.{State}
 use Rattle.ilk_plant.specs.declared.table.Route.{Route}
 use Rattle.ilk_routes.specs.Modes.{same_mode}
-use Rattle.ilk_model.specs.Families.{keeps_v5_open_needs_locked}
+use Rattle.ilk_model.specs.Families.{meets_v5_open_needs_locked}
 use Rattle.ilk_model.specs.Holding.{holds_section}
 use Rattle.ilk_strict.specs.IsStrict.{IsStrict}
 use Rattle.ilk_strict.proofs.After.{after-change, before-change, one-state, other-stays, route-stays, same-occupied, v5-reads}
@@ -46,20 +46,20 @@ module _ (p : PlantLists) (plant : IsPlant p) (strict : IsStrict p) (s t : State
       let is = one-state p s open_for.r n open_for.route route open_for.now now open_for.it (before-change p s t n route now new changes) same in
       unlocked (ap (λ (v : RouteState). v.mode) (sym is.1) ∙ open_for.mode)
 
-  same-boards : (route : Route) (now new : RouteState) → ChangesRoute p s t n route now new → t.trains ≡ s.trains → t.boards ≡ s.boards → (now.mode ≡ Locked → ⊥) → keeps_v5_open_needs_locked p t ≡ true
+  same-boards : (route : Route) (now new : RouteState) → ChangesRoute p s t n route now new → t.trains ≡ s.trains → t.boards ≡ s.boards → (now.mode ≡ Locked → ⊥) → meets_v5_open_needs_locked p t ≡ true
   same-boards route now new changes trains boards unlocked =
       open-from p t (λ m within shown.
       let open_for = open-at p s keeps.v5 m within (sym (ap (λ (l : List Aspect). slice_get l m) boards) ∙ shown) in
       other-open route now new changes trains m open_for (is-another route now new changes unlocked m open_for))
 
-  pub mark-keeps_v5_open_needs_locked : IsMarked p s t n → keeps_v5_open_needs_locked p t ≡ true
-  mark-keeps_v5_open_needs_locked it = let now = it.now in same-boards it.route now (record now { mode = Marked }) it.changes it.trains it.boards (λ e. let bad : Free ≡ Locked = sym it.was ∙ e in cc)
+  pub mark-meets_v5_open_needs_locked : IsMarked p s t n → meets_v5_open_needs_locked p t ≡ true
+  mark-meets_v5_open_needs_locked it = let now = it.now in same-boards it.route now (record now { mode = Marked }) it.changes it.trains it.boards (λ e. let bad : Free ≡ Locked = sym it.was ∙ e in cc)
 
-  pub allocate-keeps_v5_open_needs_locked : IsAllocated p s t n → keeps_v5_open_needs_locked p t ≡ true
-  allocate-keeps_v5_open_needs_locked it = let now = it.now in same-boards it.route now (record now { mode = Allocating }) it.changes it.trains it.boards (λ e. let bad : Marked ≡ Locked = sym it.was ∙ e in cc)
+  pub allocate-meets_v5_open_needs_locked : IsAllocated p s t n → meets_v5_open_needs_locked p t ≡ true
+  allocate-meets_v5_open_needs_locked it = let now = it.now in same-boards it.route now (record now { mode = Allocating }) it.changes it.trains it.boards (λ e. let bad : Marked ≡ Locked = sym it.was ∙ e in cc)
 
-  pub lock-keeps_v5_open_needs_locked : IsLocked p s t n → keeps_v5_open_needs_locked p t ≡ true
-  lock-keeps_v5_open_needs_locked it =
+  pub lock-meets_v5_open_needs_locked : IsLocked p s t n → meets_v5_open_needs_locked p t ≡ true
+  lock-meets_v5_open_needs_locked it =
       open-from p t (λ m within shown. elim (cases_eq m it.route.source) [
         | inl same ↦ record {
           r = n;
@@ -79,8 +79,8 @@ module _ (p : PlantLists) (plant : IsPlant p) (strict : IsStrict p) (s t : State
       new : RouteState
       new = let now = it.now in record now { mode = Locked }
 
-  pub sense-keeps_v5_open_needs_locked : IsSensed p s t n → keeps_v5_open_needs_locked p t ≡ true
-  sense-keeps_v5_open_needs_locked it =
+  pub sense-meets_v5_open_needs_locked : IsSensed p s t n → meets_v5_open_needs_locked p t ≡ true
+  sense-meets_v5_open_needs_locked it =
       open-from p t (λ m within shown.
       let open_for = open-at p s keeps.v5 m within (sense-open p s t n it m shown) in
       other-open it.route it.now new it.changes it.trains m open_for (apart m open_for))
@@ -94,17 +94,17 @@ module _ (p : PlantLists) (plant : IsPlant p) (strict : IsStrict p) (s t : State
           let vacant = open_for.vacant it.now.seen it.x (ap (λ (route : Route). slice_get route.path it.now.seen) is.0 ∙ it.next) in
           both_ways (is_occupied s it.x) vacant it.occupied
 
-  pub release-keeps_v5_open_needs_locked : IsReleased p s t n → keeps_v5_open_needs_locked p t ≡ true
-  release-keeps_v5_open_needs_locked it = let now = it.now in same-boards it.route now (record now { rel = now.rel + 1 }) it.changes it.trains it.boards (λ e. let bad : Occupied ≡ Locked = sym it.was ∙ e in cc)
+  pub release-meets_v5_open_needs_locked : IsReleased p s t n → meets_v5_open_needs_locked p t ≡ true
+  release-meets_v5_open_needs_locked it = let now = it.now in same-boards it.route now (record now { rel = now.rel + 1 }) it.changes it.trains it.boards (λ e. let bad : Occupied ≡ Locked = sym it.was ∙ e in cc)
 
-  pub finish-keeps_v5_open_needs_locked : IsFinished p s t n → keeps_v5_open_needs_locked p t ≡ true
-  finish-keeps_v5_open_needs_locked it = same-boards it.route it.now (record { mode = Free; seen = 0; rel = 0 }) it.changes it.trains it.boards (λ e. let bad : Occupied ≡ Locked = sym it.was ∙ e in cc)
+  pub finish-meets_v5_open_needs_locked : IsFinished p s t n → meets_v5_open_needs_locked p t ≡ true
+  finish-meets_v5_open_needs_locked it = same-boards it.route it.now (record { mode = Free; seen = 0; rel = 0 }) it.changes it.trains it.boards (λ e. let bad : Occupied ≡ Locked = sym it.was ∙ e in cc)
 
-  pub throw-keeps_v5_open_needs_locked : IsThrown p s t n → keeps_v5_open_needs_locked p t ≡ true
-  throw-keeps_v5_open_needs_locked it = v5-reads p s t it.routes it.boards it.trains keeps.v5
+  pub throw-meets_v5_open_needs_locked : IsThrown p s t n → meets_v5_open_needs_locked p t ≡ true
+  throw-meets_v5_open_needs_locked it = v5-reads p s t it.routes it.boards it.trains keeps.v5
 
-  pub settle-keeps_v5_open_needs_locked : IsSettled p s t n → keeps_v5_open_needs_locked p t ≡ true
-  settle-keeps_v5_open_needs_locked it = v5-reads p s t it.routes it.boards it.trains keeps.v5
+  pub settle-meets_v5_open_needs_locked : IsSettled p s t n → meets_v5_open_needs_locked p t ≡ true
+  settle-meets_v5_open_needs_locked it = v5-reads p s t it.routes it.boards it.trains keeps.v5
 
   still-open : t.routes ≡ s.routes → (m : ℕ) → (open_for : IsOpenFor p s m) → ((i x : ℕ) → slice_get open_for.route.path i ≡ Some x → is_occupied s x ≡ false → is_occupied t x ≡ false) → IsOpenFor p t m
   still-open routes m open_for stay = record {
@@ -123,15 +123,15 @@ module _ (p : PlantLists) (plant : IsPlant p) (strict : IsStrict p) (s t : State
       let none = counts.1 in
       holds-path open_for.route open_for.now i x (locked-holds open_for.now (locked-is open_for.now open_for.mode)) (omega (arith, none)) at
 
-  pub enter-keeps_v5_open_needs_locked : IsEntered p s t n → keeps_v5_open_needs_locked p t ≡ true
-  enter-keeps_v5_open_needs_locked it =
+  pub enter-meets_v5_open_needs_locked : IsEntered p s t n → meets_v5_open_needs_locked p t ≡ true
+  enter-meets_v5_open_needs_locked it =
       open-from p t (λ m within shown.
       let open_for = open-at p s keeps.v5 m within (sym (ap (λ (l : List Aspect). slice_get l m) it.boards) ∙ shown) in
       still-open it.routes m open_for (λ i x at vacant. enter-vacant p s t n it x vacant (λ same.
       held-not_free p s keeps.v3 open_for.r open_for.route open_for.now open_for.it x (holds-whole m open_for i x at) (ap (slice_get s.locks) same ∙ has_lock_state-at s n FreeLock it.free))))
 
-  pub head-keeps_v5_open_needs_locked : IsHeaded p s t n → keeps_v5_open_needs_locked p t ≡ true
-  head-keeps_v5_open_needs_locked it =
+  pub head-meets_v5_open_needs_locked : IsHeaded p s t n → meets_v5_open_needs_locked p t ≡ true
+  head-meets_v5_open_needs_locked it =
       open-from p t (λ m within shown.
       let was = head-open p s t n it m shown in
       let open_for = open-at p s keeps.v5 m within was.0 in
@@ -157,20 +157,20 @@ module _ (p : PlantLists) (plant : IsPlant p) (strict : IsStrict p) (s t : State
             ]
           ]
 
-  pub tail-keeps_v5_open_needs_locked : IsTailed p s t n → keeps_v5_open_needs_locked p t ≡ true
-  tail-keeps_v5_open_needs_locked it =
+  pub tail-meets_v5_open_needs_locked : IsTailed p s t n → meets_v5_open_needs_locked p t ≡ true
+  tail-meets_v5_open_needs_locked it =
       open-from p t (λ m within shown.
       let open_for = open-at p s keeps.v5 m within (sym (ap (λ (l : List Aspect). slice_get l m) it.boards) ∙ shown) in
       still-open it.routes m open_for (λ i x at vacant. tail-vacant p s t n it x vacant))
 
-  pub leave-keeps_v5_open_needs_locked : IsLeft p s t n → keeps_v5_open_needs_locked p t ≡ true
-  leave-keeps_v5_open_needs_locked it =
+  pub leave-meets_v5_open_needs_locked : IsLeft p s t n → meets_v5_open_needs_locked p t ≡ true
+  leave-meets_v5_open_needs_locked it =
       open-from p t (λ m within shown.
       let open_for = open-at p s keeps.v5 m within (sym (ap (λ (l : List Aspect). slice_get l m) it.boards) ∙ shown) in
       still-open it.routes m open_for (λ i x at vacant. leave-vacant p s t n it x vacant))
 
-  pub cancel-keeps_v5_open_needs_locked : IsCancelled p s t n → keeps_v5_open_needs_locked p t ≡ true
-  cancel-keeps_v5_open_needs_locked it =
+  pub cancel-meets_v5_open_needs_locked : IsCancelled p s t n → meets_v5_open_needs_locked p t ≡ true
+  cancel-meets_v5_open_needs_locked it =
       let now = it.now in
       same-boards it.route now (record now { mode = Free }) it.changes it.trains it.boards (λ e.
       let bad : (same_mode Locked Marked || same_mode Locked Allocating) ≡ true = rw e at it.was in cc)

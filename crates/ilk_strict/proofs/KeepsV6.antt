@@ -11,7 +11,7 @@ use Rattle.ilk_base.proofs.Tested.{list_all-slice_get}
 use Rattle.ilk_plant.specs.Network.{contains_section}
 use Rattle.ilk_plant.specs.Plant.{IsPlant, IsValidRouteOf, PlantLists, point_number}
 use Rattle.ilk_plant.specs.Shape.{HasShape}
-use Rattle.ilk_plant.specs.State.{detected_position}
+use Rattle.ilk_plant.specs.State.{detected_position_in_state}
 use Rattle.ilk_plant.specs.declared.network.Position.{Position}
 use Rattle.ilk_plant.specs.declared.network.Position.TheVariants.{Plus, Minus}
 use Rattle.ilk_plant.specs.declared.state.Lie.TheVariants.{Moving}
@@ -25,9 +25,9 @@ use Rattle.ilk_plant.proofs.Once.{numbers_differ-places}
 use Rattle.ilk_plant.proofs.PointNumbers.{point_number-below}
 use Rattle.ilk_plant.proofs.InLists.{section-at}
 use Rattle.ilk_routes.specs.Claims.{required_points}
-use Rattle.ilk_routes.specs.Lies.{is_detected_moving, lie_from_position, is_detected_as_listed, is_lie_at_position, is_entry_for_point}
-use Rattle.ilk_model.specs.Commanded.{commanded_position, is_commanded_as_listed}
-use Rattle.ilk_model.specs.Families.{keeps_v6_route_points_set}
+use Rattle.ilk_routes.specs.Lies.{is_lie_moving, lie_from_position, is_point_detected_as_listed, is_lie_at_position, is_entry_for_point}
+use Rattle.ilk_model.specs.Commanded.{commanded_position_in_state, is_point_commanded_as_listed}
+use Rattle.ilk_model.specs.Families.{meets_v6_points_match_modes}
 use Rattle.ilk_model.specs.Holding.{holds_section, is_unreleased_on_path, is_locked_or_occupied}
 use Rattle.ilk_strict.proofs.After.{after-cases, before-change, same-here, same-route, v6-reads}
 use Rattle.ilk_strict.proofs.Ahead.{lies-listed}
@@ -45,16 +45,16 @@ use Rattle.ilk_strict.proofs.Table.{listed-mapped, listed-none, listed-passed, l
 use Rattle.ilk_strict.proofs.TrainFacts.{Keeps}
 
 pub record PointFits (p : PlantLists) (s : State) (route : Route) (now : RouteState) (listed : Listed) : Type 0 where
-  pub commanded : now.mode ≡ Allocating → contains_section listed.point route.path ≡ true → is_commanded_as_listed p s listed ≡ true
-  pub lies : is_locked_or_occupied now ≡ true → is_unreleased_on_path route now listed.point ≡ true → (is_commanded_as_listed p s listed ≡ true) × (is_detected_as_listed p s listed ≡ true)
+  pub commanded : now.mode ≡ Allocating → contains_section listed.point route.path ≡ true → is_point_commanded_as_listed p s listed ≡ true
+  pub lies : is_locked_or_occupied now ≡ true → is_unreleased_on_path route now listed.point ≡ true → (is_point_commanded_as_listed p s listed ≡ true) × (is_point_detected_as_listed p s listed ≡ true)
 
 module _ (p : PlantLists) (plant : IsPlant p) (s t : State) (keeps : Keeps p s) (shape : HasShape p t) (n : ℕ) where
   fits-still : (q : ℕ) (one : Route) (its : RouteState) → RouteIn p s q one its → (k : ℕ) (listed : Listed) →
       slice_get one.points k ≡ Some listed →
       (holds_section listed.point one its ≡ true →
-      commanded_position p t listed.point ≡ commanded_position p s listed.point) →
+      commanded_position_in_state p t listed.point ≡ commanded_position_in_state p s listed.point) →
       (is_locked_or_occupied its ≡ true → is_unreleased_on_path one its listed.point ≡ true →
-      detected_position p t listed.point ≡ detected_position p s listed.point) →
+      detected_position_in_state p t listed.point ≡ detected_position_in_state p s listed.point) →
       PointFits p t one its listed
   fits-still q one its it k listed at same_command same_lie = record {
     commanded = λ mode on.
@@ -72,32 +72,32 @@ module _ (p : PlantLists) (plant : IsPlant p) (s t : State) (keeps : Keeps p s) 
         ));
   }
 
-  from-fits : ((q : ℕ) (one : Route) (its : RouteState) → RouteIn p t q one its → (k : ℕ) (listed : Listed) → slice_get one.points k ≡ Some listed → PointFits p t one its listed) → keeps_v6_route_points_set p t ≡ true
+  from-fits : ((q : ℕ) (one : Route) (its : RouteState) → RouteIn p t q one its → (k : ℕ) (listed : Listed) → slice_get one.points k ≡ Some listed → PointFits p t one its listed) → meets_v6_points_match_modes p t ≡ true
   from-fits each =
       points-from p t shape.routes (λ q one its it k listed at. let fits = each q one its it k listed at in (fits.commanded, fits.lies))
 
   changed : (route : Route) (now new : RouteState) → ChangesRoute p s t n route now new → t.points ≡ s.points → ((k : ℕ) (listed : Listed) → slice_get route.points k ≡ Some listed → PointFits p t route new listed) →
-      keeps_v6_route_points_set p t ≡ true
+      meets_v6_points_match_modes p t ≡ true
   changed route now new changes points mine =
       from-fits (λ q one its it k listed at. elim (after-cases p s t n route now new changes q one its it) [
         | inl here ↦ same-here (λ u v. (k : ℕ) (listed : Listed) → slice_get u.points k ≡ Some listed → PointFits p t u v listed) one route its new here.1 here.2 mine k listed at
         | inr other ↦ fits-still q one its other.1 k listed at (λ held. command listed.point) (λ mode kept. lie listed.point)
       ])
     where
-      command : (x : ℕ) → commanded_position p t x ≡ commanded_position p s x
+      command : (x : ℕ) → commanded_position_in_state p t x ≡ commanded_position_in_state p s x
       command x = commanded-alike p s t x (λ m number. ap (λ (l : List PointState). slice_get l m) points)
 
-      lie : (x : ℕ) → detected_position p t x ≡ detected_position p s x
+      lie : (x : ℕ) → detected_position_in_state p t x ≡ detected_position_in_state p s x
       lie x = lie-alike p s t x (λ m number. ap (λ (l : List PointState). slice_get l m) points)
 
-  drops : (route : Route) (now new : RouteState) → ChangesRoute p s t n route now new → t.points ≡ s.points → (new.mode ≡ Allocating → ⊥) → is_locked_or_occupied new ≡ false → keeps_v6_route_points_set p t ≡ true
+  drops : (route : Route) (now new : RouteState) → ChangesRoute p s t n route now new → t.points ≡ s.points → (new.mode ≡ Allocating → ⊥) → is_locked_or_occupied new ≡ false → meets_v6_points_match_modes p t ≡ true
   drops route now new changes points unallocated none =
       changed route now new changes points (λ k listed at. record {
         commanded = λ mode on. absurd (unallocated mode);
         lies = λ mode kept. absurd (both_ways (is_locked_or_occupied new) none mode);
       })
 
-  goes_on : (route : Route) (now new : RouteState) → ChangesRoute p s t n route now new → t.points ≡ s.points → (new.mode ≡ Allocating → ⊥) → is_locked_or_occupied now ≡ true → now.rel ≤ new.rel → keeps_v6_route_points_set p t ≡ true
+  goes_on : (route : Route) (now new : RouteState) → ChangesRoute p s t n route now new → t.points ≡ s.points → (new.mode ≡ Allocating → ⊥) → is_locked_or_occupied now ≡ true → now.rel ≤ new.rel → meets_v6_points_match_modes p t ≡ true
   goes_on route now new changes points unallocated mode more =
       changed route now new changes points (λ k listed at. record {
         commanded = λ allocating on. absurd (unallocated allocating);
@@ -111,11 +111,11 @@ module _ (p : PlantLists) (plant : IsPlant p) (s t : State) (keeps : Keeps p s) 
             ));
       })
 
-  pub mark-keeps_v6_route_points_set : IsMarked p s t n → keeps_v6_route_points_set p t ≡ true
-  mark-keeps_v6_route_points_set it = let now = it.now in drops it.route now (record now { mode = Marked }) it.changes it.points (λ e. cc) refl
+  pub mark-meets_v6_points_match_modes : IsMarked p s t n → meets_v6_points_match_modes p t ≡ true
+  mark-meets_v6_points_match_modes it = let now = it.now in drops it.route now (record now { mode = Marked }) it.changes it.points (λ e. cc) refl
 
-  pub allocate-keeps_v6_route_points_set : IsAllocated p s t n → keeps_v6_route_points_set p t ≡ true
-  allocate-keeps_v6_route_points_set it =
+  pub allocate-meets_v6_points_match_modes : IsAllocated p s t n → meets_v6_points_match_modes p t ≡ true
+  allocate-meets_v6_points_match_modes it =
       from-fits (λ q one its that k listed at. elim (after-cases p s t n it.route it.now new it.changes q one its that) [
         | inl here ↦ same-here (λ u v. (k : ℕ) (listed : Listed) → slice_get u.points k ≡ Some listed → PointFits p t u v listed) one it.route its new here.1 here.2 mine k listed at
         | inr other ↦ fits-still q one its other.1 k listed at (others q one its other.1 k listed at) (λ mode kept. lie-kept p s t (required_points it.route) it.points listed.point)
@@ -164,7 +164,7 @@ module _ (p : PlantLists) (plant : IsPlant p) (s t : State) (keeps : Keeps p s) 
 
       others : (q : ℕ) (one : Route) (its : RouteState) → RouteIn p s q one its → (k : ℕ) (listed : Listed) →
           slice_get one.points k ≡ Some listed → holds_section listed.point one its ≡ true →
-          commanded_position p t listed.point ≡ commanded_position p s listed.point
+          commanded_position_in_state p t listed.point ≡ commanded_position_in_state p s listed.point
       others q one its that k listed at held =
           let number = numbered one (plant.routes_known q one that.known) k listed at in
           let none = listed-none p number.0 (required_points it.route) (λ j entry there lists.
@@ -173,8 +173,8 @@ module _ (p : PlantLists) (plant : IsPlant p) (s t : State) (keeps : Keeps p s) 
           held-not_free p s keeps.v3 q one its that listed.point held (cleared s it.route it.clear listed.point (rw same at among)).0)) in
           commanded-kept p s t (required_points it.route) it.points listed.point number.0 number.1 none
 
-  pub lock-keeps_v6_route_points_set : IsLocked p s t n → keeps_v6_route_points_set p t ≡ true
-  lock-keeps_v6_route_points_set it =
+  pub lock-meets_v6_points_match_modes : IsLocked p s t n → meets_v6_points_match_modes p t ≡ true
+  lock-meets_v6_points_match_modes it =
       let now = it.now in
       let new : RouteState = record now { mode = Locked } in
       let was = before-change p s t n it.route now new it.changes in
@@ -191,23 +191,23 @@ module _ (p : PlantLists) (plant : IsPlant p) (s t : State) (keeps : Keeps p s) 
               (lie-alike p s t listed.point
               (λ m number. ap (λ (l : List PointState). slice_get l m) it.points)
               ∙ lies-listed p s listed listed.point
-              (list_all-slice_get (is_detected_as_listed p s) (required_points it.route) k listed it.lie
+              (list_all-slice_get (is_point_detected_as_listed p s) (required_points it.route) k listed it.lie
               (at-before it.route.points it.route.protecting_points k listed at)) refl),
         );
       })
 
-  pub sense-keeps_v6_route_points_set : IsSensed p s t n → keeps_v6_route_points_set p t ≡ true
-  sense-keeps_v6_route_points_set it = let now = it.now in goes_on it.route now (record now { mode = Occupied; seen = now.seen + 1 }) it.changes it.points (λ e. cc) it.was (omega arith)
+  pub sense-meets_v6_points_match_modes : IsSensed p s t n → meets_v6_points_match_modes p t ≡ true
+  sense-meets_v6_points_match_modes it = let now = it.now in goes_on it.route now (record now { mode = Occupied; seen = now.seen + 1 }) it.changes it.points (λ e. cc) it.was (omega arith)
 
-  pub release-keeps_v6_route_points_set : IsReleased p s t n → keeps_v6_route_points_set p t ≡ true
-  release-keeps_v6_route_points_set it = let now = it.now in goes_on it.route now (record now { rel = now.rel + 1 }) it.changes it.points (λ e. let bad : Occupied ≡ Allocating = sym it.was ∙ e in cc) (rw it.was refl) (omega arith)
+  pub release-meets_v6_points_match_modes : IsReleased p s t n → meets_v6_points_match_modes p t ≡ true
+  release-meets_v6_points_match_modes it = let now = it.now in goes_on it.route now (record now { rel = now.rel + 1 }) it.changes it.points (λ e. let bad : Occupied ≡ Allocating = sym it.was ∙ e in cc) (rw it.was refl) (omega arith)
 
-  pub finish-keeps_v6_route_points_set : IsFinished p s t n → keeps_v6_route_points_set p t ≡ true
-  finish-keeps_v6_route_points_set it = drops it.route it.now (record { mode = Free; seen = 0; rel = 0 }) it.changes it.points (λ e. cc) refl
+  pub finish-meets_v6_points_match_modes : IsFinished p s t n → meets_v6_points_match_modes p t ≡ true
+  finish-meets_v6_points_match_modes it = drops it.route it.now (record { mode = Free; seen = 0; rel = 0 }) it.changes it.points (λ e. cc) refl
 
   point-changes : (x m : ℕ) (point new : PointState) → point_number p x ≡ Some m →
       slice_get s.points m ≡ Some point → t.points ≡ set s.points m new → t.routes ≡ s.routes →
-      new.to ≡ point.to → ((at : Position) → point.to ≡ at → point.at ≡ lie_from_position at → ⊥) → keeps_v6_route_points_set p t ≡ true
+      new.to ≡ point.to → ((at : Position) → point.to ≡ at → point.at ≡ lie_from_position at → ⊥) → meets_v6_points_match_modes p t ≡ true
   point-changes x m point new number at points routes same elsewhere =
       from-fits (λ q one its it k listed there.
       let was = same-route p s t routes q one its it in
@@ -221,37 +221,37 @@ module _ (p : PlantLists) (plant : IsPlant p) (s t : State) (keeps : Keeps p s) 
       needed q one its was k listed there mode kept here =
           let both = lies-at p s keeps.v6 q one its was k listed there mode kept in
           let command = commanded-at_listed p s listed both.0 in
-          let to : point.to ≡ listed.at = same_Some point.to listed.at (sym (commanded-is p s x m point number at) ∙ ap (commanded_position p s) (sym here) ∙ command) in
+          let to : point.to ≡ listed.at = same_Some point.to listed.at (sym (commanded-is p s x m point number at) ∙ ap (commanded_position_in_state p s) (sym here) ∙ command) in
           let lie : point.at ≡ lie_from_position listed.at = same_Some point.at (lie_from_position listed.at) (sym (lie-is p s x m point number at) ∙ lies-listed p s listed x both.1 here) in
           elsewhere listed.at to lie
 
-  pub throw-keeps_v6_route_points_set : IsThrown p s t n → keeps_v6_route_points_set p t ≡ true
-  throw-keeps_v6_route_points_set it =
+  pub throw-meets_v6_points_match_modes : IsThrown p s t n → meets_v6_points_match_modes p t ≡ true
+  throw-meets_v6_points_match_modes it =
       let point = it.point in
       point-changes n it.n point (record point { at = Moving }) it.number it.state it.points it.routes refl (λ at to lie.
       let lies : is_lie_at_position point.at point.to ≡ true = rw (lie, to) (own_lie at) in both_ways (is_lie_at_position point.at point.to) it.elsewhere lies)
 
-  pub settle-keeps_v6_route_points_set : IsSettled p s t n → keeps_v6_route_points_set p t ≡ true
-  settle-keeps_v6_route_points_set it =
+  pub settle-meets_v6_points_match_modes : IsSettled p s t n → meets_v6_points_match_modes p t ≡ true
+  settle-meets_v6_points_match_modes it =
       let point = it.point in
       point-changes n it.n point (record point { at = lie_from_position point.to }) it.number it.state it.points it.routes refl (λ at to lie.
-      let still : is_detected_moving point.at ≡ false = rw lie (still_in at) in both_ways (is_detected_moving point.at) still it.moved)
+      let still : is_lie_moving point.at ≡ false = rw lie (still_in at) in both_ways (is_lie_moving point.at) still it.moved)
     where
-      still_in : (at : Position) → is_detected_moving (lie_from_position at) ≡ false
+      still_in : (at : Position) → is_lie_moving (lie_from_position at) ≡ false
       still_in Plus = refl
       still_in Minus = refl
 
-  pub enter-keeps_v6_route_points_set : IsEntered p s t n → keeps_v6_route_points_set p t ≡ true
-  enter-keeps_v6_route_points_set it = v6-reads p s t it.routes it.points keeps.v6
+  pub enter-meets_v6_points_match_modes : IsEntered p s t n → meets_v6_points_match_modes p t ≡ true
+  enter-meets_v6_points_match_modes it = v6-reads p s t it.routes it.points keeps.v6
 
-  pub head-keeps_v6_route_points_set : IsHeaded p s t n → keeps_v6_route_points_set p t ≡ true
-  head-keeps_v6_route_points_set it = v6-reads p s t it.routes it.points keeps.v6
+  pub head-meets_v6_points_match_modes : IsHeaded p s t n → meets_v6_points_match_modes p t ≡ true
+  head-meets_v6_points_match_modes it = v6-reads p s t it.routes it.points keeps.v6
 
-  pub tail-keeps_v6_route_points_set : IsTailed p s t n → keeps_v6_route_points_set p t ≡ true
-  tail-keeps_v6_route_points_set it = v6-reads p s t it.routes it.points keeps.v6
+  pub tail-meets_v6_points_match_modes : IsTailed p s t n → meets_v6_points_match_modes p t ≡ true
+  tail-meets_v6_points_match_modes it = v6-reads p s t it.routes it.points keeps.v6
 
-  pub leave-keeps_v6_route_points_set : IsLeft p s t n → keeps_v6_route_points_set p t ≡ true
-  leave-keeps_v6_route_points_set it = v6-reads p s t it.routes it.points keeps.v6
+  pub leave-meets_v6_points_match_modes : IsLeft p s t n → meets_v6_points_match_modes p t ≡ true
+  leave-meets_v6_points_match_modes it = v6-reads p s t it.routes it.points keeps.v6
 
-  pub cancel-keeps_v6_route_points_set : IsCancelled p s t n → keeps_v6_route_points_set p t ≡ true
-  cancel-keeps_v6_route_points_set it = let now = it.now in drops it.route now (record now { mode = Free }) it.changes it.points (λ e. cc) refl
+  pub cancel-meets_v6_points_match_modes : IsCancelled p s t n → meets_v6_points_match_modes p t ≡ true
+  cancel-meets_v6_points_match_modes it = let now = it.now in drops it.route now (record now { mode = Free }) it.changes it.points (λ e. cc) refl

@@ -21,7 +21,7 @@ use Rattle.ilk_plant.specs.declared.state.State.{State}
 use Rattle.ilk_plant.specs.declared.state.Train.{Train}
 use Rattle.ilk_plant.specs.declared.table.Route.{Route}
 use Rattle.ilk_routes.specs.Modes.{same_mode}
-use Rattle.ilk_model.specs.Families.{keeps_v7_heads_have_routes}
+use Rattle.ilk_model.specs.Families.{meets_v7_heads_have_routes}
 use Rattle.ilk_model.specs.Holding.{holds_section, continues_without_board, route_runs_in_direction}
 use Rattle.ilk_strict.specs.IsStrict.{IsStrict}
 use Rattle.ilk_strict.proofs.After.{after-change, before-change, one-state, route-stays, same-occupied, v7-reads}
@@ -41,14 +41,14 @@ use Rattle.ilk_strict.proofs.Trains.{enter-trains, enter-vacant, head-trains, he
 use Rattle.ilk_strict.proofs.Leading.{board-not_plain, changed, head-within, idle-changed, not-leading}
 
 module _ (p : PlantLists) (plant : IsPlant p) (strict : IsStrict p) (s t : State) (keeps : Keeps p s) (shape : HasShape p t) (n : ℕ) where
-  pub mark-keeps_v7_heads_have_routes : IsMarked p s t n → keeps_v7_heads_have_routes p t ≡ true
-  mark-keeps_v7_heads_have_routes it = let now = it.now in idle-changed p plant strict s t keeps shape n it.route now (record now { mode = Marked }) it.changes it.trains it.boards (rw it.was refl)
+  pub mark-meets_v7_heads_have_routes : IsMarked p s t n → meets_v7_heads_have_routes p t ≡ true
+  mark-meets_v7_heads_have_routes it = let now = it.now in idle-changed p plant strict s t keeps shape n it.route now (record now { mode = Marked }) it.changes it.trains it.boards (rw it.was refl)
 
-  pub allocate-keeps_v7_heads_have_routes : IsAllocated p s t n → keeps_v7_heads_have_routes p t ≡ true
-  allocate-keeps_v7_heads_have_routes it = let now = it.now in idle-changed p plant strict s t keeps shape n it.route now (record now { mode = Allocating }) it.changes it.trains it.boards (rw it.was refl)
+  pub allocate-meets_v7_heads_have_routes : IsAllocated p s t n → meets_v7_heads_have_routes p t ≡ true
+  allocate-meets_v7_heads_have_routes it = let now = it.now in idle-changed p plant strict s t keeps shape n it.route now (record now { mode = Allocating }) it.changes it.trains it.boards (rw it.was refl)
 
-  pub lock-keeps_v7_heads_have_routes : IsLocked p s t n → keeps_v7_heads_have_routes p t ≡ true
-  lock-keeps_v7_heads_have_routes it =
+  pub lock-meets_v7_heads_have_routes : IsLocked p s t n → meets_v7_heads_have_routes p t ≡ true
+  lock-meets_v7_heads_have_routes it =
       changed p plant strict s t keeps shape n it.route it.now new it.changes it.trains
       (λ d x led apart mode closed. ap (λ (l : List Aspect). slice_get l led.route.source) it.boards ∙ other-board s.boards it.route.source led.route.source Open (λ same. another-source led.r led.route led.now led.it mode apart same) ∙ closed)
       (λ d x plain led same. absurd (not-leading p plant strict s t keeps shape n it.route it.now new it.changes (rw it.was refl) d x led same))
@@ -77,8 +77,8 @@ module _ (p : PlantLists) (plant : IsPlant p) (strict : IsStrict p) (s t : State
           let mine = holds-path it.route it.now 0 a.0 (allocating-holds it.now it.was) (omega (arith, my_none)) (b.1 ∙ ap Some (sym section)) in
           apart (alone p s keeps.v2 q one its that n it.route it.now was a.0 (path-section p one of_one 0 a.0 a.1) theirs mine)
 
-  pub sense-keeps_v7_heads_have_routes : IsSensed p s t n → keeps_v7_heads_have_routes p t ≡ true
-  sense-keeps_v7_heads_have_routes it =
+  pub sense-meets_v7_heads_have_routes : IsSensed p s t n → meets_v7_heads_have_routes p t ≡ true
+  sense-meets_v7_heads_have_routes it =
       changed p plant strict s t keeps shape n it.route it.now new it.changes it.trains (λ d x led apart mode closed. sense-closed p s t n it led.route.source closed) (λ d x plain led same. mine d x led same)
     where
       new : RouteState
@@ -107,8 +107,8 @@ module _ (p : PlantLists) (plant : IsPlant p) (strict : IsStrict p) (s t : State
             later = λ j y less at. same-occupied s t it.trains y ∙ led.later j y less (ap (λ (route : Route). slice_get route.path j) is.0 ∙ at);
           }
 
-  pub release-keeps_v7_heads_have_routes : IsReleased p s t n → keeps_v7_heads_have_routes p t ≡ true
-  release-keeps_v7_heads_have_routes it =
+  pub release-meets_v7_heads_have_routes : IsReleased p s t n → meets_v7_heads_have_routes p t ≡ true
+  release-meets_v7_heads_have_routes it =
       changed p plant strict s t keeps shape n it.route it.now new it.changes it.trains (λ d x led apart mode closed. ap (λ (l : List Aspect). slice_get l led.route.source) it.boards ∙ closed) (λ d x plain led same. mine d x led same)
     where
       new : RouteState
@@ -130,8 +130,8 @@ module _ (p : PlantLists) (plant : IsPlant p) (strict : IsStrict p) (s t : State
             later = λ j y less at. same-occupied s t it.trains y ∙ led.later j y less (ap (λ (route : Route). slice_get route.path j) is.0 ∙ at);
           }
 
-  pub finish-keeps_v7_heads_have_routes : IsFinished p s t n → keeps_v7_heads_have_routes p t ≡ true
-  finish-keeps_v7_heads_have_routes it =
+  pub finish-meets_v7_heads_have_routes : IsFinished p s t n → meets_v7_heads_have_routes p t ≡ true
+  finish-meets_v7_heads_have_routes it =
       changed p plant strict s t keeps shape n it.route it.now new it.changes it.trains
       (λ d x led apart mode closed. ap (λ (l : List Aspect). slice_get l led.route.source) it.boards
       ∙ closed)
@@ -153,11 +153,11 @@ module _ (p : PlantLists) (plant : IsPlant p) (strict : IsStrict p) (s t : State
           let ends = strict.ends n it.route source.0 (record { known = it.changes.known; begins = source.1 }) led.i x at last in
           both_ways (continues_without_board p d x) (subst (λ (e : Dir). continues_without_board p e x ≡ false) dir ends) plain
 
-  pub throw-keeps_v7_heads_have_routes : IsThrown p s t n → keeps_v7_heads_have_routes p t ≡ true
-  throw-keeps_v7_heads_have_routes it = v7-reads p s t it.routes it.boards it.trains keeps.v7
+  pub throw-meets_v7_heads_have_routes : IsThrown p s t n → meets_v7_heads_have_routes p t ≡ true
+  throw-meets_v7_heads_have_routes it = v7-reads p s t it.routes it.boards it.trains keeps.v7
 
-  pub settle-keeps_v7_heads_have_routes : IsSettled p s t n → keeps_v7_heads_have_routes p t ≡ true
-  settle-keeps_v7_heads_have_routes it = v7-reads p s t it.routes it.boards it.trains keeps.v7
+  pub settle-meets_v7_heads_have_routes : IsSettled p s t n → meets_v7_heads_have_routes p t ≡ true
+  settle-meets_v7_heads_have_routes it = v7-reads p s t it.routes it.boards it.trains keeps.v7
 
   still-led : t.routes ≡ s.routes →
       ((m : ℕ) → slice_get s.boards m ≡ Some Closed → slice_get t.boards m ≡ Some Closed) →
@@ -182,8 +182,8 @@ module _ (p : PlantLists) (plant : IsPlant p) (strict : IsStrict p) (s t : State
       let least = rel-led p s keeps.v1 led.r led.route led.now led.it led.i led.seen in
       holds-path led.route led.now j y (locked-holds led.now (led-route_locked_or_occupied s led.route led.now led.mode)) (omega (arith, least, less)) at
 
-  pub enter-keeps_v7_heads_have_routes : IsEntered p s t n → keeps_v7_heads_have_routes p t ≡ true
-  enter-keeps_v7_heads_have_routes it =
+  pub enter-meets_v7_heads_have_routes : IsEntered p s t n → meets_v7_heads_have_routes p t ≡ true
+  enter-meets_v7_heads_have_routes it =
       heads-from p t shape (λ i train x at last plain. elim (enter-trains p s t n it i train at) [
         | inl old ↦
             (let led = head-led p s keeps.v7 i train x old last plain in
@@ -196,8 +196,8 @@ module _ (p : PlantLists) (plant : IsPlant p) (strict : IsStrict p) (s t : State
             absurd (both_ways (continues_without_board p train.dir x) (rw (dir, ← here) ends) plain))
       ])
 
-  pub head-keeps_v7_heads_have_routes : IsHeaded p s t n → keeps_v7_heads_have_routes p t ≡ true
-  head-keeps_v7_heads_have_routes it =
+  pub head-meets_v7_heads_have_routes : IsHeaded p s t n → meets_v7_heads_have_routes p t ≡ true
+  head-meets_v7_heads_have_routes it =
       heads-from p t shape (λ i train x at last plain. elim (head-trains p s t n it i train at) [
         | inl moved ↦
             (let dir : it.train.dir ≡ train.dir = ap (λ (one : Train). one.dir) (sym moved.1) in
@@ -261,8 +261,8 @@ module _ (p : PlantLists) (plant : IsPlant p) (strict : IsStrict p) (s t : State
                 both_ways (is_occupied s n) (later k n (omega (arith, more, differ)) before) (occupied-from s it.i it.train n it.at (head-within it.train.body n head-at))
           ]
 
-  pub tail-keeps_v7_heads_have_routes : IsTailed p s t n → keeps_v7_heads_have_routes p t ≡ true
-  tail-keeps_v7_heads_have_routes it =
+  pub tail-meets_v7_heads_have_routes : IsTailed p s t n → meets_v7_heads_have_routes p t ≡ true
+  tail-meets_v7_heads_have_routes it =
       heads-from p t shape (λ i train x at last plain. elim (tail-trains p s t n it i train at) [
         | inl moved ↦
             (let dir : it.train.dir ≡ train.dir = ap (λ (one : Train). one.dir) (sym moved.1) in
@@ -276,15 +276,15 @@ module _ (p : PlantLists) (plant : IsPlant p) (strict : IsStrict p) (s t : State
           let led = head-led p s keeps.v7 i train x at last plain in
           still-led it.routes (λ m closed. ap (λ (l : List Aspect). slice_get l m) it.boards ∙ closed) train.dir x led (λ j y less there vacant. tail-vacant p s t n it y vacant)
 
-  pub leave-keeps_v7_heads_have_routes : IsLeft p s t n → keeps_v7_heads_have_routes p t ≡ true
-  leave-keeps_v7_heads_have_routes it =
+  pub leave-meets_v7_heads_have_routes : IsLeft p s t n → meets_v7_heads_have_routes p t ≡ true
+  leave-meets_v7_heads_have_routes it =
       heads-from p t shape (λ i train x at last plain.
       let old = leave-trains p s t n it i train at in
       let led = head-led p s keeps.v7 old.0 train x old.1 last plain in
       still-led it.routes (λ m closed. ap (λ (l : List Aspect). slice_get l m) it.boards ∙ closed) train.dir x led (λ j y less there vacant. leave-vacant p s t n it y vacant))
 
-  pub cancel-keeps_v7_heads_have_routes : IsCancelled p s t n → keeps_v7_heads_have_routes p t ≡ true
-  cancel-keeps_v7_heads_have_routes it =
+  pub cancel-meets_v7_heads_have_routes : IsCancelled p s t n → meets_v7_heads_have_routes p t ≡ true
+  cancel-meets_v7_heads_have_routes it =
       let now = it.now in
       idle-changed p plant strict s t keeps shape n it.route now (record now { mode = Free }) it.changes it.trains it.boards (elim (either (same_mode now.mode Marked) (same_mode now.mode Allocating) it.was) [
         | inl e ↦ rw (one_mode now.mode Marked e) refl

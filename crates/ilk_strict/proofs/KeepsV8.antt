@@ -16,7 +16,7 @@ use Rattle.ilk_plant.specs.declared.state.Train.{Train}
 use Rattle.ilk_plant.specs.declared.table.Route.{Route}
 use Rattle.ilk_plant.proofs.InLists.{section-from, only-one}
 use Rattle.ilk_routes.specs.Modes.{same_mode}
-use Rattle.ilk_model.specs.Families.{keeps_v8_bodies_have_routes}
+use Rattle.ilk_model.specs.Families.{meets_v8_bodies_have_routes}
 use Rattle.ilk_model.specs.Holding.{is_locked_or_occupied, continues_without_board, route_runs_in_direction}
 use Rattle.ilk_strict.specs.IsStrict.{IsStrict}
 use Rattle.ilk_strict.proofs.After.{after-change, before-change, one-state, other-stays, route-stays, v8-reads}
@@ -36,7 +36,7 @@ module _ (p : PlantLists) (plant : IsPlant p) (strict : IsStrict p) (s t : State
       t.trains ≡ s.trains →
       ((d : Dir) (x : ℕ) → continues_without_board p d x ≡ true → is_occupied s x ≡ true → (kept : IsKeptBy p s d x) →
       kept.r ≡ n → IsKeptBy p t d x) →
-      keeps_v8_bodies_have_routes p t ≡ true
+      meets_v8_bodies_have_routes p t ≡ true
   changed route now new changes trains mine =
       bodies-from p t (λ i train at k x place plain.
       let was : slice_get s.trains i ≡ Some train = sym (ap (λ (l : List Train). slice_get l i) trains) ∙ at in
@@ -56,7 +56,7 @@ module _ (p : PlantLists) (plant : IsPlant p) (strict : IsStrict p) (s t : State
         }
       ])
 
-  idle-changed : (route : Route) (now new : RouteState) → ChangesRoute p s t n route now new → t.trains ≡ s.trains → is_locked_or_occupied now ≡ false → keeps_v8_bodies_have_routes p t ≡ true
+  idle-changed : (route : Route) (now new : RouteState) → ChangesRoute p s t n route now new → t.trains ≡ s.trains → is_locked_or_occupied now ≡ false → meets_v8_bodies_have_routes p t ≡ true
   idle-changed route now new changes trains idle =
       changed route now new changes trains (λ d x plain occupied kept same.
       let is = one-state p s kept.r n kept.route route kept.now now kept.it (before-change p s t n route now new changes) same in
@@ -79,24 +79,24 @@ module _ (p : PlantLists) (plant : IsPlant p) (strict : IsStrict p) (s t : State
         least = least is.1 is.0;
       }
 
-  pub mark-keeps_v8_bodies_have_routes : IsMarked p s t n → keeps_v8_bodies_have_routes p t ≡ true
-  mark-keeps_v8_bodies_have_routes it = let now = it.now in idle-changed it.route now (record now { mode = Marked }) it.changes it.trains (rw it.was refl)
+  pub mark-meets_v8_bodies_have_routes : IsMarked p s t n → meets_v8_bodies_have_routes p t ≡ true
+  mark-meets_v8_bodies_have_routes it = let now = it.now in idle-changed it.route now (record now { mode = Marked }) it.changes it.trains (rw it.was refl)
 
-  pub allocate-keeps_v8_bodies_have_routes : IsAllocated p s t n → keeps_v8_bodies_have_routes p t ≡ true
-  allocate-keeps_v8_bodies_have_routes it = let now = it.now in idle-changed it.route now (record now { mode = Allocating }) it.changes it.trains (rw it.was refl)
+  pub allocate-meets_v8_bodies_have_routes : IsAllocated p s t n → meets_v8_bodies_have_routes p t ≡ true
+  allocate-meets_v8_bodies_have_routes it = let now = it.now in idle-changed it.route now (record now { mode = Allocating }) it.changes it.trains (rw it.was refl)
 
-  pub lock-keeps_v8_bodies_have_routes : IsLocked p s t n → keeps_v8_bodies_have_routes p t ≡ true
-  lock-keeps_v8_bodies_have_routes it = let now = it.now in idle-changed it.route now (record now { mode = Locked }) it.changes it.trains (rw it.was refl)
+  pub lock-meets_v8_bodies_have_routes : IsLocked p s t n → meets_v8_bodies_have_routes p t ≡ true
+  lock-meets_v8_bodies_have_routes it = let now = it.now in idle-changed it.route now (record now { mode = Locked }) it.changes it.trains (rw it.was refl)
 
-  pub sense-keeps_v8_bodies_have_routes : IsSensed p s t n → keeps_v8_bodies_have_routes p t ≡ true
-  sense-keeps_v8_bodies_have_routes it =
+  pub sense-meets_v8_bodies_have_routes : IsSensed p s t n → meets_v8_bodies_have_routes p t ≡ true
+  sense-meets_v8_bodies_have_routes it =
       let now = it.now in
       let new : RouteState = record now { mode = Occupied; seen = now.seen + 1 } in
       changed it.route now new it.changes it.trains (λ d x plain occupied kept same.
       keeps-on it.route now new it.changes refl d x kept same (λ is route. subst (λ (v : RouteState). v.rel ≤ kept.i) is kept.least))
 
-  pub release-keeps_v8_bodies_have_routes : IsReleased p s t n → keeps_v8_bodies_have_routes p t ≡ true
-  release-keeps_v8_bodies_have_routes it =
+  pub release-meets_v8_bodies_have_routes : IsReleased p s t n → meets_v8_bodies_have_routes p t ≡ true
+  release-meets_v8_bodies_have_routes it =
       changed it.route it.now new it.changes it.trains (λ d x plain occupied kept same.
       keeps-on it.route it.now new it.changes (rw it.was refl) d x kept same (not-first d x occupied kept))
     where
@@ -112,8 +112,8 @@ module _ (p : PlantLists) (plant : IsPlant p) (strict : IsStrict p) (s t : State
         | inr apart ↦ (let least = subst (λ (v : RouteState). v.rel ≤ kept.i) is kept.least in omega (arith, least, apart))
       ]
 
-  pub finish-keeps_v8_bodies_have_routes : IsFinished p s t n → keeps_v8_bodies_have_routes p t ≡ true
-  finish-keeps_v8_bodies_have_routes it =
+  pub finish-meets_v8_bodies_have_routes : IsFinished p s t n → meets_v8_bodies_have_routes p t ≡ true
+  finish-meets_v8_bodies_have_routes it =
       changed it.route it.now new it.changes it.trains (λ d x plain occupied kept same. absurd (at-end d x plain kept same))
     where
       new : RouteState
@@ -132,11 +132,11 @@ module _ (p : PlantLists) (plant : IsPlant p) (strict : IsStrict p) (s t : State
           let ends = strict.ends n it.route source.0 (record { known = it.changes.known; begins = source.1 }) kept.i x at last in
           both_ways (continues_without_board p d x) (subst (λ (e : Dir). continues_without_board p e x ≡ false) dir ends) plain
 
-  pub throw-keeps_v8_bodies_have_routes : IsThrown p s t n → keeps_v8_bodies_have_routes p t ≡ true
-  throw-keeps_v8_bodies_have_routes it = v8-reads p s t it.routes it.trains keeps.v8
+  pub throw-meets_v8_bodies_have_routes : IsThrown p s t n → meets_v8_bodies_have_routes p t ≡ true
+  throw-meets_v8_bodies_have_routes it = v8-reads p s t it.routes it.trains keeps.v8
 
-  pub settle-keeps_v8_bodies_have_routes : IsSettled p s t n → keeps_v8_bodies_have_routes p t ≡ true
-  settle-keeps_v8_bodies_have_routes it = v8-reads p s t it.routes it.trains keeps.v8
+  pub settle-meets_v8_bodies_have_routes : IsSettled p s t n → meets_v8_bodies_have_routes p t ≡ true
+  settle-meets_v8_bodies_have_routes it = v8-reads p s t it.routes it.trains keeps.v8
 
   still-kept : t.routes ≡ s.routes → (d : Dir) (x : ℕ) → IsKeptBy p s d x → IsKeptBy p t d x
   still-kept routes d x kept = record {
@@ -151,8 +151,8 @@ module _ (p : PlantLists) (plant : IsPlant p) (strict : IsStrict p) (s t : State
     least = kept.least;
   }
 
-  pub enter-keeps_v8_bodies_have_routes : IsEntered p s t n → keeps_v8_bodies_have_routes p t ≡ true
-  enter-keeps_v8_bodies_have_routes it =
+  pub enter-meets_v8_bodies_have_routes : IsEntered p s t n → meets_v8_bodies_have_routes p t ≡ true
+  enter-meets_v8_bodies_have_routes it =
       bodies-from p t (λ i train at k x place plain. elim (enter-trains p s t n it i train at) [
         | inl old ↦ still-kept it.routes train.dir x (body-kept p s keeps.v8 i train old k x place plain)
         | inr new ↦
@@ -162,8 +162,8 @@ module _ (p : PlantLists) (plant : IsPlant p) (strict : IsStrict p) (s t : State
             absurd (both_ways (continues_without_board p train.dir x) (rw (dir, ← here) ends) plain))
       ])
 
-  pub head-keeps_v8_bodies_have_routes : IsHeaded p s t n → keeps_v8_bodies_have_routes p t ≡ true
-  head-keeps_v8_bodies_have_routes it =
+  pub head-meets_v8_bodies_have_routes : IsHeaded p s t n → meets_v8_bodies_have_routes p t ≡ true
+  head-meets_v8_bodies_have_routes it =
       bodies-from p t (λ i train at k x place plain. elim (head-trains p s t n it i train at) [
         | inl moved ↦
             (let dir : it.train.dir ≡ train.dir = ap (λ (one : Train). one.dir) (sym moved.1) in
@@ -191,8 +191,8 @@ module _ (p : PlantLists) (plant : IsPlant p) (strict : IsStrict p) (s t : State
             least = on.least;
           }
 
-  pub tail-keeps_v8_bodies_have_routes : IsTailed p s t n → keeps_v8_bodies_have_routes p t ≡ true
-  tail-keeps_v8_bodies_have_routes it =
+  pub tail-meets_v8_bodies_have_routes : IsTailed p s t n → meets_v8_bodies_have_routes p t ≡ true
+  tail-meets_v8_bodies_have_routes it =
       bodies-from p t (λ i train at k x place plain. elim (tail-trains p s t n it i train at) [
         | inl moved ↦
             (let dir : it.train.dir ≡ train.dir = ap (λ (one : Train). one.dir) (sym moved.1) in
@@ -202,14 +202,14 @@ module _ (p : PlantLists) (plant : IsPlant p) (strict : IsStrict p) (s t : State
         | inr other ↦ still-kept it.routes train.dir x (body-kept p s keeps.v8 i train other.1 k x place plain)
       ])
 
-  pub leave-keeps_v8_bodies_have_routes : IsLeft p s t n → keeps_v8_bodies_have_routes p t ≡ true
-  leave-keeps_v8_bodies_have_routes it =
+  pub leave-meets_v8_bodies_have_routes : IsLeft p s t n → meets_v8_bodies_have_routes p t ≡ true
+  leave-meets_v8_bodies_have_routes it =
       bodies-from p t (λ i train at k x place plain.
       let old = leave-trains p s t n it i train at in
       still-kept it.routes train.dir x (body-kept p s keeps.v8 old.0 train old.1 k x place plain))
 
-  pub cancel-keeps_v8_bodies_have_routes : IsCancelled p s t n → keeps_v8_bodies_have_routes p t ≡ true
-  cancel-keeps_v8_bodies_have_routes it =
+  pub cancel-meets_v8_bodies_have_routes : IsCancelled p s t n → meets_v8_bodies_have_routes p t ≡ true
+  cancel-meets_v8_bodies_have_routes it =
       let now = it.now in
       idle-changed it.route now (record now { mode = Free }) it.changes it.trains (elim (either (same_mode now.mode Marked) (same_mode now.mode Allocating) it.was) [
         | inl e ↦ rw (one_mode now.mode Marked e) refl

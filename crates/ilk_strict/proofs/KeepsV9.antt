@@ -16,13 +16,13 @@ use Rattle.ilk_plant.specs.declared.state.State.{State}
 use Rattle.ilk_plant.specs.declared.table.Route.{Route}
 use Rattle.ilk_routes.specs.Boards.{has_aspect, is_protecting_locked_route, is_protecting_board}
 use Rattle.ilk_routes.specs.Modes.{has_mode}
-use Rattle.ilk_model.specs.Families.{keeps_v9_protecting_boards_closed}
+use Rattle.ilk_model.specs.Families.{meets_v9_protecting_boards_closed}
 use Rattle.ilk_strict.proofs.After.{after-cases, same-here, same-route, v9-reads}
 use Rattle.ilk_strict.proofs.Boards.{head-closed, other-board, sense-closed}
 use Rattle.ilk_model.proofs.PointFrames.{IsSettled, IsThrown}
 use Rattle.ilk_model.proofs.RouteFrames.{ChangesRoute, IsAllocated, IsCancelled, IsFinished, IsLocked, IsMarked, IsReleased, IsSensed}
 use Rattle.ilk_model.proofs.TrainFrames.{IsEntered, IsHeaded, IsLeft, IsTailed}
-use Rattle.ilk_strict.proofs.Reading.{RouteIn, has_aspect-at, any_below-from}
+use Rattle.ilk_strict.proofs.Reading.{RouteIn, has_aspect-at, is_true_for_any_below-from}
 use Rattle.ilk_strict.proofs.BoardFacts.{protected-at, protected-from}
 use Rattle.ilk_strict.proofs.TrainFacts.{Keeps}
 
@@ -33,25 +33,25 @@ module _ (p : PlantLists) (plant : IsPlant p) (s t : State) (keeps : Keeps p s) 
       slice_get t.boards m ≡ Some Closed) →
       (new.mode ≡ Locked → (k m : ℕ) → slice_get route.protecting_boards k ≡ Some m →
       slice_get t.boards m ≡ Some Closed) →
-      keeps_v9_protecting_boards_closed p t ≡ true
+      meets_v9_protecting_boards_closed p t ≡ true
   changed route now new changes stay mine =
       protected-from p t shape.routes (λ q one its it mode k m at. elim (after-cases p s t n route now new changes q one its it) [
         | inl here ↦ same-here (λ u v. v.mode ≡ Locked → (k m : ℕ) → slice_get u.protecting_boards k ≡ Some m → slice_get t.boards m ≡ Some Closed) one route its new here.1 here.2 mine mode k m at
         | inr other ↦ stay q one its other.1 mode k m at (protected-at p s keeps.v9 q one its other.1 mode k m at)
       ])
 
-  unlocked : (route : Route) (now new : RouteState) → ChangesRoute p s t n route now new → t.boards ≡ s.boards → (new.mode ≡ Locked → ⊥) → keeps_v9_protecting_boards_closed p t ≡ true
+  unlocked : (route : Route) (now new : RouteState) → ChangesRoute p s t n route now new → t.boards ≡ s.boards → (new.mode ≡ Locked → ⊥) → meets_v9_protecting_boards_closed p t ≡ true
   unlocked route now new changes boards apart =
       changed route now new changes (λ q one its it mode k m at closed. ap (λ (l : List Aspect). slice_get l m) boards ∙ closed) (λ mode. absurd (apart mode))
 
-  pub mark-keeps_v9_protecting_boards_closed : IsMarked p s t n → keeps_v9_protecting_boards_closed p t ≡ true
-  mark-keeps_v9_protecting_boards_closed it = let now = it.now in unlocked it.route now (record now { mode = Marked }) it.changes it.boards (λ e. cc)
+  pub mark-meets_v9_protecting_boards_closed : IsMarked p s t n → meets_v9_protecting_boards_closed p t ≡ true
+  mark-meets_v9_protecting_boards_closed it = let now = it.now in unlocked it.route now (record now { mode = Marked }) it.changes it.boards (λ e. cc)
 
-  pub allocate-keeps_v9_protecting_boards_closed : IsAllocated p s t n → keeps_v9_protecting_boards_closed p t ≡ true
-  allocate-keeps_v9_protecting_boards_closed it = let now = it.now in unlocked it.route now (record now { mode = Allocating }) it.changes it.boards (λ e. cc)
+  pub allocate-meets_v9_protecting_boards_closed : IsAllocated p s t n → meets_v9_protecting_boards_closed p t ≡ true
+  allocate-meets_v9_protecting_boards_closed it = let now = it.now in unlocked it.route now (record now { mode = Allocating }) it.changes it.boards (λ e. cc)
 
-  pub lock-keeps_v9_protecting_boards_closed : IsLocked p s t n → keeps_v9_protecting_boards_closed p t ≡ true
-  lock-keeps_v9_protecting_boards_closed it =
+  pub lock-meets_v9_protecting_boards_closed : IsLocked p s t n → meets_v9_protecting_boards_closed p t ≡ true
+  lock-meets_v9_protecting_boards_closed it =
       changed it.route it.now new it.changes
       (λ q one its that mode k m at closed. elsewhere m (λ same. unprotected q one its that mode k m at same) closed)
       (λ mode k m at. elsewhere m
@@ -72,38 +72,38 @@ module _ (p : PlantLists) (plant : IsPlant p) (s t : State) (keeps : Keeps p s) 
           let among : list_any (λ b. b == it.route.source) one.protecting_boards ≡ true = list_any-from (λ b. b == it.route.source) one.protecting_boards k m at (eq-eqb m it.route.source same) in
           let protects : is_protecting_board p q it.route.source ≡ true = rw that.known among in
           both_ways (is_protecting_locked_route p s it.route.source) it.unprotecting
-          (any_below-from (length p.routes) (λ q. has_mode s q Locked && is_protecting_board p q it.route.source) q (slice_get_within p.routes q one that.known)
+          (is_true_for_any_below-from (length p.routes) (λ q. has_mode s q Locked && is_protecting_board p q it.route.source) q (slice_get_within p.routes q one that.known)
           (and_from (has_mode s q Locked) (is_protecting_board p q it.route.source) is_locked protects))
 
-  pub sense-keeps_v9_protecting_boards_closed : IsSensed p s t n → keeps_v9_protecting_boards_closed p t ≡ true
-  sense-keeps_v9_protecting_boards_closed it =
+  pub sense-meets_v9_protecting_boards_closed : IsSensed p s t n → meets_v9_protecting_boards_closed p t ≡ true
+  sense-meets_v9_protecting_boards_closed it =
       let now = it.now in
       changed it.route now (record now { mode = Occupied; seen = now.seen + 1 }) it.changes (λ q one its that mode k m at closed. sense-closed p s t n it m closed) (λ e. cc)
 
-  pub release-keeps_v9_protecting_boards_closed : IsReleased p s t n → keeps_v9_protecting_boards_closed p t ≡ true
-  release-keeps_v9_protecting_boards_closed it = let now = it.now in unlocked it.route now (record now { rel = now.rel + 1 }) it.changes it.boards (λ e. let bad : Occupied ≡ Locked = sym it.was ∙ e in cc)
+  pub release-meets_v9_protecting_boards_closed : IsReleased p s t n → meets_v9_protecting_boards_closed p t ≡ true
+  release-meets_v9_protecting_boards_closed it = let now = it.now in unlocked it.route now (record now { rel = now.rel + 1 }) it.changes it.boards (λ e. let bad : Occupied ≡ Locked = sym it.was ∙ e in cc)
 
-  pub finish-keeps_v9_protecting_boards_closed : IsFinished p s t n → keeps_v9_protecting_boards_closed p t ≡ true
-  finish-keeps_v9_protecting_boards_closed it = unlocked it.route it.now (record { mode = Free; seen = 0; rel = 0 }) it.changes it.boards (λ e. cc)
+  pub finish-meets_v9_protecting_boards_closed : IsFinished p s t n → meets_v9_protecting_boards_closed p t ≡ true
+  finish-meets_v9_protecting_boards_closed it = unlocked it.route it.now (record { mode = Free; seen = 0; rel = 0 }) it.changes it.boards (λ e. cc)
 
-  pub throw-keeps_v9_protecting_boards_closed : IsThrown p s t n → keeps_v9_protecting_boards_closed p t ≡ true
-  throw-keeps_v9_protecting_boards_closed it = v9-reads p s t it.routes it.boards keeps.v9
+  pub throw-meets_v9_protecting_boards_closed : IsThrown p s t n → meets_v9_protecting_boards_closed p t ≡ true
+  throw-meets_v9_protecting_boards_closed it = v9-reads p s t it.routes it.boards keeps.v9
 
-  pub settle-keeps_v9_protecting_boards_closed : IsSettled p s t n → keeps_v9_protecting_boards_closed p t ≡ true
-  settle-keeps_v9_protecting_boards_closed it = v9-reads p s t it.routes it.boards keeps.v9
+  pub settle-meets_v9_protecting_boards_closed : IsSettled p s t n → meets_v9_protecting_boards_closed p t ≡ true
+  settle-meets_v9_protecting_boards_closed it = v9-reads p s t it.routes it.boards keeps.v9
 
-  pub enter-keeps_v9_protecting_boards_closed : IsEntered p s t n → keeps_v9_protecting_boards_closed p t ≡ true
-  enter-keeps_v9_protecting_boards_closed it = v9-reads p s t it.routes it.boards keeps.v9
+  pub enter-meets_v9_protecting_boards_closed : IsEntered p s t n → meets_v9_protecting_boards_closed p t ≡ true
+  enter-meets_v9_protecting_boards_closed it = v9-reads p s t it.routes it.boards keeps.v9
 
-  pub head-keeps_v9_protecting_boards_closed : IsHeaded p s t n → keeps_v9_protecting_boards_closed p t ≡ true
-  head-keeps_v9_protecting_boards_closed it =
+  pub head-meets_v9_protecting_boards_closed : IsHeaded p s t n → meets_v9_protecting_boards_closed p t ≡ true
+  head-meets_v9_protecting_boards_closed it =
       protected-from p t shape.routes (λ q one its that mode k m at. head-closed p s t n it m (protected-at p s keeps.v9 q one its (same-route p s t it.routes q one its that) mode k m at))
 
-  pub tail-keeps_v9_protecting_boards_closed : IsTailed p s t n → keeps_v9_protecting_boards_closed p t ≡ true
-  tail-keeps_v9_protecting_boards_closed it = v9-reads p s t it.routes it.boards keeps.v9
+  pub tail-meets_v9_protecting_boards_closed : IsTailed p s t n → meets_v9_protecting_boards_closed p t ≡ true
+  tail-meets_v9_protecting_boards_closed it = v9-reads p s t it.routes it.boards keeps.v9
 
-  pub leave-keeps_v9_protecting_boards_closed : IsLeft p s t n → keeps_v9_protecting_boards_closed p t ≡ true
-  leave-keeps_v9_protecting_boards_closed it = v9-reads p s t it.routes it.boards keeps.v9
+  pub leave-meets_v9_protecting_boards_closed : IsLeft p s t n → meets_v9_protecting_boards_closed p t ≡ true
+  leave-meets_v9_protecting_boards_closed it = v9-reads p s t it.routes it.boards keeps.v9
 
-  pub cancel-keeps_v9_protecting_boards_closed : IsCancelled p s t n → keeps_v9_protecting_boards_closed p t ≡ true
-  cancel-keeps_v9_protecting_boards_closed it = let now = it.now in unlocked it.route now (record now { mode = Free }) it.changes it.boards (λ e. cc)
+  pub cancel-meets_v9_protecting_boards_closed : IsCancelled p s t n → meets_v9_protecting_boards_closed p t ≡ true
+  cancel-meets_v9_protecting_boards_closed it = let now = it.now in unlocked it.route now (record now { mode = Free }) it.changes it.boards (λ e. cc)

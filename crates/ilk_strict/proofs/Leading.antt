@@ -16,7 +16,7 @@ use Rattle.ilk_plant.specs.declared.state.State.{State}
 use Rattle.ilk_plant.specs.declared.state.Train.{Train}
 use Rattle.ilk_plant.specs.declared.table.Route.{Route}
 use Rattle.ilk_plant.proofs.InLists.{section-from}
-use Rattle.ilk_model.specs.Families.{keeps_v7_heads_have_routes}
+use Rattle.ilk_model.specs.Families.{meets_v7_heads_have_routes}
 use Rattle.ilk_model.specs.Holding.{is_locked_or_occupied, continues_without_board}
 use Rattle.ilk_strict.specs.IsStrict.{IsStrict}
 use Rattle.ilk_strict.proofs.After.{before-change, one-state, other-stays, same-occupied}
@@ -63,7 +63,7 @@ module _ (p : PlantLists) (plant : IsPlant p) (strict : IsStrict p) (s t : State
       slice_get s.boards led.route.source ≡ Some Closed →
       slice_get t.boards led.route.source ≡ Some Closed) →
       ((d : Dir) (x : ℕ) → continues_without_board p d x ≡ true → (led : IsLedBy p s d x) → led.r ≡ n → IsLedBy p t d x) →
-      keeps_v7_heads_have_routes p t ≡ true
+      meets_v7_heads_have_routes p t ≡ true
   changed route now new changes trains stay mine =
       heads-from p t shape (λ i train x at last plain.
       let led = head-led p s keeps.v7 i train x (sym (ap (λ (l : List Train). slice_get l i) trains) ∙ at) last plain in
@@ -72,7 +72,7 @@ module _ (p : PlantLists) (plant : IsPlant p) (strict : IsStrict p) (s t : State
         | inr apart ↦ other-leads route now new changes trains train.dir x led apart (stay train.dir x led apart)
       ])
 
-  pub idle-changed : (route : Route) (now new : RouteState) → ChangesRoute p s t n route now new → t.trains ≡ s.trains → t.boards ≡ s.boards → is_locked_or_occupied now ≡ false → keeps_v7_heads_have_routes p t ≡ true
+  pub idle-changed : (route : Route) (now new : RouteState) → ChangesRoute p s t n route now new → t.trains ≡ s.trains → t.boards ≡ s.boards → is_locked_or_occupied now ≡ false → meets_v7_heads_have_routes p t ≡ true
   idle-changed route now new changes trains boards idle =
       changed route now new changes trains
       (λ d x led apart mode closed. ap (λ (l : List Aspect). slice_get l led.route.source) boards ∙ closed)

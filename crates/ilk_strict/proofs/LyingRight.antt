@@ -8,8 +8,8 @@ use Rattle.ilk_base.specs.Option.{◌>>=◌}
 use Rattle.ilk_base.proofs.Options.{bind_some}
 use Rattle.ilk_base.proofs.Truth.{either}
 use Rattle.ilk_plant.specs.Network.{same_direction}
-use Rattle.ilk_plant.specs.Plant.{IsPlant, PlantLists, section_inward_if_border}
-use Rattle.ilk_plant.specs.State.{detected_position}
+use Rattle.ilk_plant.specs.Plant.{IsPlant, PlantLists, inward_direction_if_border}
+use Rattle.ilk_plant.specs.State.{detected_position_in_state}
 use Rattle.ilk_plant.specs.declared.network.Dir.{Dir}
 use Rattle.ilk_plant.specs.declared.network.Position.{Position}
 use Rattle.ilk_plant.specs.declared.network.Position.TheVariants.{Plus, Minus}
@@ -18,7 +18,7 @@ use Rattle.ilk_plant.specs.declared.state.Lie.{Lie}
 use Rattle.ilk_plant.specs.declared.state.Lie.TheVariants.{Plus as LiesPlus, Minus as LiesMinus, Moving}
 use Rattle.ilk_plant.specs.declared.state.State.{State}
 use Rattle.ilk_motion.specs.Ahead.{ahead, section_led_to, detected_leg}
-use Rattle.ilk_routes.specs.Lies.{is_detected_moving, lie_from_position}
+use Rattle.ilk_routes.specs.Lies.{is_lie_moving, lie_from_position}
 use Rattle.ilk_model.specs.Hazard.{are_adjacent_in_body, is_wrong_under_train}
 use Rattle.ilk_model.specs.Holding.{continues_without_board}
 use Rattle.ilk_strict.proofs.Ahead.{leg, legs-differ, other_leg, stem-no_other, leg-no_other, detected_leg-lie_from_position}
@@ -48,7 +48,7 @@ pair-pushed a b x y (c ∷ d ∷ rest) last h =
       ]
     ]
 
-pub point-no_border : (p : PlantLists) (x stem plus minus : ℕ) (faces d : Dir) → slice_get p.sections x ≡ Some (Point stem plus minus faces) → section_inward_if_border p x ≡ Some d → ⊥
+pub point-no_border : (p : PlantLists) (x stem plus minus : ℕ) (faces d : Dir) → slice_get p.sections x ≡ Some (Point stem plus minus faces) → inward_direction_if_border p x ≡ Some d → ⊥
 point-no_border p x stem plus minus faces d section at = let bad : None ≡ Some d = rw section at at in cc
 
 pub point-plain : (p : PlantLists) (x stem plus minus : ℕ) (faces d : Dir) → slice_get p.sections x ≡ Some (Point stem plus minus faces) → continues_without_board p d x ≡ true
@@ -60,16 +60,16 @@ point-plain p x stem plus minus faces d section = rw section (by_side (same_dire
 
 pub ahead-no_other : (p : PlantLists) → IsPlant p → (s : State) →
     (x y stem plus minus : ℕ) (faces d : Dir) (to : Position) →
-    slice_get p.sections x ≡ Some (Point stem plus minus faces) → detected_position p s x ≡ Some (lie_from_position to) →
+    slice_get p.sections x ≡ Some (Point stem plus minus faces) → detected_position_in_state p s x ≡ Some (lie_from_position to) →
     ahead p s x d ≡ Some y → y ≡ other_leg plus minus to → ⊥
 ahead-no_other p plant s x y stem plus minus faces d to section lie leads other =
-    let here = bind_some (slice_get p.sections x) (λ it. section_led_to it d (detected_position p s x)) y leads in
+    let here = bind_some (slice_get p.sections x) (λ it. section_led_to it d (detected_position_in_state p s x)) y leads in
     let same : here.0 ≡ Point stem plus minus faces = same_Some here.0 (Point stem plus minus faces) (sym here.1 ∙ section) in
-    let by_side : (if same_direction faces d then detected_position p s x >>= detected_leg plus minus else Some stem) ≡ Some y = subst (λ it. section_led_to it d (detected_position p s x) ≡ Some y) same here.2 in
+    let by_side : (if same_direction faces d then detected_position_in_state p s x >>= detected_leg plus minus else Some stem) ≡ Some y = subst (λ it. section_led_to it d (detected_position_in_state p s x) ≡ Some y) same here.2 in
     let differ = legs-differ p plant x stem plus minus faces section in
     elim (cases_Bool (same_direction faces d)) [
       | inl facing ↦
-          (let to_leg : (detected_position p s x >>= detected_leg plus minus) ≡ Some y = rw facing at by_side in
+          (let to_leg : (detected_position_in_state p s x >>= detected_leg plus minus) ≡ Some y = rw facing at by_side in
           let at_leg : detected_leg plus minus (lie_from_position to) ≡ Some y = rw lie at to_leg in
           leg-no_other stem plus minus to differ (same_Some (leg plus minus to) y (sym (detected_leg-lie_from_position plus minus to) ∙ at_leg) ∙ other))
       | inr turned ↦
@@ -82,7 +82,7 @@ moves-or_lies LiesPlus = inr (Plus, refl)
 moves-or_lies LiesMinus = inr (Minus, refl)
 moves-or_lies Moving = inl refl
 
-pub moving-is : (lie : Lie) → is_detected_moving lie ≡ true → lie ≡ Moving
+pub moving-is : (lie : Lie) → is_lie_moving lie ≡ true → lie ≡ Moving
 moving-is LiesPlus h = cc
 moving-is LiesMinus h = cc
 moving-is Moving h = refl

@@ -5,7 +5,7 @@ use Rattle.std.specs.List.{enumerate_from, range_with_len}
 use Rattle.std.proofs.lemmas.Bool.{and_from, and_parts, eqb-true, eq-eqb}
 use Rattle.std.proofs.lemmas.Bool.Decides.{nat_tests}
 use Rattle.std.proofs.lemmas.Option.{slice_get_within}
-use Rattle.ilk_base.specs.Each.{all_below, any_below}
+use Rattle.ilk_base.specs.Each.{is_true_for_all_below, is_true_for_any_below}
 use Rattle.ilk_base.specs.Option.{is_some_and}
 use Rattle.ilk_base.proofs.Lists.{item_at}
 use Rattle.ilk_base.proofs.Options.{some-and}
@@ -47,20 +47,20 @@ occupied-at s x h = list_any-at (λ train. contains_section x train.body) s.trai
 pub occupied-from : (s : State) (i : ℕ) (train : Train) (x : ℕ) → slice_get s.trains i ≡ Some train → contains_section x train.body ≡ true → is_occupied s x ≡ true
 occupied-from s i train x at has = list_any-from (λ one. contains_section x one.body) s.trains i train at has
 
-pub all_below-at : (n : ℕ) (test : ℕ → Bool) → all_below n test ≡ true → (i : ℕ) → i < n → test i ≡ true
-all_below-at n test h i less = list_all-slice_get test (range_with_len 0 n) i i h (range-at n i less)
+pub is_true_for_all_below-at : (n : ℕ) (test : ℕ → Bool) → is_true_for_all_below n test ≡ true → (i : ℕ) → i < n → test i ≡ true
+is_true_for_all_below-at n test h i less = list_all-slice_get test (range_with_len 0 n) i i h (range-at n i less)
 
-pub all_below-from : (n : ℕ) (test : ℕ → Bool) → ((i : ℕ) → i < n → test i ≡ true) → all_below n test ≡ true
-all_below-from n test each =
+pub is_true_for_all_below-from : (n : ℕ) (test : ℕ → Bool) → ((i : ℕ) → i < n → test i ≡ true) → is_true_for_all_below n test ≡ true
+is_true_for_all_below-from n test each =
     all-pass test (range_with_len 0 n) (λ i x at. let within = range_within n i x at in each x within.1)
 
-pub any_below-at : (n : ℕ) (test : ℕ → Bool) → any_below n test ≡ true → (i : ℕ) × (i < n) × (test i ≡ true)
-any_below-at n test h =
+pub is_true_for_any_below-at : (n : ℕ) (test : ℕ → Bool) → is_true_for_any_below n test ≡ true → (i : ℕ) × (i < n) × (test i ≡ true)
+is_true_for_any_below-at n test h =
     let found : (k : ℕ) × (x : ℕ) × (slice_get (range_with_len 0 n) k ≡ Some x) × (test x ≡ true) = list_any-at test (range_with_len 0 n) h in
     (found.1, (range_within n found.0 found.1 found.2).1, found.3)
 
-pub any_below-from : (n : ℕ) (test : ℕ → Bool) (i : ℕ) → i < n → test i ≡ true → any_below n test ≡ true
-any_below-from n test i less h = list_any-from test (range_with_len 0 n) i i (range-at n i less) h
+pub is_true_for_any_below-from : (n : ℕ) (test : ℕ → Bool) (i : ℕ) → i < n → test i ≡ true → is_true_for_any_below n test ≡ true
+is_true_for_any_below-from n test i less h = list_any-from test (range_with_len 0 n) i i (range-at n i less) h
 
 pub record RouteIn (p : PlantLists) (s : State) (r : ℕ) (route : Route) (now : RouteState) : Type 0 where
   pub known : slice_get p.routes r ≡ Some route
@@ -80,12 +80,12 @@ passes-here p s r test route now it h = rw (it.known, it.state) at h
 
 pub all_routes_pass_test-at : (p : PlantLists) (s : State) (test : Route → RouteState → Bool) → all_routes_pass_test p s test ≡ true → (r : ℕ) (route : Route) (now : RouteState) → RouteIn p s r route now → test route now ≡ true
 all_routes_pass_test-at p s test h r route now it =
-    passes-here p s r test route now it (all_below-at (length p.routes) (λ r. route_passes_test p s r test) h r (slice_get_within p.routes r route it.known))
+    passes-here p s r test route now it (is_true_for_all_below-at (length p.routes) (λ r. route_passes_test p s r test) h r (slice_get_within p.routes r route it.known))
 
 pub all_routes_pass_test-from : (p : PlantLists) (s : State) (test : Route → RouteState → Bool) → length s.routes ≡ length p.routes → ((r : ℕ) (route : Route) (now : RouteState) → RouteIn p s r route now → test route now ≡ true)
     → all_routes_pass_test p s test ≡ true
 all_routes_pass_test-from p s test count each =
-    all_below-from (length p.routes) (λ r. route_passes_test p s r test) (λ r less.
+    is_true_for_all_below-from (length p.routes) (λ r. route_passes_test p s r test) (λ r less.
     let route = item_at p.routes r less in
     let now = item_at s.routes r (omega (arith, count)) in
     let it : RouteIn p s r route.0 now.0 = record { known = route.1; state = now.1 } in
@@ -93,13 +93,13 @@ all_routes_pass_test-from p s test count each =
 
 pub any_route_passes_test-at : (p : PlantLists) (s : State) (test : Route → RouteState → Bool) → any_route_passes_test p s test ≡ true → (r : ℕ) × (route : Route) × (now : RouteState) × RouteIn p s r route now × (test route now ≡ true)
 any_route_passes_test-at p s test h =
-    let found = any_below-at (length p.routes) (λ r. route_passes_test p s r test) h in
+    let found = is_true_for_any_below-at (length p.routes) (λ r. route_passes_test p s r test) h in
     let it = passes-at p s found.0 test found.2 in
     (found.0, it.0, it.1, it.2, it.3)
 
 pub any_route_passes_test-from : (p : PlantLists) (s : State) (test : Route → RouteState → Bool) (r : ℕ) (route : Route) (now : RouteState) → RouteIn p s r route now → test route now ≡ true → any_route_passes_test p s test ≡ true
 any_route_passes_test-from p s test r route now it h =
-    any_below-from (length p.routes) (λ r. route_passes_test p s r test) r (slice_get_within p.routes r route it.known) (passes-from p s r test route now it h)
+    is_true_for_any_below-from (length p.routes) (λ r. route_passes_test p s r test) r (slice_get_within p.routes r route it.known) (passes-from p s r test route now it h)
 
 pub any_path_index_passes_test-at : (route : Route) (test : ℕ → ℕ → Bool) → any_path_index_passes_test route test ≡ true → (i : ℕ) × (x : ℕ) × (slice_get route.path i ≡ Some x) × (test i x ≡ true)
 any_path_index_passes_test-at route test h =

@@ -5,7 +5,7 @@ use Rattle.std.specs.List.{list_all}
 use Rattle.std.proofs.lemmas.Bool.{and_from, and_parts, both_ways, cases_Bool, eqb-true, eq-eqb, or_left, or_right}
 use Rattle.std.proofs.lemmas.Bool.Decides.{nat_tests}
 use Rattle.std.proofs.lemmas.Option.{same_Some, slice_get_within}
-use Rattle.ilk_base.specs.Each.{all_below}
+use Rattle.ilk_base.specs.Each.{is_true_for_all_below}
 use Rattle.ilk_base.proofs.Tested.{all-pass, list_all-slice_get}
 use Rattle.ilk_base.proofs.Truth.{either, fails, if-passes, passes-if}
 use Rattle.ilk_plant.specs.Network.{contains_section}
@@ -19,10 +19,10 @@ use Rattle.ilk_plant.specs.declared.table.Route.{Route}
 use Rattle.ilk_plant.proofs.InLists.{section-at, section-from}
 use Rattle.ilk_routes.specs.Claims.{sections_outside_path}
 use Rattle.ilk_routes.specs.Modes.{same_mode}
-use Rattle.ilk_model.specs.Families.{has_required_locks, keeps_v1_consistent_counts, keeps_v2_sections_held_once, keeps_v3_locks_match_routes, keeps_v4_allocating_paths_vacant, path_section_lock}
+use Rattle.ilk_model.specs.Families.{has_required_locks, meets_v1_consistent_counts, meets_v2_sections_held_once, meets_v3_locks_match_routes, meets_v4_allocating_paths_vacant, path_section_lock}
 use Rattle.ilk_model.specs.Holding.{all_path_indices_pass_test, holds_section, is_holding_state, is_unreleased_on_path, is_locked_or_occupied, is_vacant, route_holds}
 use Rattle.ilk_model.proofs.Alike.{one_mode}
-use Rattle.ilk_strict.proofs.Reading.{RouteIn, all_below-at, all_below-from, all_path_indices_pass_test-at, all_path_indices_pass_test-from, all_routes_pass_test-at, all_routes_pass_test-from, has_lock_state-at, has_lock_state-from, kept-at, kept-from, passes-at, passes-from}
+use Rattle.ilk_strict.proofs.Reading.{RouteIn, is_true_for_all_below-at, is_true_for_all_below-from, all_path_indices_pass_test-at, all_path_indices_pass_test-from, all_routes_pass_test-at, all_routes_pass_test-from, has_lock_state-at, has_lock_state-from, kept-at, kept-from, passes-at, passes-from}
 
 pub all_vacant-at : (s : State) (xs : List ℕ) → list_all (is_vacant s) xs ≡ true → (i x : ℕ) → slice_get xs i ≡ Some x → is_occupied s x ≡ false
 all_vacant-at s xs h i x at = fails (is_occupied s x) (list_all-slice_get (is_vacant s) xs i x h at)
@@ -86,13 +86,13 @@ counts-in_use route now busy behind within =
     rw busy (and_from (nat_lt now.rel now.seen) (nat_le now.seen (length route.path)) first second)
 
 module _ (p : PlantLists) (s : State) where
-  pub idle : keeps_v1_consistent_counts p s ≡ true → (r : ℕ) (route : Route) (now : RouteState) → RouteIn p s r route now → same_mode now.mode Occupied ≡ false → (now.seen ≡ 0) × (now.rel ≡ 0)
+  pub idle : meets_v1_consistent_counts p s ≡ true → (r : ℕ) (route : Route) (now : RouteState) → RouteIn p s r route now → same_mode now.mode Occupied ≡ false → (now.seen ≡ 0) × (now.rel ≡ 0)
   idle kept r route now it mode =
       let here : (now.seen == 0 && now.rel == 0) ≡ true = rw mode at (all_routes_pass_test-at p s counts_right kept r route now it) in
       let parts = and_parts (now.seen == 0) (now.rel == 0) here in
       (eqb-true now.seen 0 parts.0, eqb-true now.rel 0 parts.1)
 
-  pub in_use : keeps_v1_consistent_counts p s ≡ true → (r : ℕ) (route : Route) (now : RouteState) → RouteIn p s r route now → same_mode now.mode Occupied ≡ true → (now.rel < now.seen) × (now.seen ≤ length route.path)
+  pub in_use : meets_v1_consistent_counts p s ≡ true → (r : ℕ) (route : Route) (now : RouteState) → RouteIn p s r route now → same_mode now.mode Occupied ≡ true → (now.rel < now.seen) × (now.seen ≤ length route.path)
   in_use kept r route now it mode =
       let here : (nat_lt now.rel now.seen && nat_le now.seen (length route.path)) ≡ true = rw mode at (all_routes_pass_test-at p s counts_right kept r route now it) in
       let parts = and_parts (nat_lt now.rel now.seen) (nat_le now.seen (length route.path)) here in
@@ -100,28 +100,29 @@ module _ (p : PlantLists) (s : State) where
       let second : nat_le now.seen (length route.path) ≡ true = parts.1 in
       (grind (arith, nat_tests), grind (arith, nat_tests))
 
-  pub rel-seen : keeps_v1_consistent_counts p s ≡ true → (r : ℕ) (route : Route) (now : RouteState) → RouteIn p s r route now → now.rel ≤ now.seen
+  pub rel-seen : meets_v1_consistent_counts p s ≡ true → (r : ℕ) (route : Route) (now : RouteState) → RouteIn p s r route now → now.rel ≤ now.seen
   rel-seen kept r route now it = elim (cases_Bool (same_mode now.mode Occupied)) [
     | inl busy ↦ (let counts = in_use kept r route now it busy in let less = counts.0 in omega (arith, less))
     | inr away ↦ (let counts = idle kept r route now it away in let none = counts.1 in omega (arith, none))
   ]
 
-  pub rel-led : keeps_v1_consistent_counts p s ≡ true → (r : ℕ) (route : Route) (now : RouteState) → RouteIn p s r route now → (i : ℕ) → now.seen ≤ i + 1 → now.rel ≤ i
+  pub rel-led : meets_v1_consistent_counts p s ≡ true → (r : ℕ) (route : Route) (now : RouteState) → RouteIn p s r route now → (i : ℕ) → now.seen ≤ i + 1 → now.rel ≤ i
   rel-led kept r route now it i few = elim (cases_Bool (same_mode now.mode Occupied)) [
     | inl busy ↦ (let counts = in_use kept r route now it busy in let less = counts.0 in omega (arith, less, few))
     | inr away ↦ (let counts = idle kept r route now it away in let none = counts.1 in omega (arith, none))
   ]
 
-  pub alone : keeps_v2_sections_held_once p s ≡ true → (r : ℕ) (route : Route) (now : RouteState) → RouteIn p s r route now →
+  pub alone : meets_v2_sections_held_once p s ≡ true → (r : ℕ) (route : Route) (now : RouteState) → RouteIn p s r route now →
       (q : ℕ) (other : Route) (its : RouteState) → RouteIn p s q other its → (x : ℕ) → x < length p.sections →
       holds_section x route now ≡ true → holds_section x other its ≡ true → r ≡ q
   alone kept r route now it q other its that x within here there =
-      let row = all_below-at (length p.routes) (λ a. all_below (length p.routes) (λ b. a == b || all_below (length p.sections) (λ y. not (route_holds p s a y && route_holds p s b y)))) kept r (slice_get_within p.routes r route it.known) in
-      let cell = all_below-at (length p.routes) (λ b. r == b || all_below (length p.sections) (λ y. not (route_holds p s r y && route_holds p s b y))) row q (slice_get_within p.routes q other that.known) in
-      elim (either (r == q) (all_below (length p.sections) (λ y. not (route_holds p s r y && route_holds p s q y))) cell) [
+      let row = is_true_for_all_below-at (length p.routes) (λ a. is_true_for_all_below (length p.routes) (λ b. a == b || is_true_for_all_below (length p.sections) (λ y. not (route_holds p s a y && route_holds p s b y)))) kept r
+      (slice_get_within p.routes r route it.known) in
+      let cell = is_true_for_all_below-at (length p.routes) (λ b. r == b || is_true_for_all_below (length p.sections) (λ y. not (route_holds p s r y && route_holds p s b y))) row q (slice_get_within p.routes q other that.known) in
+      elim (either (r == q) (is_true_for_all_below (length p.sections) (λ y. not (route_holds p s r y && route_holds p s q y))) cell) [
         | inl same ↦ eqb-true r q same
         | inr apart ↦
-            (let none = all_below-at (length p.sections) (λ y. not (route_holds p s r y && route_holds p s q y)) apart x within in
+            (let none = is_true_for_all_below-at (length p.sections) (λ y. not (route_holds p s r y && route_holds p s q y)) apart x within in
             let both = and_from (route_holds p s r x) (route_holds p s q x) (passes-from p s r (holds_section x) route now it here) (passes-from p s q (holds_section x) other its that there) in
             absurd (both_ways (route_holds p s r x && route_holds p s q x) (fails (route_holds p s r x && route_holds p s q x) none) both))
       ]
@@ -131,28 +132,28 @@ module _ (p : PlantLists) (s : State) where
       (q : ℕ) (other : Route) (its : RouteState) → RouteIn p s q other its → (x : ℕ) →
       x < length p.sections → holds_section x route now ≡ true → holds_section x other its ≡ true → r ≡ q)
       →
-      keeps_v2_sections_held_once p s ≡ true
+      meets_v2_sections_held_once p s ≡ true
   alone-from each =
-      all_below-from (length p.routes) (λ a. all_below (length p.routes) (λ b. a == b || all_below (length p.sections) (λ y. not (route_holds p s a y && route_holds p s b y)))) (λ r less.
-      all_below-from (length p.routes) (λ b. r == b || all_below (length p.sections) (λ y. not (route_holds p s r y && route_holds p s b y))) (λ q fewer. pair r q))
+      is_true_for_all_below-from (length p.routes) (λ a. is_true_for_all_below (length p.routes) (λ b. a == b || is_true_for_all_below (length p.sections) (λ y. not (route_holds p s a y && route_holds p s b y)))) (λ r less.
+      is_true_for_all_below-from (length p.routes) (λ b. r == b || is_true_for_all_below (length p.sections) (λ y. not (route_holds p s r y && route_holds p s b y))) (λ q fewer. pair r q))
     where
       not_both : (a b : Bool) → (a ≡ true → b ≡ true → ⊥) → not (a && b) ≡ true
       not_both true true apart = absurd (apart refl refl)
       not_both true false apart = refl
       not_both false b apart = refl
 
-      pair : (r q : ℕ) → (r == q || all_below (length p.sections) (λ y. not (route_holds p s r y && route_holds p s q y))) ≡ true
+      pair : (r q : ℕ) → (r == q || is_true_for_all_below (length p.sections) (λ y. not (route_holds p s r y && route_holds p s q y))) ≡ true
       pair r q = elim (cases_Bool (r == q)) [
-        | inl same ↦ or_left (r == q) (all_below (length p.sections) (λ y. not (route_holds p s r y && route_holds p s q y))) same
-        | inr differ ↦ or_right (r == q) (all_below (length p.sections) (λ y. not (route_holds p s r y && route_holds p s q y)))
-            (all_below-from (length p.sections) (λ y. not (route_holds p s r y && route_holds p s q y)) (λ x within. not_both (route_holds p s r x) (route_holds p s q x) (λ first second.
+        | inl same ↦ or_left (r == q) (is_true_for_all_below (length p.sections) (λ y. not (route_holds p s r y && route_holds p s q y))) same
+        | inr differ ↦ or_right (r == q) (is_true_for_all_below (length p.sections) (λ y. not (route_holds p s r y && route_holds p s q y)))
+            (is_true_for_all_below-from (length p.sections) (λ y. not (route_holds p s r y && route_holds p s q y)) (λ x within. not_both (route_holds p s r x) (route_holds p s q x) (λ first second.
             let one = passes-at p s r (holds_section x) first in
             let two = passes-at p s q (holds_section x) second in
             let same = each r one.0 one.1 one.2 q two.0 two.1 two.2 x within one.3 two.3 in
             both_ways (r == q) differ (eq-eqb r q same))))
       ]
 
-  pub lock-path : keeps_v3_locks_match_routes p s ≡ true → (r : ℕ) (route : Route) (now : RouteState) → RouteIn p s r route now → is_holding_state now ≡ true → (i x : ℕ) → now.rel ≤ i → slice_get route.path i ≡ Some x
+  pub lock-path : meets_v3_locks_match_routes p s ≡ true → (r : ℕ) (route : Route) (now : RouteState) → RouteIn p s r route now → is_holding_state now ≡ true → (i x : ℕ) → now.rel ≤ i → slice_get route.path i ≡ Some x
       → slice_get s.locks x ≡ Some (path_section_lock now i)
   lock-path kept r route now it holds i x least at =
       let locks : has_required_locks s route now
@@ -166,7 +167,7 @@ module _ (p : PlantLists) (s : State) where
       counted : (a b : Bool) → a ≡ true → (not a || b) ≡ true → b ≡ true
       counted a b e h = rw e at h
 
-  pub lock-beside : keeps_v3_locks_match_routes p s ≡ true → (r : ℕ) (route : Route) (now : RouteState) → RouteIn p s r route now → is_holding_state now ≡ true → (x : ℕ) → contains_section x (sections_outside_path route) ≡ true →
+  pub lock-beside : meets_v3_locks_match_routes p s ≡ true → (r : ℕ) (route : Route) (now : RouteState) → RouteIn p s r route now → is_holding_state now ≡ true → (x : ℕ) → contains_section x (sections_outside_path route) ≡ true →
       slice_get s.locks x ≡ Some LockedLock
   lock-beside kept r route now it holds x beside =
       let locks : has_required_locks s route now
@@ -182,7 +183,7 @@ module _ (p : PlantLists) (s : State) where
       slice_get s.locks x ≡ Some (path_section_lock now i)) ×
       ((x : ℕ) → contains_section x (sections_outside_path route) ≡ true →
       slice_get s.locks x ≡ Some LockedLock)) →
-      keeps_v3_locks_match_routes p s ≡ true
+      meets_v3_locks_match_routes p s ≡ true
   locks-from count each =
       all_routes_pass_test-from p s (λ route now. if is_holding_state now then has_required_locks s route now else true) count (λ r route now it.
       passes-if (is_holding_state now) (has_required_locks s route now) (λ holds.
@@ -198,7 +199,7 @@ module _ (p : PlantLists) (s : State) where
         | inr test ↦ (rw test refl)
       ]
 
-  pub held-not_free : keeps_v3_locks_match_routes p s ≡ true → (r : ℕ) (route : Route) (now : RouteState) → RouteIn p s r route now → (x : ℕ) → holds_section x route now ≡ true → slice_get s.locks x ≡ Some FreeLock → ⊥
+  pub held-not_free : meets_v3_locks_match_routes p s ≡ true → (r : ℕ) (route : Route) (now : RouteState) → RouteIn p s r route now → (x : ℕ) → holds_section x route now ≡ true → slice_get s.locks x ≡ Some FreeLock → ⊥
   held-not_free kept r route now it x held free =
       let cases = holds-cases route now x held in
       elim cases.1 [
@@ -210,7 +211,7 @@ module _ (p : PlantLists) (s : State) where
       used-or_locked true e = cc
       used-or_locked false e = cc
 
-  pub vacant-path : keeps_v4_allocating_paths_vacant p s ≡ true → (r : ℕ) (route : Route) (now : RouteState) → RouteIn p s r route now → now.mode ≡ Allocating → (i x : ℕ) → slice_get route.path i ≡ Some x → is_occupied s x ≡ false
+  pub vacant-path : meets_v4_allocating_paths_vacant p s ≡ true → (r : ℕ) (route : Route) (now : RouteState) → RouteIn p s r route now → now.mode ≡ Allocating → (i x : ℕ) → slice_get route.path i ≡ Some x → is_occupied s x ≡ false
   vacant-path kept r route now it mode i x at =
       all_vacant-at s route.path
       (if-passes (same_mode now.mode Allocating) (list_all (is_vacant s) route.path)
@@ -219,7 +220,7 @@ module _ (p : PlantLists) (s : State) where
       else true) kept r route now it) (rw mode refl)) i x at
 
   pub vacant-from : length s.routes ≡ length p.routes → ((r : ℕ) (route : Route) (now : RouteState) → RouteIn p s r route now → now.mode ≡ Allocating → (i x : ℕ) → slice_get route.path i ≡ Some x → is_occupied s x ≡ false) →
-      keeps_v4_allocating_paths_vacant p s ≡ true
+      meets_v4_allocating_paths_vacant p s ≡ true
   vacant-from count each =
       all_routes_pass_test-from p s (λ route now. if same_mode now.mode Allocating then list_all (is_vacant s) route.path else true) count (λ r route now it.
       passes-if (same_mode now.mode Allocating) (list_all (is_vacant s) route.path) (λ mode. all_vacant-from s route.path (each r route now it (one_mode now.mode Allocating mode))))

@@ -14,7 +14,7 @@ use Rattle.ilk_base.proofs.Options.{mapped-None}
 use Rattle.ilk_plant.specs.Network.{contains_section}
 use Rattle.ilk_plant.specs.Plant.{PlantLists}
 use Rattle.ilk_plant.specs.Shape.{HasShape, has_nonempty_connected_body}
-use Rattle.ilk_plant.specs.State.{is_occupied, detected_position}
+use Rattle.ilk_plant.specs.State.{is_occupied, detected_position_in_state}
 use Rattle.ilk_plant.specs.declared.network.Board.{Board}
 use Rattle.ilk_plant.specs.declared.network.Dir.{Dir}
 use Rattle.ilk_plant.specs.declared.network.Section.{Section}
@@ -29,7 +29,7 @@ use Rattle.ilk_plant.proofs.Alike.{one_direction, own_direction}
 use Rattle.ilk_plant.proofs.Shapes.{body-last}
 use Rattle.ilk_routes.specs.Boards.{has_aspect}
 use Rattle.ilk_routes.specs.Modes.{same_mode}
-use Rattle.ilk_model.specs.Families.{is_unreleased_on_some_route, head_is_led_by_route, keeps_v1_consistent_counts, keeps_v2_sections_held_once, keeps_v3_locks_match_routes, keeps_v4_allocating_paths_vacant, keeps_v5_open_needs_locked, keeps_v6_route_points_set, keeps_v7_heads_have_routes, keeps_v8_bodies_have_routes, keeps_v9_protecting_boards_closed}
+use Rattle.ilk_model.specs.Families.{is_unreleased_on_some_route, head_is_led_by_route, meets_v1_consistent_counts, meets_v2_sections_held_once, meets_v3_locks_match_routes, meets_v4_allocating_paths_vacant, meets_v5_open_needs_locked, meets_v6_points_match_modes, meets_v7_heads_have_routes, meets_v8_bodies_have_routes, meets_v9_protecting_boards_closed}
 use Rattle.ilk_model.specs.Hazard.{is_section_hazardous, has_two_trains, is_wrong_under_train, is_wrong_under_body}
 use Rattle.ilk_model.specs.Holding.{is_unreleased_on_path, is_locked_or_occupied, continues_without_board, is_vacant, route_runs_in_direction, any_path_index_passes_test}
 use Rattle.ilk_model.specs.Meets.{Meets}
@@ -132,7 +132,7 @@ module _ (p : PlantLists) (s : State) where
       all_of : may_lead led.route led.now ≡ true → nat_le led.now.seen (led.i + 1) ≡ true → list_all (is_vacant s) (drop (led.i + 1) led.route.path) ≡ true → leads d x led.route led.now led.i x ≡ true
       all_of mode seen vacant = and_from _ _ (and_from _ _ (and_from _ _ (and_from _ _ (eq-eqb x x refl) led.runs) mode) seen) vacant
 
-  pub head-led : keeps_v7_heads_have_routes p s ≡ true → (i : ℕ) (train : Train) (x : ℕ) → slice_get s.trains i ≡ Some train → last_or None train.body ≡ Some x → continues_without_board p train.dir x ≡ true → IsLedBy p s train.dir x
+  pub head-led : meets_v7_heads_have_routes p s ≡ true → (i : ℕ) (train : Train) (x : ℕ) → slice_get s.trains i ≡ Some train → last_or None train.body ≡ Some x → continues_without_board p train.dir x ≡ true → IsLedBy p s train.dir x
   head-led kept i train x at last plain =
       let here : (if continues_without_board p train.dir x then head_is_led_by_route p s train.dir x else true) ≡ true = rw last at
       (list_all-slice_get
@@ -142,7 +142,7 @@ module _ (p : PlantLists) (s : State) where
       led-at train.dir x (if-passes (continues_without_board p train.dir x) (head_is_led_by_route p s train.dir x) here plain)
 
   pub heads-from : HasShape p s → ((i : ℕ) (train : Train) (x : ℕ) → slice_get s.trains i ≡ Some train → last_or None train.body ≡ Some x → continues_without_board p train.dir x ≡ true → IsLedBy p s train.dir x) →
-      keeps_v7_heads_have_routes p s ≡ true
+      meets_v7_heads_have_routes p s ≡ true
   heads-from shape each =
       all-pass (λ train. is_some_and (last_or None train.body) (λ x. if continues_without_board p train.dir x then head_is_led_by_route p s train.dir x else true)) s.trains (λ i train at.
       let last = body-last p train (list_all-slice_get (has_nonempty_connected_body p) s.trains i train shape.bodies at) in
@@ -180,12 +180,12 @@ module _ (p : PlantLists) (s : State) where
   abbrev is_kept_if_plain : Dir → ℕ → Bool
   is_kept_if_plain d x = if continues_without_board p d x then is_unreleased_on_some_route p s d x else true
 
-  pub body-kept : keeps_v8_bodies_have_routes p s ≡ true → (i : ℕ) (train : Train) → slice_get s.trains i ≡ Some train → (k x : ℕ) → slice_get train.body k ≡ Some x → continues_without_board p train.dir x ≡ true → IsKeptBy p s train.dir x
+  pub body-kept : meets_v8_bodies_have_routes p s ≡ true → (i : ℕ) (train : Train) → slice_get s.trains i ≡ Some train → (k x : ℕ) → slice_get train.body k ≡ Some x → continues_without_board p train.dir x ≡ true → IsKeptBy p s train.dir x
   body-kept kept i train at k x place plain =
       let body = list_all-slice_get (λ train. list_all (is_kept_if_plain train.dir) train.body) s.trains i train kept at in
       kept_for-at train.dir x (if-passes (continues_without_board p train.dir x) (is_unreleased_on_some_route p s train.dir x) (list_all-slice_get (is_kept_if_plain train.dir) train.body k x body place) plain)
 
-  pub bodies-from : ((i : ℕ) (train : Train) → slice_get s.trains i ≡ Some train → (k x : ℕ) → slice_get train.body k ≡ Some x → continues_without_board p train.dir x ≡ true → IsKeptBy p s train.dir x) → keeps_v8_bodies_have_routes p s ≡ true
+  pub bodies-from : ((i : ℕ) (train : Train) → slice_get s.trains i ≡ Some train → (k x : ℕ) → slice_get train.body k ≡ Some x → continues_without_board p train.dir x ≡ true → IsKeptBy p s train.dir x) → meets_v8_bodies_have_routes p s ≡ true
   bodies-from each =
       all-pass (λ train. list_all (is_kept_if_plain train.dir) train.body) s.trains (λ i train at.
       all-pass (is_kept_if_plain train.dir) train.body (λ k x place.
@@ -206,15 +206,15 @@ module _ (p : PlantLists) (s : State) where
 
   pub wrong-at : (x : ℕ) → is_wrong_under_train p s x ≡ false → (stem plus minus : ℕ) (faces : Dir) →
       slice_get p.sections x ≡ Some (Point stem plus minus faces) → (i : ℕ) (train : Train) →
-      slice_get s.trains i ≡ Some train → is_wrong_under_body x plus minus (detected_position p s x) train.body ≡ false
+      slice_get s.trains i ≡ Some train → is_wrong_under_body x plus minus (detected_position_in_state p s x) train.body ≡ false
   wrong-at x none stem plus minus faces section i train at =
-      let each : list_any (λ train. is_wrong_under_body x plus minus (detected_position p s x) train.body) s.trains ≡ false = rw section at none in
-      list_any-none (λ train. is_wrong_under_body x plus minus (detected_position p s x) train.body) s.trains i train each at
+      let each : list_any (λ train. is_wrong_under_body x plus minus (detected_position_in_state p s x) train.body) s.trains ≡ false = rw section at none in
+      list_any-none (λ train. is_wrong_under_body x plus minus (detected_position_in_state p s x) train.body) s.trains i train each at
 
   pub wrong-from : (x : ℕ) →
       ((stem plus minus : ℕ) (faces : Dir) → slice_get p.sections x ≡ Some (Point stem plus minus faces) →
       (i : ℕ) (train : Train) → slice_get s.trains i ≡ Some train →
-      is_wrong_under_body x plus minus (detected_position p s x) train.body ≡ false) →
+      is_wrong_under_body x plus minus (detected_position_in_state p s x) train.body ≡ false) →
       is_wrong_under_train p s x ≡ false
   wrong-from x each = by_section (slice_get p.sections x) refl
     where
@@ -222,19 +222,19 @@ module _ (p : PlantLists) (s : State) where
       by_section None e = rw e refl
       by_section (Some (Linear down up board_down board_up)) e = rw e refl
       by_section (Some (Point stem plus minus faces)) e =
-          rw e (none-pass (λ train. is_wrong_under_body x plus minus (detected_position p s x) train.body) s.trains (each stem plus minus faces e))
+          rw e (none-pass (λ train. is_wrong_under_body x plus minus (detected_position_in_state p s x) train.body) s.trains (each stem plus minus faces e))
 
 pub record Keeps (p : PlantLists) (s : State) : Type 0 where
   pub shape : HasShape p s
-  pub v1 : keeps_v1_consistent_counts p s ≡ true
-  pub v2 : keeps_v2_sections_held_once p s ≡ true
-  pub v3 : keeps_v3_locks_match_routes p s ≡ true
-  pub v4 : keeps_v4_allocating_paths_vacant p s ≡ true
-  pub v5 : keeps_v5_open_needs_locked p s ≡ true
-  pub v6 : keeps_v6_route_points_set p s ≡ true
-  pub v7 : keeps_v7_heads_have_routes p s ≡ true
-  pub v8 : keeps_v8_bodies_have_routes p s ≡ true
-  pub v9 : keeps_v9_protecting_boards_closed p s ≡ true
+  pub v1 : meets_v1_consistent_counts p s ≡ true
+  pub v2 : meets_v2_sections_held_once p s ≡ true
+  pub v3 : meets_v3_locks_match_routes p s ≡ true
+  pub v4 : meets_v4_allocating_paths_vacant p s ≡ true
+  pub v5 : meets_v5_open_needs_locked p s ≡ true
+  pub v6 : meets_v6_points_match_modes p s ≡ true
+  pub v7 : meets_v7_heads_have_routes p s ≡ true
+  pub v8 : meets_v8_bodies_have_routes p s ≡ true
+  pub v9 : meets_v9_protecting_boards_closed p s ≡ true
   pub one_train : (x : ℕ) → x < length p.sections → has_two_trains s x ≡ false
   pub right_point : (x : ℕ) → x < length p.sections → is_wrong_under_train p s x ≡ false
 
@@ -242,15 +242,15 @@ pub keeps-of : (p : PlantLists) (s : State) → Meets p s → Keeps p s
 keeps-of p s meets =
     let none = mapped-None _ (find (is_section_hazardous p s) (range_with_len 0 (length p.sections))) meets.no_hazard in
     let calm : (x : ℕ) → x < length p.sections → is_section_hazardous p s x ≡ false = λ x within. find-none-at (is_section_hazardous p s) (range_with_len 0 (length p.sections)) x x none (range-at (length p.sections) x within) in
-    let one = and_parts (keeps_v1_consistent_counts p s) _ meets.families_kept in
-    let two = and_parts (keeps_v2_sections_held_once p s) _ one.1 in
-    let three = and_parts (keeps_v3_locks_match_routes p s) _ two.1 in
-    let four = and_parts (keeps_v4_allocating_paths_vacant p s) _ three.1 in
-    let five = and_parts (keeps_v5_open_needs_locked p s) _ four.1 in
-    let six = and_parts (keeps_v6_route_points_set p s) _ five.1 in
-    let seven = and_parts (keeps_v7_heads_have_routes p s) _ six.1 in
-    let eight = and_parts (keeps_v8_bodies_have_routes p s) _ seven.1 in
-    let nine = and_parts (keeps_v9_protecting_boards_closed p s) _ eight.1 in
+    let one = and_parts (meets_v1_consistent_counts p s) _ meets.families_kept in
+    let two = and_parts (meets_v2_sections_held_once p s) _ one.1 in
+    let three = and_parts (meets_v3_locks_match_routes p s) _ two.1 in
+    let four = and_parts (meets_v4_allocating_paths_vacant p s) _ three.1 in
+    let five = and_parts (meets_v5_open_needs_locked p s) _ four.1 in
+    let six = and_parts (meets_v6_points_match_modes p s) _ five.1 in
+    let seven = and_parts (meets_v7_heads_have_routes p s) _ six.1 in
+    let eight = and_parts (meets_v8_bodies_have_routes p s) _ seven.1 in
+    let nine = and_parts (meets_v9_protecting_boards_closed p s) _ eight.1 in
     record {
       shape = meets.shape;
       v1 = one.0;

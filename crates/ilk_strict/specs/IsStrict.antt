@@ -3,9 +3,9 @@
 -- on the other parts of C2 (destination, boards inside a path) and of C3 (overlap).
 use Rattle.std.specs.Prelude.{ℕ, ◌+◌, ◌<◌, ◌≡◌, Bool, false, not, Some, ◌∷◌, IsTrue, drop, length, slice_get, take}
 use Rattle.ilk_base.specs.Option.{is_some_and}
-use Rattle.ilk_plant.specs.ColumnRules.{breaks_column_rule_at, has_no_board, is_listed_towards_any, points_listed_along_sections, source_satisfies}
+use Rattle.ilk_plant.specs.ColumnRules.{breaks_column_rule_at, has_no_board, is_listed_towards_any_section, points_listed_along_sections, source_satisfies}
 use Rattle.ilk_plant.specs.Network.{contains_section, last_of}
-use Rattle.ilk_plant.specs.Plant.{PlantLists, section_inward_if_border, is_point_section, next_to}
+use Rattle.ilk_plant.specs.Plant.{PlantLists, inward_direction_if_border, is_point_section, next_to}
 use Rattle.ilk_plant.specs.TableRules.{route_fails}
 use Rattle.ilk_plant.specs.declared.broken.Rule.TheVariants.{C1, C7}
 use Rattle.ilk_plant.specs.declared.network.Board.{Board}
@@ -21,14 +21,14 @@ path_points_listed_along_path p route =
 
 -- Returns whether a route keeps the part of C2 about its end. The last path section has a board in
 -- the route's direction, or no neighbour there.
-abbrev pub ends_at_board_or_border : PlantLists → Route → Bool
-ends_at_board_or_border p route =
+abbrev pub does_not_end_between_boards : PlantLists → Route → Bool
+does_not_end_between_boards p route =
     source_satisfies p route (λ source. is_some_and (last_of route.path) (λ x. not (continues_without_board p source.dir x)))
 
 -- Holds if all routes keep C1, the end of a path in C2 and the path in C3, and all borders keep C7.
 pub record KeepsPathRules (p : PlantLists) : Type 0 where
   pub c1 : (i : ℕ) → i < length p.routes → breaks_column_rule_at p C1 i ≡ false
-  pub c2 : (i : ℕ) → i < length p.routes → route_fails p (ends_at_board_or_border p) i ≡ false
+  pub c2 : (i : ℕ) → i < length p.routes → route_fails p (does_not_end_between_boards p) i ≡ false
   pub c3 : (i : ℕ) → i < length p.routes → route_fails p (path_points_listed_along_path p) i ≡ false
   pub c7 : (x : ℕ) → x < length p.sections → breaks_column_rule_at p C7 x ≡ false
 
@@ -49,6 +49,6 @@ pub record IsStrict (p : PlantLists) : Type 0 where
   pub points : (r : ℕ) (route : Route) (source : Board) → IsRouteWithSource p r route source → (k before x : ℕ) →
       slice_get (source.section ∷ route.path) k ≡ Some before → slice_get route.path k ≡ Some x →
       IsTrue (is_point_section p x) →
-      IsTrue (is_listed_towards_any p route.points (before ∷ take 1 (drop (k + 1) route.path)) x)
+      IsTrue (is_listed_towards_any_section p route.points (before ∷ take 1 (drop (k + 1) route.path)) x)
   -- C7: a border has a board in its inward direction.
-  pub borders : (x : ℕ) (d : Dir) → section_inward_if_border p x ≡ Some d → has_no_board p d x ≡ false
+  pub borders : (x : ℕ) (d : Dir) → inward_direction_if_border p x ≡ Some d → has_no_board p d x ≡ false

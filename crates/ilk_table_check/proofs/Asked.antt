@@ -13,7 +13,7 @@ use Rattle.ilk_plant.specs.Plant.{PlantLists}
 use Rattle.ilk_plant.specs.declared.broken.Broken.{Broken}
 use Rattle.ilk_plant.specs.declared.broken.Rule.{Rule}
 use Rattle.ilk_plant.specs.declared.table.Route.{Route}
-use Rattle.ilk_table_check.specs.Columns.{listed_conflict_matrix, leaves_later_route_unlisted, leaves_other_route_unlisted, conflict_flags, conflict_flag_or_false, broken_pairs_with_first}
+use Rattle.ilk_table_check.specs.Columns.{listed_conflict_matrix, has_later_route_not_listed, has_other_route_not_listed, listed_conflict_flags, listed_conflict_flag_or_false, broken_pairs_with_first}
 use Rattle.ilk_table_check.proofs.Flagged.{lists_as_conflict-flagged, row-flagged}
 
 none_pass : (test : ℕ → Bool) (a n : ℕ) → ((j : ℕ) → j < a + n → test j ≡ false) → filter test (range_with_len a n) ≡ []
@@ -27,7 +27,7 @@ adds_none rule n i test found none =
 
 pub none_alone : (p : PlantLists) (listed : List (List Bool)) (conflicts : List ℕ) (i : ℕ) (route : Route) →
     listed ≡ listed_conflict_matrix p → conflicts ≡ route.conflicts → i < length p.routes →
-    slice_get p.routes i ≡ Some route → list_any (λ j. not (conflict_flag_or_false listed j i)) conflicts ≡ false →
+    slice_get p.routes i ≡ Some route → list_any (λ j. not (listed_conflict_flag_or_false listed j i)) conflicts ≡ false →
     (j : ℕ) → j < length p.routes → lists_conflict_one_way p i j ≡ false
 none_alone p listed conflicts i route is own first at none j second =
     rw at (by_test (list_any (λ r. r == j) route.conflicts) refl)
@@ -37,33 +37,33 @@ none_alone p listed conflicts i route is own first at none j second =
     by_test true e =
         let found = list_any-at (λ r. r == j) route.conflicts e in
         let same : found.1 ≡ j = grind (arith, nat_tests, found.3) in
-        let each : list_any (λ r. not (conflict_flag_or_false listed r i)) route.conflicts ≡ false = ap (list_any (λ r. not (conflict_flag_or_false listed r i))) (sym own) ∙ none in
-        let back : not (conflict_flag_or_false listed found.1 i) ≡ false = list_any-none (λ r. not (conflict_flag_or_false listed r i)) route.conflicts found.0 found.1 each found.2 in
-        ap not (sym (lists_as_conflict-flagged p listed j i is second first)) ∙ ap (λ r. not (conflict_flag_or_false listed r i)) (sym same) ∙ back
+        let each : list_any (λ r. not (listed_conflict_flag_or_false listed r i)) route.conflicts ≡ false = ap (list_any (λ r. not (listed_conflict_flag_or_false listed r i))) (sym own) ∙ none in
+        let back : not (listed_conflict_flag_or_false listed found.1 i) ≡ false = list_any-none (λ r. not (listed_conflict_flag_or_false listed r i)) route.conflicts found.0 found.1 each found.2 in
+        ap not (sym (lists_as_conflict-flagged p listed j i is second first)) ∙ ap (λ r. not (listed_conflict_flag_or_false listed r i)) (sym same) ∙ back
 
 neither : (b c : Bool) → c ≡ false → (b && c) ≡ false
 neither true c unset = unset
 neither false c unset = refl
 
-own_flag : (p : PlantLists) (i j : ℕ) → j < length p.routes → slice_get (conflict_flags p i) j ≡ Some (lists_as_conflict p i j)
+own_flag : (p : PlantLists) (i j : ℕ) → j < length p.routes → slice_get (listed_conflict_flags p i) j ≡ Some (lists_as_conflict p i j)
 own_flag p i j second =
     slice_get-map (lists_as_conflict p i) (range_with_len 0 (length p.routes)) j ∙ ap (option_map (lists_as_conflict p i)) (range-at (length p.routes) j second)
 
-listed_after : (p : PlantLists) (i j : ℕ) → j < length p.routes → i < j → list_any not (drop (i + 1) (conflict_flags p i)) ≡ false → not (lists_as_conflict p i j) ≡ false
+listed_after : (p : PlantLists) (i j : ℕ) → j < length p.routes → i < j → list_any not (drop (i + 1) (listed_conflict_flags p i)) ≡ false → not (lists_as_conflict p i j) ≡ false
 listed_after p i j second later set =
-    let flags = conflict_flags p i in
+    let flags = listed_conflict_flags p i in
     list_any-none not (drop (i + 1) flags) (j - (i + 1)) (lists_as_conflict p i j) set (get-dropped flags (i + 1) (j - (i + 1)) ∙ ap (slice_get flags) (omega (arith, later)) ∙ own_flag p i j second)
 
-listed_before : (p : PlantLists) (i j : ℕ) → j < length p.routes → j < i → list_any not (take i (conflict_flags p i)) ≡ false → not (lists_as_conflict p i j) ≡ false
+listed_before : (p : PlantLists) (i j : ℕ) → j < length p.routes → j < i → list_any not (take i (listed_conflict_flags p i)) ≡ false → not (lists_as_conflict p i j) ≡ false
 listed_before p i j second earlier set =
-    let flags = conflict_flags p i in
+    let flags = listed_conflict_flags p i in
     list_any-none not (take i flags) j (lists_as_conflict p i j) set (get-taken flags i j earlier ∙ own_flag p i j second)
 
-pub none_unlisted : (p : PlantLists) (listed : List (List Bool)) (i : ℕ) → listed ≡ listed_conflict_matrix p → i < length p.routes → leaves_later_route_unlisted listed i ≡ false → (j : ℕ) → j < length p.routes → shares_without_conflict p i j ≡ false
+pub none_unlisted : (p : PlantLists) (listed : List (List Bool)) (i : ℕ) → listed ≡ listed_conflict_matrix p → i < length p.routes → has_later_route_not_listed listed i ≡ false → (j : ℕ) → j < length p.routes → shares_without_conflict p i j ≡ false
 none_unlisted p listed i is first none j second =
     by_test (nat_lt i j) refl
   where
-    set : list_any not (drop (i + 1) (conflict_flags p i)) ≡ false
+    set : list_any not (drop (i + 1) (listed_conflict_flags p i)) ≡ false
     set = ap (λ found. is_some_and found (λ row. list_any not (drop (i + 1) row))) (sym (row-flagged p listed i is first)) ∙ none
 
     by_test : (b : Bool) → nat_lt i j ≡ b → (b && share_locked_section p i j && not (lists_as_conflict p i j)) ≡ false
@@ -82,26 +82,26 @@ none_kept p i j route at bare =
 pub none_protected : (p : PlantLists) (listed : List (List Bool)) (i : ℕ) (route : Route) →
     listed ≡ listed_conflict_matrix p → i < length p.routes → slice_get p.routes i ≡ Some route →
     (list_any (λ m. m == route.source) route.protecting_boards
-    || (nat_lt 0 (length route.protecting_boards) && leaves_other_route_unlisted listed i)) ≡ false → (j : ℕ) →
+    || (nat_lt 0 (length route.protecting_boards) && has_other_route_not_listed listed i)) ≡ false → (j : ℕ) →
     j < length p.routes → protects_without_conflict p i j ≡ false
 none_protected p listed i route is first at none j second =
     by_boards route.protecting_boards refl
   where
-    parts : (list_any (λ m. m == route.source) route.protecting_boards ≡ false) × ((nat_lt 0 (length route.protecting_boards) && leaves_other_route_unlisted listed i) ≡ false)
-    parts = or_parts (list_any (λ m. m == route.source) route.protecting_boards) (nat_lt 0 (length route.protecting_boards) && leaves_other_route_unlisted listed i) none
+    parts : (list_any (λ m. m == route.source) route.protecting_boards ≡ false) × ((nat_lt 0 (length route.protecting_boards) && has_other_route_not_listed listed i) ≡ false)
+    parts = or_parts (list_any (λ m. m == route.source) route.protecting_boards) (nat_lt 0 (length route.protecting_boards) && has_other_route_not_listed listed i) none
 
-    by_place : (b c : Bool) → nat_lt i j ≡ b → nat_lt j i ≡ c → leaves_other_route_unlisted listed i ≡ false → protects_without_conflict p i j ≡ false
+    by_place : (b c : Bool) → nat_lt i j ≡ b → nat_lt j i ≡ c → has_other_route_not_listed listed i ≡ false → protects_without_conflict p i j ≡ false
     by_place true c later e set =
-        let flags = or_parts (list_any not (take i (conflict_flags p i)))
-        (list_any not (drop (i + 1) (conflict_flags p i)))
+        let flags = or_parts (list_any not (take i (listed_conflict_flags p i)))
+        (list_any not (drop (i + 1) (listed_conflict_flags p i)))
         (ap
         (λ found. is_some_and found
         (λ row. list_any not (take i row) || list_any not (drop (i + 1) row)))
         (sym (row-flagged p listed i is first)) ∙ set) in
         neither (closes_source_of p i j) (not (lists_as_conflict p i j)) (listed_after p i j second (grind (arith, nat_tests, later)) flags.1)
     by_place false true e earlier set =
-        let flags = or_parts (list_any not (take i (conflict_flags p i)))
-        (list_any not (drop (i + 1) (conflict_flags p i)))
+        let flags = or_parts (list_any not (take i (listed_conflict_flags p i)))
+        (list_any not (drop (i + 1) (listed_conflict_flags p i)))
         (ap
         (λ found. is_some_and found
         (λ row. list_any not (take i row) || list_any not (drop (i + 1) row)))
@@ -116,4 +116,4 @@ none_protected p listed i route is first at none j second =
     by_boards [] bare = ap (λ b. b && not (lists_as_conflict p i j)) (none_kept p i j route at bare)
     by_boards (m ∷ more) some =
         let here : nat_lt 0 (length route.protecting_boards) ≡ true = rw some (grind (arith, nat_tests)) in
-        by_place (nat_lt i j) (nat_lt j i) refl refl (ap (λ b. b && leaves_other_route_unlisted listed i) (sym here) ∙ parts.1)
+        by_place (nat_lt i j) (nat_lt j i) refl refl (ap (λ b. b && has_other_route_not_listed listed i) (sym here) ∙ parts.1)

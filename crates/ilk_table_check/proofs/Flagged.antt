@@ -15,7 +15,7 @@ use Rattle.ilk_plant.specs.Plant.{PlantLists}
 use Rattle.ilk_plant.specs.TableRules.{protecting_points_of, sections_locked_for}
 use Rattle.ilk_plant.specs.declared.table.Listed.{Listed}
 use Rattle.ilk_plant.specs.declared.table.Route.{Route}
-use Rattle.ilk_table_check.specs.Columns.{listed_conflict_matrix, conflict_flags, conflict_flag_or_false, locked_flags}
+use Rattle.ilk_table_check.specs.Columns.{listed_conflict_matrix, listed_conflict_flags, listed_conflict_flag_or_false, locked_flags}
 
 pub flag_past : (flags : List Bool) (x y : ℕ) → length flags ≤ x → y < length flags → get_or flags y false ≡ (get_or flags y false || (x == y))
 flag_past flags x y past below =
@@ -43,7 +43,7 @@ points_more points i d y a b c within before after =
 
 pub listed-row : (p : PlantLists) (i n : ℕ) (route : Route) (flags : List Bool) (numbers : List ℕ) →
     n ≡ length p.routes → length flags ≡ n → numbers ≡ route.conflicts → slice_get p.routes i ≡ Some route →
-    ((y : ℕ) → y < n → get_or flags y false ≡ contains_section y numbers) → flags ≡ conflict_flags p i
+    ((y : ℕ) → y < n → get_or flags y false ≡ contains_section y numbers) → flags ≡ listed_conflict_flags p i
 listed-row p i n route flags numbers whole count own at tell =
     fill_by_all (lists_as_conflict p i) flags n false count (λ y below. tell y below ∙ ap (contains_section y) own ∙ rw at refl)
     ∙ ap (λ m. map (lists_as_conflict p i) (range_with_len 0 m)) whole
@@ -77,10 +77,10 @@ locked-row p i n route first second third path overlap points whole own_path own
         ∙ ap (λ b. b || contains_section y (map (λ listed. listed.point) points)) (by_overlap y (omega (arith, below, one)) ∙ ap (λ b. b || contains_section y overlap) (by_path y below))
         ∙ (λ j. (contains_section y (own_path j) || contains_section y (own_overlap j)) || contains_section y (map (λ listed. listed.point) (own_points j)))
 
-pub row-flagged : (p : PlantLists) (listed : List (List Bool)) (i : ℕ) → listed ≡ listed_conflict_matrix p → i < length p.routes → slice_get listed i ≡ Some (conflict_flags p i)
+pub row-flagged : (p : PlantLists) (listed : List (List Bool)) (i : ℕ) → listed ≡ listed_conflict_matrix p → i < length p.routes → slice_get listed i ≡ Some (listed_conflict_flags p i)
 row-flagged p listed i is first =
-    ap (λ l. slice_get l i) is ∙ slice_get-map (conflict_flags p) (range_with_len 0 (length p.routes)) i ∙ ap (option_map (conflict_flags p)) (range-at (length p.routes) i first)
+    ap (λ l. slice_get l i) is ∙ slice_get-map (listed_conflict_flags p) (range_with_len 0 (length p.routes)) i ∙ ap (option_map (listed_conflict_flags p)) (range-at (length p.routes) i first)
 
-pub lists_as_conflict-flagged : (p : PlantLists) (listed : List (List Bool)) (i j : ℕ) → listed ≡ listed_conflict_matrix p → i < length p.routes → j < length p.routes → conflict_flag_or_false listed i j ≡ lists_as_conflict p i j
+pub lists_as_conflict-flagged : (p : PlantLists) (listed : List (List Bool)) (i j : ℕ) → listed ≡ listed_conflict_matrix p → i < length p.routes → j < length p.routes → listed_conflict_flag_or_false listed i j ≡ lists_as_conflict p i j
 lists_as_conflict-flagged p listed i j is first second =
     rw (row-flagged p listed i is first) (get_or-map-range_with_len (lists_as_conflict p i) 0 (length p.routes) j j false second (omega arith))

@@ -17,24 +17,24 @@ broken_pairs_with_first rule n i is_broken =
     map (λ j. record { rule = rule; first = i; second = Some j }) (filter is_broken (range_with_len 0 n))
 
 -- Returns, for each route, whether route `i` lists it as a conflict.
-abbrev pub conflict_flags : PlantLists → ℕ → List Bool
-conflict_flags p i = map (lists_as_conflict p i) (range_with_len 0 (length p.routes))
+abbrev pub listed_conflict_flags : PlantLists → ℕ → List Bool
+listed_conflict_flags p i = map (lists_as_conflict p i) (range_with_len 0 (length p.routes))
 
 -- Returns a table: whether the row's route lists the column's route as a conflict.
 abbrev pub listed_conflict_matrix : PlantLists → List (List Bool)
-listed_conflict_matrix p = map (conflict_flags p) (range_with_len 0 (length p.routes))
+listed_conflict_matrix p = map (listed_conflict_flags p) (range_with_len 0 (length p.routes))
 
 -- Returns entry `j` of row `i` of the table of conflicts, or false if there is none.
-abbrev pub conflict_flag_or_false : List (List Bool) → ℕ → ℕ → Bool
-conflict_flag_or_false listed i j = is_some_and (slice_get listed i) (λ flags. slice_index_or flags j false)
+abbrev pub listed_conflict_flag_or_false : List (List Bool) → ℕ → ℕ → Bool
+listed_conflict_flag_or_false listed i j = is_some_and (slice_get listed i) (λ flags. slice_index_or flags j false)
 
 -- Returns whether route `i` doesn't list some later route as a conflict, by the table `listed`.
-abbrev pub leaves_later_route_unlisted : List (List Bool) → ℕ → Bool
-leaves_later_route_unlisted listed i = is_some_and (slice_get listed i) (λ flags. list_any not (drop (i + 1) flags))
+abbrev pub has_later_route_not_listed : List (List Bool) → ℕ → Bool
+has_later_route_not_listed listed i = is_some_and (slice_get listed i) (λ flags. list_any not (drop (i + 1) flags))
 
 -- Returns whether route `i` doesn't list some other route as a conflict, by the table `listed`.
-abbrev pub leaves_other_route_unlisted : List (List Bool) → ℕ → Bool
-leaves_other_route_unlisted listed i =
+abbrev pub has_other_route_not_listed : List (List Bool) → ℕ → Bool
+has_other_route_not_listed listed i =
     is_some_and (slice_get listed i) (λ flags. list_any not (take i flags) || list_any not (drop (i + 1) flags))
 
 -- Returns, for each section, whether it is locked for route `i`.

@@ -1,20 +1,21 @@
 ghost use Rattle.std.specs.Prelude.{ℕ, ◌≡◌, ◌&&◌, ◌||◌, ◌+◌, ◌<◌, drop, false, length, nat_lt, not, take};
 ghost use Rattle.std.specs.List.{list_any};
 ghost use Rattle.ilk_plant.specs.ColumnRules.{breaks_column_rule_at_pair};
-ghost use Rattle.ilk_table_check.specs.Columns.{listed_conflict_matrix, leaves_later_route_unlisted, leaves_other_route_unlisted, conflict_flag_or_false};
+ghost use Rattle.ilk_table_check.specs.Columns.{listed_conflict_matrix, has_later_route_not_listed, has_other_route_not_listed, listed_conflict_flag_or_false};
 ghost use Rattle.ilk_base.specs.Numbers.{has_number};
 
-use crate::conflicts::conflict_flag_or_false;
+use crate::conflicts::listed_conflict_flag_or_false;
 use crate::flags::Flags;
 use crate::pairs::is_protecting_board;
 use ilk_plant::{Plant, Route, Row, Rule};
 
 fn any_alone(listed: &Row<Flags>, conflicts: &[u32], i: u32) -> bool
-    ensures { result ≡ list_any (λ j. not (conflict_flag_or_false listed.now j i)) conflicts.now }
+    ensures { result ≡ list_any
+        (λ j. not (listed_conflict_flag_or_false listed.now j i)) conflicts.now }
 {
     conflicts
         .iter()
-        .any(|j| !conflict_flag_or_false(listed, *j, i))
+        .any(|j| !listed_conflict_flag_or_false(listed, *j, i))
 }
 
 fn any_unset_after(flags: &Flags, i: u32) -> bool
@@ -27,8 +28,8 @@ fn any_unset_after(flags: &Flags, i: u32) -> bool
         .any(|flag| !*flag)
 }
 
-fn leaves_later_route_unlisted(listed: &Row<Flags>, i: u32) -> bool
-    ensures { result ≡ leaves_later_route_unlisted listed.now i }
+fn has_later_route_not_listed(listed: &Row<Flags>, i: u32) -> bool
+    ensures { result ≡ has_later_route_not_listed listed.now i }
 {
     match listed.as_slice().get(i as usize) {
         Some(flags) => any_unset_after(flags, i),
@@ -48,8 +49,8 @@ fn any_other_unset(flags: &Flags, i: u32) -> bool
     any_unset_before(flags, i) || any_unset_after(flags, i)
 }
 
-fn leaves_other_route_unlisted(listed: &Row<Flags>, i: u32) -> bool
-    ensures { result ≡ leaves_other_route_unlisted listed.now i }
+fn has_other_route_not_listed(listed: &Row<Flags>, i: u32) -> bool
+    ensures { result ≡ has_other_route_not_listed listed.now i }
 {
     match listed.as_slice().get(i as usize) {
         Some(flags) => any_other_unset(flags, i),
@@ -61,11 +62,11 @@ fn leaves_other_route_unlisted(listed: &Row<Flags>, i: u32) -> bool
 // list.
 fn may_protect_unlisted(listed: &Row<Flags>, route: &Route, i: u32) -> bool
     ensures { result ≡ (has_number route.now.source route.now.protecting_boards
-        || (nat_lt 0 (length route.now.protecting_boards) && leaves_other_route_unlisted listed.now
+        || (nat_lt 0 (length route.now.protecting_boards) && has_other_route_not_listed listed.now
         i)) }
 {
     is_protecting_board(route, route.source)
-        || (route.protecting_boards.len() > 0 && leaves_other_route_unlisted(listed, i))
+        || (route.protecting_boards.len() > 0 && has_other_route_not_listed(listed, i))
 }
 
 /// Returns whether `rule` (C5, C6 or C8) may be violated at a pair of routes that begins with route
@@ -85,7 +86,7 @@ pub(crate) fn may_break_with_first_route(
     let route = plant.route(i);
     match rule {
         Rule::C5 => any_alone(listed, route.conflicts.as_slice(), i),
-        Rule::C6 => leaves_later_route_unlisted(listed, i),
+        Rule::C6 => has_later_route_not_listed(listed, i),
         Rule::C8 => may_protect_unlisted(listed, route, i),
         _ => true,
     }

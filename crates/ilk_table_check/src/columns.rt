@@ -10,7 +10,7 @@ use crate::conflicts::listed_conflict_matrix;
 use crate::flags::Flags;
 use crate::pairs::{breaks_at_pair, locked_flags_if_rule_needs};
 use crate::ways::{
-    overlap_is_connected, path_and_overlap_points_listed, path_continues_from_source,
+    is_path_connected_from_source, overlap_is_connected, path_and_overlap_points_listed,
     path_destination_is_first_board,
 };
 use ilk_plant::{Broken, PlaceKind, Plant, Row, Rule, push_broken_if};
@@ -31,7 +31,7 @@ fn is_border_without_board(plant: &Plant, x: u32) -> bool
     requires { x < length plant.now.sections }
     ensures { result ≡ is_border_without_board plant.now x }
 {
-    match plant.section_inward_if_border(x) {
+    match plant.inward_direction_if_border(x) {
         Some(inward) => plant.board_of(x, inward).is_none(),
         None => false,
     }
@@ -52,7 +52,7 @@ fn breaks(plant: &Plant, rule: Rule, i: u32) -> bool
     ensures { result ≡ breaks_column_rule_at plant.now rule i }
 {
     match rule {
-        Rule::C1 => !path_continues_from_source(plant, plant.route(i)),
+        Rule::C1 => !is_path_connected_from_source(plant, plant.route(i)),
         Rule::C2 => !path_destination_is_first_board(plant, plant.route(i)),
         Rule::C3 => !path_and_overlap_points_listed(plant, plant.route(i)),
         Rule::C4 => !overlap_is_connected(plant, plant.route(i)),

@@ -4,7 +4,7 @@ ghost use Rattle.ilk_plant.specs.Broken.{broken_below, place_kind_of};
 ghost use Rattle.ilk_plant.specs.Network.{contains_section};
 ghost use Rattle.ilk_plant.specs.Limits.{WithinLimits};
 ghost use Rattle.ilk_plant.specs.Plant.{is_point_section};
-ghost use Rattle.ilk_plant.specs.TableRules.{breaks_table_rule_at, place_count_in_plant, conflicts_are_other_routes_once, destination_is_board_or_none, lists_passed_points_once, has_nonsource_protecting_boards_once, has_outside_protecting_points_once, has_sections_once, is_board, is_other_route, is_section, points_of, protecting_points_of, plant_table_rules_broken, path_and_overlap_of, table_rules_broken};
+ghost use Rattle.ilk_plant.specs.TableRules.{breaks_table_rule_at, place_count_in_plant, conflicts_are_other_routes_once, destination_is_board_or_none, has_only_passed_points_once, has_nonsource_protecting_boards_once, has_outside_protecting_points_once, has_sections_once, is_board, is_other_route, is_section, nonprotecting_points_of, protecting_points_of, plant_table_rules_broken, path_and_overlap_of, table_rules_broken};
 ghost use Rattle.ilk_base.specs.Numbers.{has_number};
 
 use crate::twice::none_twice;
@@ -73,7 +73,7 @@ fn are_points_of(plant: &NumberedNetAndTable, route: &Route) -> bool
     ensures { result
         ≡ list_all (λ x. is_point_section plant.now x && contains_section x
         (path_and_overlap_of route.now))
-        (points_of route.now) }
+        (nonprotecting_points_of route.now) }
 {
     let points = route.points.as_slice();
     points
@@ -83,8 +83,8 @@ fn are_points_of(plant: &NumberedNetAndTable, route: &Route) -> bool
 }
 
 // Returns whether each listed point is a point section of path or overlap, and is listed once.
-fn lists_passed_points_once(plant: &NumberedNetAndTable, route: &Route) -> bool
-    ensures { result ≡ lists_passed_points_once plant.now route.now }
+fn has_only_passed_points_once(plant: &NumberedNetAndTable, route: &Route) -> bool
+    ensures { result ≡ has_only_passed_points_once plant.now route.now }
 {
     are_points_of(plant, route) && none_twice(route.points.as_slice())
 }
@@ -178,7 +178,7 @@ fn breaks_table_rule_at(plant: &NumberedNetAndTable, rule: Rule, i: u32) -> bool
         Rule::R1 => plant.repeats_earlier_name(i),
         Rule::R2 => !plant.is_board(plant.route(i).source),
         Rule::R3 => !has_sections_once(plant, plant.route(i)),
-        Rule::R4 => !lists_passed_points_once(plant, plant.route(i)),
+        Rule::R4 => !has_only_passed_points_once(plant, plant.route(i)),
         Rule::R5 => !destination_is_board_or_none(plant, plant.route(i).destination),
         Rule::R6 => !conflicts_are_other_routes_once(plant, i, plant.route(i)),
         Rule::R7 => !has_outside_protecting_points_once(plant, plant.route(i)),

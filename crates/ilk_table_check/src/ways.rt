@@ -3,9 +3,9 @@ ghost use Rattle.std.specs.List.{list_all, list_any};
 ghost use Rattle.std.specs.Option.{option_copied};
 ghost use Rattle.ilk_plant.specs.Network.{contains_section, last_of};
 ghost use Rattle.ilk_base.specs.Option.{is_some_and};
-ghost use Rattle.ilk_plant.specs.TableRules.{points_of};
+ghost use Rattle.ilk_plant.specs.TableRules.{nonprotecting_points_of};
 ghost use Rattle.ilk_plant.specs.Plant.{is_point_section};
-ghost use Rattle.ilk_plant.specs.ColumnRules.{has_no_board, destination_is_first_board, is_leg_at_position, is_listed_towards_any, overlap_is_connected, path_destination_is_first_board, path_continues_from_source, path_and_overlap_points_listed, points_listed_along_sections, ends_at_destination_or_border};
+ghost use Rattle.ilk_plant.specs.ColumnRules.{has_no_board, destination_is_first_board, is_leg_at_position, is_listed_towards_any_section, overlap_is_connected, path_destination_is_first_board, is_path_connected_from_source, path_and_overlap_points_listed, points_listed_along_sections, ends_at_destination_or_border};
 
 use crate::twice::any_names;
 use ilk_plant::{Board, Dir, Listed, Plant, Position, Route, Row, Section, is_leg_at_position};
@@ -32,8 +32,8 @@ fn source_of(plant: &Plant, route: &Route) -> Option<Board>
 
 /// Returns whether each path section is next to the one before, in the route's direction. The first
 /// must be next to the source's section.
-pub(crate) fn path_continues_from_source(plant: &Plant, route: &Route) -> bool
-    ensures { result ≡ path_continues_from_source plant.now route.now }
+pub(crate) fn is_path_connected_from_source(plant: &Plant, route: &Route) -> bool
+    ensures { result ≡ is_path_connected_from_source plant.now route.now }
 {
     match source_of(plant, route) {
         Some(source) => plant.is_connected_chain(source.dir, source.section, route.path.as_slice()),
@@ -121,14 +121,15 @@ fn leads_along(plant: &Plant, x: u32, at: Position, before: u32, rest: &[u32]) -
         }
 }
 
-fn is_listed_towards_any(
+fn is_listed_towards_any_section(
     plant: &Plant,
     points: &Row<Listed>,
     before: u32,
     rest: &[u32],
     x: u32,
 ) -> bool
-    ensures { result ≡ is_listed_towards_any plant.now points.now (before ∷ take 1 rest.now) x }
+    ensures { result ≡ is_listed_towards_any_section plant.now points.now
+        (before ∷ take 1 rest.now) x }
 {
     points.as_slice().iter().any(|listed| listed.point == x
         && leads_along(plant, x, listed.at, before, rest))
@@ -138,9 +139,9 @@ fn leads_through(plant: &Plant, points: &Row<Listed>, before: u32, rest: &[u32],
     ensures { result
         ≡
         (not (is_point_section plant.now x)
-        || is_listed_towards_any plant.now points.now (before ∷ take 1 rest.now) x) }
+        || is_listed_towards_any_section plant.now points.now (before ∷ take 1 rest.now) x) }
 {
-    !is_point_section(plant, x) || is_listed_towards_any(plant, points, before, rest, x)
+    !is_point_section(plant, x) || is_listed_towards_any_section(plant, points, before, rest, x)
 }
 
 fn points_listed_along_sections(
@@ -164,7 +165,7 @@ fn points_listed_along_sections(
 
 fn is_listed_if_point(plant: &Plant, route: &Route, x: u32) -> bool
     ensures { result ≡ (not (is_point_section plant.now x) || contains_section x
-        (points_of route.now)) }
+        (nonprotecting_points_of route.now)) }
 {
     !is_point_section(plant, x) || any_names(route.points.as_slice(), x)
 }
@@ -172,7 +173,8 @@ fn is_listed_if_point(plant: &Plant, route: &Route, x: u32) -> bool
 fn overlap_points_are_listed(plant: &Plant, route: &Route) -> bool
     ensures { result
         ≡ list_all
-        (λ x. not (is_point_section plant.now x) || contains_section x (points_of route.now))
+        (λ x. not (is_point_section plant.now x)
+        || contains_section x (nonprotecting_points_of route.now))
         route.now.overlap }
 {
     let overlap = route.overlap.as_slice();

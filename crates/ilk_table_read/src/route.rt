@@ -1,7 +1,7 @@
 ghost use Rattle.std.specs.Prelude.{◌≡◌, ◌&&◌, codes, true, IfOk};
 ghost use Rattle.std.specs.List.{list_all};
 ghost use Rattle.serde_json.specs.View.{view};
-ghost use Rattle.ilk_plant.specs.Limits.{route_within_limits, route_names_valid};
+ghost use Rattle.ilk_plant.specs.Limits.{route_within_limits, are_names_in_route_valid};
 ghost use Rattle.ilk_plant.specs.Name as name;
 ghost use Rattle.ilk_net_read.specs.Fault.{MatchesUnlessOutOfMemory, IsReadIfKindMatches};
 ghost use Rattle.ilk_net_read.specs.Member as member;
@@ -108,7 +108,7 @@ fn points_are_names(points: &[ListedDraft]) -> bool
 }
 
 fn has_names(route: &RouteDraft) -> bool
-    ensures { result ≡ route_names_valid route.now }
+    ensures { result ≡ are_names_in_route_valid route.now }
 {
     is_name(&route.name)
         && is_name(&route.source)
@@ -142,7 +142,7 @@ pub(crate) fn route_draft_from_value(
     ensures exact { MatchesUnlessOutOfMemory result
         (table.route_draft_from_value version number (view value.now)) }
     ensures limits { IfOk result (λ draft. route_within_limits draft ≡ true) }
-    ensures named { IfOk result (λ draft. route_names_valid draft ≡ true) }
+    ensures named { IfOk result (λ draft. are_names_in_route_valid draft ≡ true) }
 {
     let place = Place::Route(number);
     let draft = match route(alloc, version, value) {

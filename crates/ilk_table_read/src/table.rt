@@ -1,12 +1,12 @@
 ghost use Rattle.std.specs.Prelude.{◌≡◌, ◌≤◌, length, true, IfOk};
 ghost use Rattle.std.specs.List.{list_all};
 ghost use Rattle.serde_json.specs.View.{view, items_view};
-ghost use Rattle.ilk_plant.specs.Limits.{TableWithinLimits, route_within_limits, route_names_valid};
+ghost use Rattle.ilk_plant.specs.Limits.{TableWithinLimits, route_within_limits, are_names_in_route_valid};
 ghost use Rattle.ilk_net_read.specs.Fault.{MatchesUnlessOutOfMemory};
 ghost use Rattle.ilk_base.specs.Result.{try_map_numbered};
-ghost use Rattle.ilk_net_read.specs.Member.{array_entries};
+ghost use Rattle.ilk_net_read.specs.Member.{items_as_list};
 ghost use Rattle.ilk_net_read.specs.Seen.{HasAllowedCounts, document_view};
-ghost use Rattle.ilk_table_read.specs.Table.{route_draft_from_value, table_draft_from_document, table_draft_from_value};
+ghost use Rattle.ilk_table_read.specs.Table.{route_draft_from_value, table_draft_from_document, table_draft_from_conf_value};
 
 use crate::route::route_draft_from_value;
 use ilk_net_read::{Document, FormError, Version, document_from_value};
@@ -18,10 +18,10 @@ fn routes(alloc: Global, version: Version, values: &[Value]) -> Result<Row<Route
     requires { length values.now ≤ MAX_ROUTES }
     ensures exact { MatchesUnlessOutOfMemory result
         (try_map_numbered (route_draft_from_value version) 0
-        (array_entries (items_view values.now))) }
+        (items_as_list (items_view values.now))) }
     ensures count { IfOk result (λ routes. length routes ≡ length values.now) }
     ensures limits { IfOk result (λ routes. list_all route_within_limits routes ≡ true) }
-    ensures named { IfOk result (λ routes. list_all route_names_valid routes ≡ true) }
+    ensures named { IfOk result (λ routes. list_all are_names_in_route_valid routes ≡ true) }
 {
     let mut routes = Row::new(alloc);
     for (i, value) in values.iter().enumerate() {
@@ -47,7 +47,7 @@ pub(crate) fn table_in(alloc: Global, document: &Document<'_>) -> Result<TableDr
 /// Returns the interlocking table of the configuration `value`, or the first violated rule. It
 /// checks the document (F3, F4, F6), then each route in order (F3, F5, F6).
 pub fn read_table(alloc: Global, value: &Value) -> Result<TableDraft, FormError>
-    ensures exact { MatchesUnlessOutOfMemory result (table_draft_from_value (view value.now)) }
+    ensures exact { MatchesUnlessOutOfMemory result (table_draft_from_conf_value (view value.now)) }
     // No more routes than allowed, each with lists within their limits, and all texts are names.
     ensures limits { IfOk result TableWithinLimits }
 {

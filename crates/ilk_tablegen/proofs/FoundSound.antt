@@ -2,7 +2,7 @@
 -- routes.
 use Rattle.std.proofs.Common.{◌≡◌, ◌+◌, All, Some, [], slice_get, refl, sym, ◌∙◌, ap, subst, arith}
 use Rattle.ilk_base.proofs.ListTests.{made-at}
-use Rattle.ilk_plant.proofs.Rules.{network_rules-kept}
+use Rattle.ilk_plant.proofs.Rules.{all_network_rules-kept}
 use Rattle.ilk_plant.specs.ColumnRules.{broken_for_column_rule, column_rules_broken}
 use Rattle.ilk_plant.specs.Draft.{plant_from_drafts}
 use Rattle.ilk_plant.specs.Limits.{NetworkWithinLimits}
@@ -25,7 +25,7 @@ use Rattle.ilk_tablegen.specs.Table.{route_draft, network_table, generation_resu
 use Rattle.ilk_tablegen.specs.declared.walks.Walks.TheVariants.{Routes}
 
 pub drafted-back : (net : NetDraft) (table : TableDraft) → network_rules_broken net ≡ [] → network_draft (plant_from_drafts net table) ≡ net
-drafted-back net table kept = network-back net table (network_rules-kept net kept)
+drafted-back net table kept = network-back net table (all_network_rules-kept net kept)
 
 pub bare-sound : (net : NetDraft) → NetworkWithinLimits net → network_rules_broken net ≡ [] → AreSoundDrafts net no_routes
 bare-sound net limits kept = record {

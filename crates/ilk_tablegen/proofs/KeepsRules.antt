@@ -16,14 +16,14 @@ use Rattle.ilk_base.proofs.Ranges.{below, passing_within}
 use Rattle.ilk_base.proofs.Tested.{All-tested, all-pass, list_any-at}
 use Rattle.ilk_plant.proofs.Once.{names_differ-places}
 use Rattle.ilk_plant.specs.Broken.{broken_below}
-use Rattle.ilk_plant.specs.ColumnRules.{broken_for_column_rule, column_rules_broken, lists_conflict_one_way, overlap_is_connected, path_destination_is_first_board, path_continues_from_source, path_and_overlap_points_listed, protects_without_conflict, shares_without_conflict}
+use Rattle.ilk_plant.specs.ColumnRules.{broken_for_column_rule, column_rules_broken, lists_conflict_one_way, overlap_is_connected, path_destination_is_first_board, is_path_connected_from_source, path_and_overlap_points_listed, protects_without_conflict, shares_without_conflict}
 use Rattle.ilk_plant.specs.Draft.{plant_from_drafts, numbered_route}
-use Rattle.ilk_plant.specs.Limits.{TableWithinLimits, route_within_limits, route_names_valid}
+use Rattle.ilk_plant.specs.Limits.{TableWithinLimits, route_within_limits, are_names_in_route_valid}
 use Rattle.ilk_plant.specs.Name.{IsName, Name, is_name, is_name_if_given, is_between}
 use Rattle.ilk_plant.specs.Network.{contains_section, last_of}
 use Rattle.ilk_plant.specs.Plant.{IsPlant, PlantLists, board_of}
 use Rattle.ilk_plant.specs.Sound.{IsAcyclic}
-use Rattle.ilk_plant.specs.TableRules.{breaks_table_rule_at, conflicts_are_other_routes_once, destination_is_board_or_none, lists_passed_points_once, has_nonsource_protecting_boards_once, has_outside_protecting_points_once, has_sections_once, source_is_board, route_fails, plant_table_rules_broken}
+use Rattle.ilk_plant.specs.TableRules.{breaks_table_rule_at, conflicts_are_other_routes_once, destination_is_board_or_none, has_only_passed_points_once, has_nonsource_protecting_boards_once, has_outside_protecting_points_once, has_sections_once, source_is_board, route_fails, plant_table_rules_broken}
 use Rattle.ilk_plant.specs.declared.broken.Broken.{Broken}
 use Rattle.ilk_plant.specs.declared.broken.Rule.{Rule}
 use Rattle.ilk_plant.specs.declared.broken.Rule.TheVariants.{R1, R2, R3, R4, R5, R6, R7, R8, C1, C2, C3, C4, C5, C6, C7, C8}
@@ -44,7 +44,7 @@ use Rattle.ilk_tablegen.proofs.WayFacts.{way-begins}
 use Rattle.ilk_tablegen.proofs.WayRules.{keeps-conflicts, keeps-destination, keeps-ends, keeps-lead, keeps-overlap, keeps-points, keeps-positions, keeps-protecting_boards, keeps-protecting_points, keeps-sections, keeps-source, with_routes}
 use Rattle.ilk_tablegen.specs.Routes.{destination_of, network_routes, points_along, route_of_way}
 use Rattle.ilk_tablegen.specs.Rules.{BreaksAtMostC7}
-use Rattle.ilk_tablegen.specs.Table.{name_of, listed_point_draft, route_draft, network_table, route_name, generation_result}
+use Rattle.ilk_tablegen.specs.Table.{nth_name_or_empty, listed_point_draft, route_draft, network_table, route_name, generation_result}
 use Rattle.ilk_tablegen.specs.Ways.{all_ways, first_board_with_overlong_way}
 use Rattle.ilk_tablegen.specs.declared.walks.Walks.TheVariants.{Routes, TooLong, TooMany}
 use Rattle.ilk_tablegen.specs.declared.ways.WayFromBoard.{WayFromBoard}
@@ -93,12 +93,12 @@ module _ (p : PlantLists) (plant : IsPlant p) (n : ℕ) (way : WayFromBoard) (of
     protecting_boards = refl;
   }
 
-  board-named : (m : ℕ) → m < length p.board_names → is_name (name_of p.board_names m) ≡ true
+  board-named : (m : ℕ) → m < length p.board_names → is_name (nth_name_or_empty p.board_names m) ≡ true
   board-named m less =
       let item : (name : Name) × (slice_get p.board_names m ≡ Some name) = item_at p.board_names m less in
       ap is_name (get_or_from_slice_get p.board_names m item.0 [] item.1) ∙ all-at IsName p.board_names m item.0 plant.board_names_allowed item.1
 
-  section-named : (x : ℕ) → x < length p.section_names → is_name (name_of p.section_names x) ≡ true
+  section-named : (x : ℕ) → x < length p.section_names → is_name (nth_name_or_empty p.section_names x) ≡ true
   section-named x less =
       let item : (name : Name) × (slice_get p.section_names x ≡ Some name) = item_at p.section_names x less in
       ap is_name (get_or_from_slice_get p.section_names x item.0 [] item.1) ∙ all-at IsName p.section_names x item.0 plant.section_names_allowed item.1
@@ -110,13 +110,13 @@ module _ (p : PlantLists) (plant : IsPlant p) (n : ℕ) (way : WayFromBoard) (of
   limits-way few =
       both_true (both_true (both_true (both_true (both_true path refl) points) conflicts) refl) refl
     where
-      path : is_between 1 32 (length (map (name_of p.section_names) way.path)) ≡ true
+      path : is_between 1 32 (length (map (nth_name_or_empty p.section_names) way.path)) ≡ true
       path =
-          let count = length-map way.path (name_of p.section_names) in
+          let count = length-map way.path (nth_name_or_empty p.section_names) in
           let walk = of.walk in
           let some = way-begins p way.from.dir way.from.section way.path walk.leads in
           let short = walk.short in
-          both_true (le-leb 1 (length (map (name_of p.section_names) way.path)) (omega (arith, count, some))) (le-leb (length (map (name_of p.section_names) way.path)) 32 (omega (arith, count, short)))
+          both_true (le-leb 1 (length (map (nth_name_or_empty p.section_names) way.path)) (omega (arith, count, some))) (le-leb (length (map (nth_name_or_empty p.section_names) way.path)) 32 (omega (arith, count, short)))
 
       points : nat_le (length (map (listed_point_draft p) (points_along p way.from.section way.path))) 40 ≡ true
       points =
@@ -132,29 +132,29 @@ module _ (p : PlantLists) (plant : IsPlant p) (n : ℕ) (way : WayFromBoard) (of
           let fewer = conflicts-few (all_paths p) n way.path in
           le-leb (length (map route_name (route_of_way p (all_paths p) n way).conflicts)) 256 (omega (arith, count, fewer, few))
 
-  pub names-way : length (all_paths p) ≤ MAX_ROUTES → n < length (all_paths p) → route_names_valid draft ≡ true
+  pub names-way : length (all_paths p) ≤ MAX_ROUTES → n < length (all_paths p) → are_names_in_route_valid draft ≡ true
   names-way few less =
       both_true (both_true (both_true (both_true (both_true (both_true (both_true (both_true (route_name-is n (omega (arith, few, less))) source) destination) path) refl) points) conflicts) refl) refl
     where
-      source : is_name (name_of p.board_names way.source) ≡ true
+      source : is_name (nth_name_or_empty p.board_names way.source) ≡ true
       source = board-named way.source known-way.source
 
-      destination : is_name_if_given (option_map (name_of p.board_names) (destination_of p way)) ≡ true
+      destination : is_name_if_given (option_map (nth_name_or_empty p.board_names) (destination_of p way)) ≡ true
       destination = by_board (destination_of p way) ends-at
         where
-          by_board : (o : Option ℕ) → ((m : ℕ) → o ≡ Some m → m < length p.board_names) → is_name_if_given (option_map (name_of p.board_names) o) ≡ true
+          by_board : (o : Option ℕ) → ((m : ℕ) → o ≡ Some m → m < length p.board_names) → is_name_if_given (option_map (nth_name_or_empty p.board_names) o) ≡ true
           by_board None known = refl
           by_board (Some m) known = board-named m (known m refl)
 
-      path : list_all is_name (map (name_of p.section_names) way.path) ≡ true
+      path : list_all is_name (map (nth_name_or_empty p.section_names) way.path) ≡ true
       path =
-          list_all-map is_name (name_of p.section_names) way.path
-          ∙ all-pass (λ x. is_name (name_of p.section_names x)) way.path (λ i x at. section-named x (all-at (λ y. y < length p.section_names) way.path i x known-way.path at))
+          list_all-map is_name (nth_name_or_empty p.section_names) way.path
+          ∙ all-pass (λ x. is_name (nth_name_or_empty p.section_names x)) way.path (λ i x at. section-named x (all-at (λ y. y < length p.section_names) way.path i x known-way.path at))
 
       points : list_all (λ (listed : ListedDraft). is_name listed.point) (map (listed_point_draft p) (points_along p way.from.section way.path)) ≡ true
       points =
           list_all-map (λ (listed : ListedDraft). is_name listed.point) (listed_point_draft p) (points_along p way.from.section way.path)
-          ∙ all-pass (λ (listed : Listed). is_name (name_of p.section_names listed.point))
+          ∙ all-pass (λ (listed : Listed). is_name (nth_name_or_empty p.section_names listed.point))
           (points_along p way.from.section way.path)
           (λ i listed at. section-named listed.point
           (all-at (λ (l : Listed). l.point < length p.section_names)
@@ -214,7 +214,7 @@ module _ (p : PlantLists) (plant : IsPlant p) (never : IsAcyclic p) (few : lengt
       nothing r1
       (nothing (kept (source_is_board q) (λ i at. keeps-source p plant never (network_routes p) names (all_paths p) i at.way at.of) R2)
       (nothing (kept (has_sections_once q) (λ i at. keeps-sections p plant never (network_routes p) names (all_paths p) i at.way at.of) R3)
-      (nothing (kept (lists_passed_points_once q) (λ i at. keeps-points p plant never (network_routes p) names (all_paths p) i at.way at.of) R4)
+      (nothing (kept (has_only_passed_points_once q) (λ i at. keeps-points p plant never (network_routes p) names (all_paths p) i at.way at.of) R4)
       (nothing (kept (λ route. destination_is_board_or_none q route.destination) (λ i at. keeps-destination p plant never (network_routes p) names (all_paths p) i at.way at.of) R5)
       (nothing r6
       (nothing (kept (has_outside_protecting_points_once q) (λ i at. keeps-protecting_points p plant never (network_routes p) names (all_paths p) i at.way at.of) R7)
@@ -225,7 +225,7 @@ module _ (p : PlantLists) (plant : IsPlant p) (never : IsAcyclic p) (few : lengt
 
   pub only-c7 : column_rules_broken q ≡ broken_for_column_rule p C7
   only-c7 =
-      skipped (kept (path_continues_from_source q) (λ i at. keeps-lead p plant never (network_routes p) names (all_paths p) i at.way at.of) C1)
+      skipped (kept (is_path_connected_from_source q) (λ i at. keeps-lead p plant never (network_routes p) names (all_paths p) i at.way at.of) C1)
       (skipped (kept (path_destination_is_first_board q) (λ i at. keeps-ends p plant never (network_routes p) names (all_paths p) i at.way at.of) C2)
       (skipped (kept (path_and_overlap_points_listed q) (λ i at. keeps-positions p plant never (network_routes p) names (all_paths p) i at.way at.of) C3)
       (skipped (kept (overlap_is_connected q) (λ i at. keeps-overlap p plant never (network_routes p) names (all_paths p) i at.way at.of) C4)
@@ -241,9 +241,9 @@ module _ (p : PlantLists) (plant : IsPlant p) (never : IsAcyclic p) (few : lengt
   table-limits = record {
     few = let count = length-map (enumerate_from 0 (network_routes p)) (λ numbered. route_draft p numbered.0 numbered.1) in omega (arith, few, count, length-enumerate_from 0 (network_routes p));
     each = all-pass route_within_limits (network_table p).routes (λ i draft e. let found = draft-at i draft e in let at = found.0 in ap route_within_limits (sym found.1) ∙ limits-way p plant i at.way at.of (omega (arith, few, count-paths p)));
-    named = all-pass route_names_valid (network_table p).routes
+    named = all-pass are_names_in_route_valid (network_table p).routes
         (λ i draft e. let found = draft-at i draft e in let at = found.0 in
-        ap route_names_valid (sym found.1)
+        ap are_names_in_route_valid (sym found.1)
         ∙ names-way p plant i at.way at.of (omega (arith, few, count-paths p))
         (omega (
           arith,

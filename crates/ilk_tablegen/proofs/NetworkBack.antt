@@ -11,7 +11,7 @@ use Rattle.ilk_plant.proofs.Rules.{KeepsNetworkRules}
 use Rattle.ilk_plant.specs.Draft.{boards_of_sections_from, names_of_boards, names_of_sections, number_or_len, plant_from_drafts, numbered_section}
 use Rattle.ilk_plant.specs.Name.{Name}
 use Rattle.ilk_plant.specs.Network.{board_on}
-use Rattle.ilk_plant.specs.NetworkRules.{End, end_if_neighbour, ends_of_draft, ends_of}
+use Rattle.ilk_plant.specs.NetworkRules.{End, ends_from_optional_neighbour, ends_of_draft, ends_of}
 use Rattle.ilk_plant.specs.Plant.{PlantLists, board_of}
 use Rattle.ilk_plant.specs.declared.draft.KindDraft.{KindDraft}
 use Rattle.ilk_plant.specs.declared.draft.KindDraft.TheVariants.{Linear as LinearDraft, Point as PointDraft}
@@ -22,17 +22,17 @@ use Rattle.ilk_plant.specs.declared.network.Dir.{Dir}
 use Rattle.ilk_plant.specs.declared.network.Dir.TheVariants.{Up, Down}
 use Rattle.ilk_plant.specs.declared.network.Section.{Section}
 use Rattle.ilk_tablegen.specs.NetworkDraft.{kind_draft, section_draft, network_draft}
-use Rattle.ilk_tablegen.specs.Table.{name_of}
+use Rattle.ilk_tablegen.specs.Table.{nth_name_or_empty}
 
 abbrev ComesBack : List Name → Name → Type 0
-ComesBack names name = name_of names (number_or_len names name) ≡ name
+ComesBack names name = nth_name_or_empty names (number_or_len names name) ≡ name
 
 known-back : (names : List Name) (name : Name) → number_or_len names name < length names → ComesBack names name
 known-back names name less =
     let at : slice_get names (number_or_len names name) ≡ Some name = (first_number_named-at names name (number_or_len names name) (first_number_named-below names name (number_or_len names name) refl less)).1 in
     get_or_from_slice_get names (number_or_len names name) name [] at
 
-option-back : (names : List Name) (o : Option Name) → ((name : Name) → o ≡ Some name → ComesBack names name) → option_map (name_of names) (option_map (number_or_len names) o) ≡ o
+option-back : (names : List Name) (o : Option Name) → ((name : Name) → o ≡ Some name → ComesBack names name) → option_map (nth_name_or_empty names) (option_map (number_or_len names) o) ≡ o
 option-back names None back = refl
 option-back names (Some name) back = ap Some (back name refl)
 
@@ -73,16 +73,17 @@ module _ (net : NetDraft) (table : TableDraft) (rules : KeepsNetworkRules net) w
   kind-back (LinearDraft down up board_down board_up) end-named board-named =
       λ i. LinearDraft (option-back sections down at-down i) (option-back sections up at-up i) (option-back boards board_down (on Down board_down refl) i) (option-back boards board_up (on Up board_up refl) i)
     where
-      first : (d : Dir) (o : Option Name) (name : Name) → o ≡ Some name → slice_get (end_if_neighbour d o) 0 ≡ Some (record { side = d; name = name })
+      first : (d : Dir) (o : Option Name) (name : Name) → o ≡ Some name → slice_get (ends_from_optional_neighbour d o) 0 ≡ Some (record { side = d; name = name })
       first d o name e = rw e refl
 
       at-down : (name : Name) → down ≡ Some name → ComesBack sections name
       at-down name e =
-          end-named 0 (record { side = Down; name = name }) (at-before (end_if_neighbour Down down) (end_if_neighbour Up up) 0 (record { side = Down; name = name }) (first Down down name e))
+          end-named 0 (record { side = Down; name = name }) (at-before (ends_from_optional_neighbour Down down) (ends_from_optional_neighbour Up up) 0 (record { side = Down; name = name }) (first Down down name e))
 
       at-up : (name : Name) → up ≡ Some name → ComesBack sections name
       at-up name e =
-          end-named (length (end_if_neighbour Down down) + 0) (record { side = Up; name = name }) (at-past (end_if_neighbour Down down) (end_if_neighbour Up up) 0 (record { side = Up; name = name }) (first Up up name e))
+          end-named (length (ends_from_optional_neighbour Down down) + 0) (record { side = Up; name = name })
+          (at-past (ends_from_optional_neighbour Down down) (ends_from_optional_neighbour Up up) 0 (record { side = Up; name = name }) (first Up up name e))
 
       on : (d : Dir) (o : Option Name) → board_on (numbered_section sections boards (LinearDraft down up board_down board_up)) d ≡ option_map (number_or_len boards) o → (name : Name) → o ≡ Some name → ComesBack boards name
       on d o is name e = board-named d name (is ∙ ap (option_map (number_or_len boards)) e)
@@ -93,7 +94,7 @@ module _ (net : NetDraft) (table : TableDraft) (rules : KeepsNetworkRules net) w
   section-back x section at =
       λ i. record { name = name-at i; kind = kind-back section.kind (end-back x section at) (board-back x section at) i }
     where
-      name-at : name_of sections x ≡ section.name
+      name-at : nth_name_or_empty sections x ≡ section.name
       name-at =
           get_or_from_slice_get sections x section.name [] (slice_get-map (λ (s : SectionDraft). s.name) net.sections x ∙ ap (option_map (λ (s : SectionDraft). s.name)) at)
 

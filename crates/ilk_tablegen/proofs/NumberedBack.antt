@@ -15,7 +15,7 @@ use Rattle.ilk_plant.specs.Plant.{PlantLists}
 use Rattle.ilk_plant.specs.declared.draft.RouteDraft.{RouteDraft}
 use Rattle.ilk_plant.specs.declared.table.Listed.{Listed}
 use Rattle.ilk_plant.specs.declared.table.Route.{Route}
-use Rattle.ilk_tablegen.specs.Table.{name_of, listed_point_draft, route_draft, table_draft, route_name}
+use Rattle.ilk_tablegen.specs.Table.{nth_name_or_empty, listed_point_draft, route_draft, table_draft, route_name}
 
 abbrev pub names_in : PlantLists → List Route → List Name
 names_in p routes = names_of_routes (table_draft p routes).routes
@@ -31,18 +31,18 @@ pub names_in-length : (p : PlantLists) (routes : List Route) → length (names_i
 names_in-length p routes =
     length-map (table_draft p routes).routes (λ (draft : RouteDraft). draft.name) ∙ length-map (enumerate_from 0 routes) (λ numbered. route_draft p numbered.0 numbered.1) ∙ length-enumerate_from 0 routes
 
-back-number : (names : List Name) → EachOnce names → (x : ℕ) → x < length names → number_or_len names (name_of names x) ≡ x
+back-number : (names : List Name) → EachOnce names → (x : ℕ) → x < length names → number_or_len names (nth_name_or_empty names x) ≡ x
 back-number names once x less =
     let item : (name : Name) × (slice_get names x ≡ Some name) = item_at names x less in
     ap (number_or_len names) (get_or_from_slice_get names x item.0 [] item.1) ∙ number_of-own names item.0 x once item.1
 
-back-numbers : (names : List Name) → EachOnce names → (xs : List ℕ) → All (λ x. x < length names) xs → map (number_or_len names) (map (name_of names) xs) ≡ xs
+back-numbers : (names : List Name) → EachOnce names → (xs : List ℕ) → All (λ x. x < length names) xs → map (number_or_len names) (map (nth_name_or_empty names) xs) ≡ xs
 back-numbers names once [] within = refl
 back-numbers names once (x ∷ xs) within =
-    ap (λ n. n ∷ map (number_or_len names) (map (name_of names) xs)) (back-number names once x (All-head (λ y. y < length names) x xs within))
+    ap (λ n. n ∷ map (number_or_len names) (map (nth_name_or_empty names) xs)) (back-number names once x (All-head (λ y. y < length names) x xs within))
     ∙ ap (λ l. x ∷ l) (back-numbers names once xs (All-tail (λ y. y < length names) x xs within))
 
-back-option : (names : List Name) → EachOnce names → (o : Option ℕ) → ((m : ℕ) → o ≡ Some m → m < length names) → option_map (number_or_len names) (option_map (name_of names) o) ≡ o
+back-option : (names : List Name) → EachOnce names → (o : Option ℕ) → ((m : ℕ) → o ≡ Some m → m < length names) → option_map (number_or_len names) (option_map (nth_name_or_empty names) o) ≡ o
 back-option names once None within = refl
 back-option names once (Some m) within = ap Some (back-number names once m (within m refl))
 
@@ -94,14 +94,14 @@ back-route p names are n route known = λ i. record {
   protecting_boards = protecting_boards i;
 }
   where
-    overlap : map (number_or_len p.section_names) (map (name_of p.section_names) route.overlap) ≡ route.overlap
-    overlap = ap (λ l. map (number_or_len p.section_names) (map (name_of p.section_names) l)) known.overlap ∙ sym known.overlap
+    overlap : map (number_or_len p.section_names) (map (nth_name_or_empty p.section_names) route.overlap) ≡ route.overlap
+    overlap = ap (λ l. map (number_or_len p.section_names) (map (nth_name_or_empty p.section_names) l)) known.overlap ∙ sym known.overlap
 
     protecting_points : map (numbered_point p.section_names) (map (listed_point_draft p) route.protecting_points) ≡ route.protecting_points
     protecting_points = ap (λ l. map (numbered_point p.section_names) (map (listed_point_draft p) l)) known.protecting_points ∙ sym known.protecting_points
 
-    protecting_boards : map (number_or_len p.board_names) (map (name_of p.board_names) route.protecting_boards) ≡ route.protecting_boards
-    protecting_boards = ap (λ l. map (number_or_len p.board_names) (map (name_of p.board_names) l)) known.protecting_boards ∙ sym known.protecting_boards
+    protecting_boards : map (number_or_len p.board_names) (map (nth_name_or_empty p.board_names) route.protecting_boards) ≡ route.protecting_boards
+    protecting_boards = ap (λ l. map (number_or_len p.board_names) (map (nth_name_or_empty p.board_names) l)) known.protecting_boards ∙ sym known.protecting_boards
 
 pub back-routes : (p : PlantLists) (names : List Name) → AreNames p names → (k : ℕ) (routes : List Route) →
     All (IsKnown p (length names)) routes →

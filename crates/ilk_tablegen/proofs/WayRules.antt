@@ -8,13 +8,13 @@ use Rattle.ilk_base.proofs.ListTests.{all-at}
 use Rattle.ilk_base.proofs.Options.{bind_some}
 use Rattle.ilk_base.proofs.Tested.{all-pass}
 use Rattle.ilk_base.specs.Option.{is_some_and}
-use Rattle.ilk_plant.specs.ColumnRules.{overlap_is_connected, path_destination_is_first_board, path_continues_from_source, path_and_overlap_points_listed, destination_is_first_board, points_listed_along_sections}
+use Rattle.ilk_plant.specs.ColumnRules.{overlap_is_connected, path_destination_is_first_board, is_path_connected_from_source, path_and_overlap_points_listed, destination_is_first_board, points_listed_along_sections}
 use Rattle.ilk_plant.specs.Network.{contains_section, last_of}
 use Rattle.ilk_plant.specs.Once.{numbers_differ}
 use Rattle.ilk_plant.specs.Plant.{IsPlant, PlantLists, board_of, is_point_section}
 use Rattle.ilk_plant.specs.Shape.{is_connected_chain}
 use Rattle.ilk_plant.specs.Sound.{IsAcyclic}
-use Rattle.ilk_plant.specs.TableRules.{conflicts_are_other_routes_once, destination_is_board_or_none, lists_passed_points_once, has_nonsource_protecting_boards_once, has_outside_protecting_points_once, has_sections_once, source_is_board, is_section}
+use Rattle.ilk_plant.specs.TableRules.{conflicts_are_other_routes_once, destination_is_board_or_none, has_only_passed_points_once, has_nonsource_protecting_boards_once, has_outside_protecting_points_once, has_sections_once, source_is_board, is_section}
 use Rattle.ilk_plant.specs.declared.network.Board.{Board}
 use Rattle.ilk_plant.specs.declared.table.Route.{Route}
 use Rattle.ilk_tablegen.proofs.ConflictFacts.{conflicts-other, conflicts_with, passing-once}
@@ -57,7 +57,7 @@ module _ (p : PlantLists) (plant : IsPlant p) (walks : IsAcyclic p) (routes : Li
       ap (λ l. list_all (is_section q) l && numbers_differ l) (append-nil way.path)
       ∙ both_true (all-pass (is_section q) way.path (λ i x at. lt-ltb x (length p.sections) (all-at (λ y. y < length p.sections) way.path i x within at))) (and_parts (not (contains_section way.from.section way.path)) (numbers_differ way.path) once).1
 
-  pub keeps-points : lists_passed_points_once q made ≡ true
+  pub keeps-points : has_only_passed_points_once q made ≡ true
   keeps-points =
       let once : numbers_differ (way.from.section ∷ way.path) ≡ true = walks way.from.dir way.from.section way.path (way-leads p way.from.dir way.from.section way.path leads) in
       both_true (listed-pass p (λ x. is_point_section q x && contains_section x (way.path ++ [])) way.from.section way.path (λ x is on. both_true is (ap (contains_section x) (append-nil way.path) ∙ on)))
@@ -82,7 +82,7 @@ module _ (p : PlantLists) (plant : IsPlant p) (walks : IsAcyclic p) (routes : Li
   pub keeps-protecting_boards : has_nonsource_protecting_boards_once q made ≡ true
   keeps-protecting_boards = refl
 
-  pub keeps-lead : path_continues_from_source q made ≡ true
+  pub keeps-lead : is_path_connected_from_source q made ≡ true
   keeps-lead =
       ap (λ o. is_some_and o (λ (source : Board). is_connected_chain q source.dir source.section way.path)) of.board
       ∙ way-leads p way.from.dir way.from.section way.path leads

@@ -8,18 +8,18 @@ use Rattle.ilk_plant.specs.declared.draft.NetDraft.{NetDraft}
 use Rattle.ilk_plant.specs.declared.draft.SectionDraft.{SectionDraft}
 use Rattle.ilk_plant.specs.declared.network.Section.{Section}
 use Rattle.ilk_plant.specs.declared.network.Section.TheVariants.{Linear, Point}
-use Rattle.ilk_tablegen.specs.Table.{name_of}
+use Rattle.ilk_tablegen.specs.Table.{nth_name_or_empty}
 
 -- The draft of a section's kind: linear or point, with the names of its neighbours and boards.
 abbrev pub kind_draft : PlantLists → Section → KindDraft
 kind_draft p (Linear down up board_down board_up) =
-    LinearDraft (option_map (name_of p.section_names) down) (option_map (name_of p.section_names) up) (option_map (name_of p.board_names) board_down) (option_map (name_of p.board_names) board_up)
+    LinearDraft (option_map (nth_name_or_empty p.section_names) down) (option_map (nth_name_or_empty p.section_names) up) (option_map (nth_name_or_empty p.board_names) board_down) (option_map (nth_name_or_empty p.board_names) board_up)
 kind_draft p (Point stem plus minus faces) =
-    PointDraft (name_of p.section_names stem) (name_of p.section_names plus) (name_of p.section_names minus) faces
+    PointDraft (nth_name_or_empty p.section_names stem) (nth_name_or_empty p.section_names plus) (nth_name_or_empty p.section_names minus) faces
 
 -- The draft of section number `x`, with its name.
 abbrev pub section_draft : PlantLists → ℕ → Section → SectionDraft
-section_draft p x section = record { name = name_of p.section_names x; kind = kind_draft p section }
+section_draft p x section = record { name = nth_name_or_empty p.section_names x; kind = kind_draft p section }
 
 -- The draft of a plant's network, independent of its routes.
 abbrev pub network_draft : PlantLists → NetDraft

@@ -11,8 +11,8 @@ use Rattle.ilk_plant.specs.Network.{last_of}
 
 -- For each section, whether a path of `n` sections leads from it in direction `d` on which no way
 -- ends.
-abbrev pub unended_path_flags : PlantLists → Dir → ℕ → List Bool
-unended_path_flags p d n = map (has_unended_path_from p d n) (range_with_len 0 (length p.sections))
+abbrev pub unended_path_flag_per_section : PlantLists → Dir → ℕ → List Bool
+unended_path_flag_per_section p d n = map (has_unended_path_from p d n) (range_with_len 0 (length p.sections))
 
 -- Returns whether section `x` has a neighbour on side `d` whose flag is set and at which no way
 -- ends.

@@ -15,8 +15,8 @@ use Rattle.ilk_tablegen.specs.declared.walks.Walks.{Walks}
 use Rattle.ilk_tablegen.specs.declared.walks.Walks.TheVariants.{Routes, TooLong, TooMany}
 
 -- The name with number `i`, or the empty name if there is none.
-abbrev pub name_of : List Name → ℕ → Name
-name_of names i = slice_index_or names i []
+abbrev pub nth_name_or_empty : List Name → ℕ → Name
+nth_name_or_empty names i = slice_index_or names i []
 
 -- The name of route n: the letter g and the number in decimal.
 abbrev pub route_name : ℕ → Name
@@ -24,20 +24,20 @@ route_name n = codes "g" ++ decimal n
 
 -- The draft of a listed point: the name of its section, and its position.
 abbrev pub listed_point_draft : PlantLists → Listed → ListedDraft
-listed_point_draft p listed = record { point = name_of p.section_names listed.point; at = listed.at }
+listed_point_draft p listed = record { point = nth_name_or_empty p.section_names listed.point; at = listed.at }
 
 -- The draft of route number `n`, with names in place of numbers.
 abbrev pub route_draft : PlantLists → ℕ → Route → RouteDraft
 route_draft p n route = record {
   name = route_name n;
-  source = name_of p.board_names route.source;
-  destination = option_map (name_of p.board_names) route.destination;
-  path = map (name_of p.section_names) route.path;
-  overlap = map (name_of p.section_names) route.overlap;
+  source = nth_name_or_empty p.board_names route.source;
+  destination = option_map (nth_name_or_empty p.board_names) route.destination;
+  path = map (nth_name_or_empty p.section_names) route.path;
+  overlap = map (nth_name_or_empty p.section_names) route.overlap;
   points = map (listed_point_draft p) route.points;
   conflicts = map route_name route.conflicts;
   protecting_points = map (listed_point_draft p) route.protecting_points;
-  protecting_boards = map (name_of p.board_names) route.protecting_boards;
+  protecting_boards = map (nth_name_or_empty p.board_names) route.protecting_boards;
 }
 
 -- The interlocking table of these routes, as a draft.

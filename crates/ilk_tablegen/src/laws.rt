@@ -9,7 +9,7 @@ ghost use Rattle.ilk_plant.specs.declared.broken.Rule.TheVariants.{C7};
 ghost use Rattle.ilk_plant.specs.declared.draft.NetDraft.{NetDraft};
 ghost use Rattle.ilk_plant.specs.declared.draft.TableDraft.{TableDraft};
 ghost use Rattle.ilk_plant.specs.declared.network.Dir.{Dir};
-ghost use Rattle.ilk_tablegen.specs.EachWay.{IsUnendedPathFrom, IsWayFromSection, DivergesPlusFirst};
+ghost use Rattle.ilk_tablegen.specs.EachWay.{IsUnendedPathFrom, IsWayFromSection, TwoWaysDivergePlusFirst};
 ghost use Rattle.ilk_tablegen.specs.NetworkDraft.{network_draft};
 ghost use Rattle.ilk_tablegen.specs.Rules.{KeepsRulesButC7, BreaksAtMostC7, no_routes};
 ghost use Rattle.ilk_tablegen.specs.Ways.{has_unended_path_from, ways};
@@ -69,14 +69,14 @@ pub fn ways_are_complete_and_distinct(_plant: &Plant)
     ensures order { (d : Dir) (n x i j : ℕ) (first second : List ℕ) → i < j →
         slice_get (ways _plant.now d n x) i ≡ Some first →
         slice_get (ways _plant.now d n x) j ≡ Some second →
-        DivergesPlusFirst _plant.now d x first second }
+        TwoWaysDivergePlusFirst _plant.now d x first second }
     ensures on { (d : Dir) (n x : ℕ) →
         IsTrue (has_unended_path_from _plant.now d n x) ↔
         ((path : List ℕ) × (length path ≡ n) × IsUnendedPathFrom _plant.now d x path) }
 {}
 
 /// A plant without routes can violate no column rule except C7. Proof only; no run-time effect.
-pub fn bare_plant_breaks_c7_alone(_plant: &Plant)
+pub fn routeless_plant_keeps_all_but_c7(_plant: &Plant)
     requires { _plant.now.routes ≡ [] }
     ensures { column_rules_broken _plant.now ≡ broken_for_column_rule _plant.now C7 }
 {}

@@ -28,9 +28,9 @@ mod walks;
 mod ways;
 
 pub use laws::{
-    bare_plant_breaks_c7_alone, generated_drafts_break_only_c7, generated_table_breaks_only_c7,
+    generated_drafts_break_only_c7, generated_table_breaks_only_c7,
     network_draft_of_plant_unchanged, network_without_routes_makes_plant,
-    ways_are_complete_and_distinct,
+    routeless_plant_keeps_all_but_c7, ways_are_complete_and_distinct,
 };
 pub use network::network_draft;
 pub use table::routes_of;

@@ -1,12 +1,12 @@
 ghost use Rattle.std.specs.Prelude.{◌≡◌, IfOk, option_map};
-ghost use Rattle.ilk_tablegen.specs.Table.{name_of};
+ghost use Rattle.ilk_tablegen.specs.Table.{nth_name_or_empty};
 
 use ilk_plant::{Plant, Text};
 use std::alloc::{AllocError, Global};
 
 /// Returns the name of section `x`, empty if there is no such section.
 pub(crate) fn section_name(alloc: Global, plant: &Plant, x: u32) -> Result<Text, AllocError>
-    ensures { IfOk result (λ name. name ≡ name_of plant.now.section_names x) }
+    ensures { IfOk result (λ name. name ≡ nth_name_or_empty plant.now.section_names x) }
 {
     plant.prove_is_plant();
     if x >= plant.sections() {
@@ -17,7 +17,7 @@ pub(crate) fn section_name(alloc: Global, plant: &Plant, x: u32) -> Result<Text,
 
 /// Returns the name of board `m`, empty if there is no such board.
 pub(crate) fn board_name(alloc: Global, plant: &Plant, m: u32) -> Result<Text, AllocError>
-    ensures { IfOk result (λ name. name ≡ name_of plant.now.board_names m) }
+    ensures { IfOk result (λ name. name ≡ nth_name_or_empty plant.now.board_names m) }
 {
     plant.prove_is_plant();
     if m >= plant.boards() {
@@ -32,7 +32,8 @@ pub(crate) fn optional_section_name(
     plant: &Plant,
     x: Option<u32>,
 ) -> Result<Option<Text>, AllocError>
-    ensures { IfOk result (λ name. name ≡ option_map (name_of plant.now.section_names) x) }
+    ensures { IfOk result (λ name. name
+        ≡ option_map (nth_name_or_empty plant.now.section_names) x) }
 {
     match x {
         Some(x) => Ok(Some(section_name(alloc, plant, x)?)),
@@ -46,7 +47,7 @@ pub(crate) fn optional_board_name(
     plant: &Plant,
     m: Option<u32>,
 ) -> Result<Option<Text>, AllocError>
-    ensures { IfOk result (λ name. name ≡ option_map (name_of plant.now.board_names) m) }
+    ensures { IfOk result (λ name. name ≡ option_map (nth_name_or_empty plant.now.board_names) m) }
 {
     match m {
         Some(m) => Ok(Some(board_name(alloc, plant, m)?)),

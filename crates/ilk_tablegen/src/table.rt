@@ -1,6 +1,6 @@
 ghost use Rattle.std.specs.Prelude.{◌≡◌, ◌≤◌, IfOk, length, map};
 ghost use Rattle.ilk_plant.specs.declared.limits.TheConstants.{MAX_ROUTES};
-ghost use Rattle.ilk_tablegen.specs.Table.{name_of, listed_point_draft, route_draft, table_draft, route_name, generation_result};
+ghost use Rattle.ilk_tablegen.specs.Table.{nth_name_or_empty, listed_point_draft, route_draft, table_draft, route_name, generation_result};
 
 use crate::endless::first_board_with_overlong_way;
 use crate::names::{board_name, optional_board_name, section_name};
@@ -17,7 +17,8 @@ fn route_name(alloc: Global, n: u32) -> Result<Text, AllocError>
 }
 
 fn section_names(alloc: Global, plant: &Plant, sections: &[u32]) -> Result<Row<Text>, AllocError>
-    ensures { IfOk result (λ names. names ≡ map (name_of plant.now.section_names) sections.now) }
+    ensures { IfOk result (λ names. names
+        ≡ map (nth_name_or_empty plant.now.section_names) sections.now) }
 {
     let mut names = Row::new(alloc);
     for x in sections {
@@ -27,7 +28,8 @@ fn section_names(alloc: Global, plant: &Plant, sections: &[u32]) -> Result<Row<T
 }
 
 fn board_names(alloc: Global, plant: &Plant, boards: &[u32]) -> Result<Row<Text>, AllocError>
-    ensures { IfOk result (λ names. names ≡ map (name_of plant.now.board_names) boards.now) }
+    ensures { IfOk result (λ names. names
+        ≡ map (nth_name_or_empty plant.now.board_names) boards.now) }
 {
     let mut names = Row::new(alloc);
     for m in boards {

@@ -5,7 +5,7 @@ use Rattle.std.proofs.lemmas.List.{append_cancel_left}
 use Rattle.std.proofs.lemmas.Option.{same_Some}
 use Rattle.ilk_plant.specs.Plant.{PlantLists}
 use Rattle.ilk_answers.specs.Status.{is_fault_free_status}
-use Rattle.ilk_answers.specs.Strict.{HasOnlyLines, HasSafePlantDespiteColumns, ReplyHasTableOfConf, IsCleanAndKeepsInvariant, StrictlyCleanConfHasPlant, ReplyHasStrictGuarantees, SaysSafeAtOneOrSpent, DriveReportsNoHazard, has_beginning, harmless_refusal_beginnings}
+use Rattle.ilk_answers.specs.Strict.{LinesHaveBeginnings, HasSafePlantDespiteColumns, ReplyHasTableOfConf, IsCleanAndKeepsInvariant, IsStrictlyCleanWithPlant, ReplyHasStrictGuarantees, SaysSafeAtOneOrSpent, DriveReportsNoHazard, has_one_of_beginnings, harmless_refusal_beginnings}
 use Rattle.ilk_answers.proofs.FirstLines.{lines-narrower}
 use Rattle.ilk_answers.specs.declared.reply.Reply.{Reply}
 use Rattle.ilk_answers.specs.declared.status.Status.{Status}
@@ -35,23 +35,23 @@ module _ {L O : Type 0} (cert_written : L → Option (List ℕ)) (cert_faults : 
   pub deviations-told : (asked : Option Command) (conf extra : Option (List ℕ)) →
       WritesAnswer (ReplyHasStrictGuarantees asked conf extra) cert_written cert_faults out_written out_faults status cert_old
       cert_new out_old out_new →
-      (allowed : List (List ℕ)) → list_all (has_beginning harmless_refusal_beginnings) allowed ≡ true →
+      (allowed : List (List ℕ)) → list_all (has_one_of_beginnings harmless_refusal_beginnings) allowed ≡ true →
       (before report : List ℕ) → asked ≡ Some (Check Strict) → status ≡ Refused →
       out_written out_old ≡ Some before → out_written out_new ≡ Some (before ++ report) →
-      HasOnlyLines allowed report → IfSome conf HasSafePlantDespiteColumns
+      LinesHaveBeginnings allowed report → IfSome conf HasSafePlantDespiteColumns
   deviations-told asked conf extra told allowed harmless before report is refused old new lines =
       let t = told.whole (subst (λ s. is_fault_free_status s ≡ true) (sym refused) refl) in
       let added : Some (before ++ report) ≡ Some (before ++ t.0.report) =
       sym new ∙ t.3.report ∙ ap (option_map (λ all. all ++ t.0.report)) old in
       let same : report ≡ t.0.report = append_cancel_left before report t.0.report (same_Some (before ++ report) (before ++ t.0.report) added) in
       t.1.deviations is (sym t.2 ∙ refused)
-      (subst (HasOnlyLines harmless_refusal_beginnings) same (lines-narrower harmless_refusal_beginnings allowed report harmless lines))
+      (subst (LinesHaveBeginnings harmless_refusal_beginnings) same (lines-narrower harmless_refusal_beginnings allowed report harmless lines))
 
   pub verify-told : (asked : Option Command) (conf extra : Option (List ℕ)) →
       WritesAnswer (ReplyHasStrictGuarantees asked conf extra) cert_written cert_faults out_written out_faults status cert_old
       cert_new out_old out_new →
       (depth conflicts : ℕ) (name bytes : List ℕ) (p : PlantLists) →
-      asked ≡ Some (Verify Strict depth conflicts name) → conf ≡ Some bytes → StrictlyCleanConfHasPlant bytes p →
+      asked ≡ Some (Verify Strict depth conflicts name) → conf ≡ Some bytes → IsStrictlyCleanWithPlant bytes p →
       WritesAnswer (SaysSafeAtOneOrSpent p depth conflicts) cert_written cert_faults out_written out_faults status
       cert_old cert_new out_old out_new
   verify-told asked conf extra told depth conflicts name bytes p is at clean =

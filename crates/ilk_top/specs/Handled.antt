@@ -2,17 +2,17 @@
 -- bytes left in a source, if it exposes them; `conf_faults` and the like count failed calls.
 use Rattle.std.specs.Prelude.{◌≡◌, ℕ, ◌⊎◌, Bool, true, false, Option, Some, List}
 use Rattle.ilk_io.specs.Faults.{CountedOneFault}
-use Rattle.ilk_answers.specs.Answer.{reads_extra_if_known, max_conf_bytes_if_read}
+use Rattle.ilk_answers.specs.Answer.{is_extra_reached_if_exposed, max_conf_bytes_if_read}
 use Rattle.ilk_answers.specs.Status.{had_reply_to_write}
 use Rattle.ilk_answers.specs.declared.status.Status.{Status}
 use Rattle.ilk_answers.specs.declared.status.Status.TheVariants.{ReadFault, WriteFault}
 use Rattle.ilk_words.specs.declared.plan.CommandPlan.{CommandPlan}
-use Rattle.ilk_top.specs.Outside.{ReadByCommandPlan, FaultsRiseOnlyWith}
+use Rattle.ilk_top.specs.Outside.{ReadIfLimitElseUnchanged, FaultsRiseOnlyWith}
 
 -- Holds if a source was read as its plan says. Exactly one call of it failed if `fault` is
 -- reported, otherwise none.
 pub record SourceReadAndFaultCounted {S : Type 0} (left : S → Option (List ℕ)) (faults : S → ℕ) (needed : Option Bool) (limit : Option ℕ) (fault : Type 0) (came : Bool) (old new : S) : Type 0 where
-  pub read : ReadByCommandPlan left needed limit came old new
+  pub read : ReadIfLimitElseUnchanged left needed limit came old new
   pub failed : fault → CountedOneFault (faults old) (faults new)
   pub rises : FaultsRiseOnlyWith fault (faults old) (faults new)
 
@@ -25,13 +25,13 @@ pub record SourcesReadAndFaultsCounted {C D : Type 0} (conf_left : C → Option 
   pub read_fault : fault → (CountedOneFault (conf_faults conf_old) (conf_faults conf_new) × (extra_new ≡ extra_old)) ⊎ ((conf_faults conf_new ≡ conf_faults conf_old) × CountedOneFault (extra_faults extra_old) (extra_faults extra_new))
   pub conf_rises : FaultsRiseOnlyWith fault (conf_faults conf_old) (conf_faults conf_new)
   pub extra_rises : FaultsRiseOnlyWith fault (extra_faults extra_old) (extra_faults extra_new)
-  pub conf_read : ReadByCommandPlan conf_left (Some true) (max_conf_bytes_if_read plan) came conf_old conf_new
-  pub extra_read : ReadByCommandPlan extra_left (reads_extra_if_known plan (conf_left conf_old)) plan.extra came extra_old extra_new
+  pub conf_read : ReadIfLimitElseUnchanged conf_left (Some true) (max_conf_bytes_if_read plan) came conf_old conf_new
+  pub extra_read : ReadIfLimitElseUnchanged extra_left (is_extra_reached_if_exposed plan (conf_left conf_old)) plan.extra came extra_old extra_new
 
 -- Holds if both sinks fit the status: their fault counts rise only with a write fault, and they are
 -- unchanged if the status shows that nothing was written. The certificate's sink is also unchanged
 -- if `none` holds.
-pub record SinksWrittenByStatus {O L : Type 0} (out_faults : O → ℕ) (cert_faults : L → ℕ) (none : Type 0) (status : Status) (out_old out_new : O) (cert_old cert_new : L) : Type 0 where
+pub record SinksFitStatus {O L : Type 0} (out_faults : O → ℕ) (cert_faults : L → ℕ) (none : Type 0) (status : Status) (out_old out_new : O) (cert_old cert_new : L) : Type 0 where
   pub out_rises : FaultsRiseOnlyWith (status ≡ WriteFault) (out_faults out_old) (out_faults out_new)
   pub cert_rises : FaultsRiseOnlyWith (status ≡ WriteFault) (cert_faults cert_old) (cert_faults cert_new)
   pub unwritten : had_reply_to_write status ≡ false → (out_new ≡ out_old) × (cert_new ≡ cert_old)
@@ -44,4 +44,4 @@ pub record SourcesAndSinksHandled {C D O L : Type 0} (conf_left : C → Option (
     (plan : CommandPlan) (status : Status) (conf_old conf_new : C) (extra_old extra_new : D) (out_old out_new : O)
     (cert_old cert_new : L) : Type 0 where
   pub sources : SourcesReadAndFaultsCounted conf_left conf_faults extra_left extra_faults plan (status ≡ ReadFault) (had_reply_to_write status) conf_old conf_new extra_old extra_new
-  pub sinks : SinksWrittenByStatus out_faults cert_faults (plan.certifies ≡ false) status out_old out_new cert_old cert_new
+  pub sinks : SinksFitStatus out_faults cert_faults (plan.certifies ≡ false) status out_old out_new cert_old cert_new

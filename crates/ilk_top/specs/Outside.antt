@@ -24,9 +24,9 @@ pub record ReadIfNeeded {S : Type 0} (left : S → Option (List ℕ)) (needed : 
 
 -- Holds if a source with a limit was read as far as needed and allowed, and one without a limit is
 -- unchanged.
-abbrev pub ReadByCommandPlan : {S : Type 0} → (S → Option (List ℕ)) → Option Bool → Option ℕ → Bool → S → S → Type 0
-ReadByCommandPlan left needed None came old new = new ≡ old
-ReadByCommandPlan left needed (Some limit) came old new = ReadIfNeeded left needed limit came old new
+abbrev pub ReadIfLimitElseUnchanged : {S : Type 0} → (S → Option (List ℕ)) → Option Bool → Option ℕ → Bool → S → S → Type 0
+ReadIfLimitElseUnchanged left needed None came old new = new ≡ old
+ReadIfLimitElseUnchanged left needed (Some limit) came old new = ReadIfNeeded left needed limit came old new
 
 -- Holds if a fault count did not fall, and rose only if `fault` is reported.
 pub record FaultsRiseOnlyWith (fault : Type 0) (old new : ℕ) : Type 0 where
@@ -35,7 +35,7 @@ pub record FaultsRiseOnlyWith (fault : Type 0) (old new : ℕ) : Type 0 where
 
 -- Holds if the whole reply was written: the certificate to one sink, which is unchanged if there is
 -- none, and the report to the other.
-pub record IsWrittenWhole {L O : Type 0} (cert_written : L → Option (List ℕ)) (out_written : O → Option (List ℕ)) (made : Reply) (cert_old cert_new : L) (out_old out_new : O) : Type 0 where
+pub record IsReplyWrittenWhole {L O : Type 0} (cert_written : L → Option (List ℕ)) (out_written : O → Option (List ℕ)) (made : Reply) (cert_old cert_new : L) (out_old out_new : O) : Type 0 where
   pub certificate : Appends (cert_written cert_old) (cert_written cert_new) made.certificate
   pub uncertified : made.certificate ≡ [] → cert_new ≡ cert_old
   pub report : Appends (out_written out_old) (out_written out_new) made.report
@@ -63,7 +63,7 @@ pub record IsCutInReport {L O : Type 0} (cert_written : L → Option (List ℕ))
 pub record WritesAnswer {L O : Type 0} (IsAnswerTo : Reply → Type 0) (cert_written : L → Option (List ℕ))
     (cert_faults : L → ℕ) (out_written : O → Option (List ℕ)) (out_faults : O → ℕ) (status : Status)
     (cert_old cert_new : L) (out_old out_new : O) : Type 0 where
-  pub whole : IsTrue (is_fault_free_status status) → (made : Reply) × IsAnswerTo made × (status ≡ made.status) × IsWrittenWhole cert_written out_written made cert_old cert_new out_old out_new
+  pub whole : IsTrue (is_fault_free_status status) → (made : Reply) × IsAnswerTo made × (status ≡ made.status) × IsReplyWrittenWhole cert_written out_written made cert_old cert_new out_old out_new
   pub cut : status ≡ WriteFault →
       (made : Reply) × IsAnswerTo made ×
       (IsCutInCertificate cert_written cert_faults made cert_old cert_new out_old out_new

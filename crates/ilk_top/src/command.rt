@@ -3,7 +3,7 @@ ghost use Rattle.ilk_answers.specs.Answer.{IsAnswerTo};
 ghost use Rattle.ilk_answers.specs.Reply.{HasAllowedStatusAndCertificate};
 ghost use Rattle.ilk_answers.specs.Status.{had_reply_to_write, is_fault_free_command_status};
 ghost use Rattle.ilk_answers.specs.Strict.{ReplyHasStrictGuarantees};
-ghost use Rattle.ilk_top.specs.Handled.{SourcesAndSinksHandled, SinksWrittenByStatus, SourcesReadAndFaultsCounted};
+ghost use Rattle.ilk_top.specs.Handled.{SourcesAndSinksHandled, SinksFitStatus, SourcesReadAndFaultsCounted};
 ghost use Rattle.ilk_top.specs.Outside.{WritesAnswer};
 ghost use Rattle.ilk_words.specs.Limits.{within_option_limits};
 ghost use Rattle.ilk_words.specs.Plan.{plan_of};
@@ -81,7 +81,7 @@ fn tell<O: Sink, L: Sink>(reply: Reply, out: &mut O, cert: &mut L) -> Status
         result
         cert.old cert.new out.old out.new }
     ensures told { IsTrue (had_reply_to_write result) }
-    ensures handled { SinksWrittenByStatus O.faults L.faults (reply.certificate ≡ []) result out.old
+    ensures handled { SinksFitStatus O.faults L.faults (reply.certificate ≡ []) result out.old
         out.new cert.old cert.new }
 {
     let Reply {

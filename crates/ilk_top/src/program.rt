@@ -1,10 +1,10 @@
 ghost use Rattle.std.specs.Prelude.{ℕ, ◌≡◌, ◌≢◌, ◌⊎◌, ◌↔◌, ◌++◌, Some, None, IfSome, List, true, false, map, string_bytes};
-ghost use Rattle.ilk_answers.specs.Answer.{IsAnswerTo, reads_extra_if_known, max_conf_bytes_if_read, command_plan_or_empty};
+ghost use Rattle.ilk_answers.specs.Answer.{IsAnswerTo, is_extra_reached_if_exposed, max_conf_bytes_if_read, command_plan_or_empty};
 ghost use Rattle.ilk_answers.specs.Status.{had_reply_to_write};
-ghost use Rattle.ilk_answers.specs.Strict.{HasOnlyLines, HasSafePlantDespiteColumns, ReplyHasTableOfConf, IsCleanAndKeepsInvariant, StrictlyCleanConfHasPlant, SaysSafeAtOneOrSpent, DriveReportsNoHazard, harmless_refusal_beginnings};
+ghost use Rattle.ilk_answers.specs.Strict.{LinesHaveBeginnings, HasSafePlantDespiteColumns, ReplyHasTableOfConf, IsCleanAndKeepsInvariant, IsStrictlyCleanWithPlant, SaysSafeAtOneOrSpent, DriveReportsNoHazard, harmless_refusal_beginnings};
 ghost use Rattle.ilk_io.specs.Faults.{CountedOneFault};
 ghost use Rattle.ilk_plant.specs.Plant.{PlantLists};
-ghost use Rattle.ilk_top.specs.Outside.{ReadByCommandPlan, FaultsRiseOnlyWith, WritesAnswer};
+ghost use Rattle.ilk_top.specs.Outside.{ReadIfLimitElseUnchanged, FaultsRiseOnlyWith, WritesAnswer};
 ghost use Rattle.ilk_words.specs.Words.{parsed_command};
 
 use crate::command::perform;
@@ -51,7 +51,7 @@ pub fn run<C: Source, D: Source, O: Sink, L: Sink>(
         (before report : List ℕ) → asked ≡ Some (Command.Check ColumnRuleMode.Strict) →
         result ≡ Status.Refused → O.written out.old ≡ Some before →
         O.written out.new ≡ Some (before ++ report) →
-        HasOnlyLines harmless_refusal_beginnings report →
+        LinesHaveBeginnings harmless_refusal_beginnings report →
         IfSome (C.left conf.old) HasSafePlantDespiteColumns }
 
     // If a configuration breaks no rule, `verify` returns `Good` with `safe k=1` and its
@@ -60,7 +60,7 @@ pub fn run<C: Source, D: Source, O: Sink, L: Sink>(
     ensures strict_verify { let asked = parsed_command (map string_bytes words.now.items) in
         (depth conflicts : ℕ) (name : List ℕ) (bytes : List ℕ) (p : PlantLists)
         → asked ≡ Some (Command.Verify ColumnRuleMode.Strict depth conflicts name) →
-        C.left conf.old ≡ Some bytes → StrictlyCleanConfHasPlant bytes p
+        C.left conf.old ≡ Some bytes → IsStrictlyCleanWithPlant bytes p
         → WritesAnswer (SaysSafeAtOneOrSpent p depth conflicts) L.written L.faults O.written
         O.faults
         result cert.old cert.new out.old out.new }
@@ -110,11 +110,12 @@ pub fn run<C: Source, D: Source, O: Sink, L: Sink>(
     // than its limit. If the configuration is known to give no plant, `extra` is not read.
     ensures conf_read { let plan = command_plan_or_empty
         (parsed_command (map string_bytes words.now.items)) in
-        ReadByCommandPlan C.left (Some true) (max_conf_bytes_if_read plan)
+        ReadIfLimitElseUnchanged C.left (Some true) (max_conf_bytes_if_read plan)
         (had_reply_to_write result) conf.old conf.new }
     ensures extra_read { let plan = command_plan_or_empty
         (parsed_command (map string_bytes words.now.items)) in
-        ReadByCommandPlan D.left (reads_extra_if_known plan (C.left conf.old)) plan.extra
+        ReadIfLimitElseUnchanged D.left
+        (is_extra_reached_if_exposed plan (C.left conf.old)) plan.extra
         (had_reply_to_write result) extra.old extra.new }
 
     // Nothing is written after a read fault, a usage error, or if memory runs out. A certificate is

@@ -11,7 +11,7 @@ use Rattle.std.proofs.Math.Nat.{suc-mul}
 use Rattle.std.proofs.lemmas.Option.{same_Some}
 use Rattle.ilk_base.proofs.Tested.{list_all-slice_get}
 use Rattle.ilk_cnf.specs.Literal.{Literal}
-use Rattle.ilk_cnf.specs.Formula.{Formula, with_vars_and_clauses, is_clause_over, are_clauses_over}
+use Rattle.ilk_cnf.specs.Formula.{Formula, with_var_count_and_clauses, is_clause_over, are_clauses_over}
 use Rattle.ilk_cnf.specs.Truth.{is_clause_true, satisfies}
 use Rattle.ilk_cnf.specs.Extends.{ExtensionsAreExactly, EqualsGivenValues, AreValuesOfConsecutiveParts}
 use Rattle.ilk_cnf.specs.Part.{FormulaPart, clauses_from_lists}
@@ -212,21 +212,21 @@ pub copies-step :
     (i rest before : ℕ) → rest ≡ suc i →
     before ≡ i * copy_var_count ranges → tables ++ (copies_part ranges rest 0).tables ≡ whole →
     table ≡ (copy_part ranges before).columns →
-    g ≡ with_vars_and_clauses f f.vars (clauses_from_lists (copy_part ranges before).part.clauses) →
+    g ≡ with_var_count_and_clauses f f.vars (clauses_from_lists (copy_part ranges before).part.clauses) →
     ((tables ++ table ∷ []) ++ (copies_part ranges i 0).tables ≡ whole) ×
-    (with_vars_and_clauses g g.vars (clauses_from_lists (copies_part ranges i 0).part.clauses)
-    ≡ with_vars_and_clauses f f.vars (clauses_from_lists (copies_part ranges rest 0).part.clauses))
+    (with_var_count_and_clauses g g.vars (clauses_from_lists (copies_part ranges i 0).part.clauses)
+    ≡ with_var_count_and_clauses f f.vars (clauses_from_lists (copies_part ranges rest 0).part.clauses))
 copies-step f g ranges tables whole table i rest before left begins seen is made =
     let later = copies_part ranges i 0 in
     let at : before ≡ later.part.vars = omega (arith, begins, copies-end i ranges 0) in
     let one = copy_part ranges later.part.vars in
-    let here : g ≡ with_vars_and_clauses f f.vars (clauses_from_lists one.part.clauses) = made ∙ ap (λ (k : ℕ). with_vars_and_clauses f f.vars (clauses_from_lists (copy_part ranges k).part.clauses)) at in (
+    let here : g ≡ with_var_count_and_clauses f f.vars (clauses_from_lists one.part.clauses) = made ∙ ap (λ (k : ℕ). with_var_count_and_clauses f f.vars (clauses_from_lists (copy_part ranges k).part.clauses)) at in (
       append_assoc tables (table ∷ []) later.tables
           ∙ ap (λ (t : List VarValueAndBoundLits). tables ++ t ∷ later.tables) (is ∙ ap (λ (k : ℕ). (copy_part ranges k).columns) at)
           ∙ ap (λ (k : ℕ). tables ++ (copies_part ranges k 0).tables) (sym left)
           ∙ seen,
-      grown_more f g (with_vars_and_clauses g g.vars (clauses_from_lists later.part.clauses)) one.part.clauses later.part.clauses here refl
-          ∙ ap (λ (k : ℕ). with_vars_and_clauses f f.vars (clauses_from_lists (copies_part ranges k 0).part.clauses)) (sym left),
+      grown_more f g (with_var_count_and_clauses g g.vars (clauses_from_lists later.part.clauses)) one.part.clauses later.part.clauses here refl
+          ∙ ap (λ (k : ℕ). with_var_count_and_clauses f f.vars (clauses_from_lists (copies_part ranges k 0).part.clauses)) (sym left),
     )
 
 pub within-at : (tables : List (List VarValueAndBoundLits)) (n j : ℕ) (table : List VarValueAndBoundLits) → are_copies_within_vars n tables ≡ true → slice_get tables j ≡ Some table → has_lits_within_vars n table ≡ true

@@ -28,7 +28,7 @@ use Rattle.ilk_forms.proofs.FormViolated.{violated-fits, violated-law}
 use Rattle.ilk_step.proofs.RulesLaw.{then-fits, then-law}
 use Rattle.ilk_unroll.specs.declared.queries.Wanted.{Wanted}
 use Rattle.ilk_unroll.specs.declared.queries.Wanted.TheVariants.{Hazard, Breach, Step}
-use Rattle.ilk_unroll.specs.Goal.{PlainGoal, CopyDemand, goal_valid, step_count, must_hold_in, must_fail_in, must_hold_below, demands_of}
+use Rattle.ilk_unroll.specs.Goal.{PlainGoal, CopyDemand, goal_valid, step_count, demand_form_holds_in_copy, demand_form_fails_in_copy, demands_form_holds_below_copy, demands_of}
 use Rattle.ilk_unroll.specs.Run.{demand_is_met_by_run}
 use Rattle.ilk_unroll.specs.Query.{copy_lits_at, demanded_part, demands_part}
 use Rattle.ilk_unroll.specs.Assignment.{demanded_bits, demands_bits}
@@ -122,15 +122,16 @@ demands-law (d ∷ ds) tables run ranges a n size inside r h valid =
     (λ long. demands-law ds tables run ranges (a ++ e) p.vars long more r
     (tables_say-more tables run a e n p.vars ranges size one.low h) parts.1)
 
-below-valid : (ranges : List ℕ) (count : ℕ) (t : Tree) (k start : ℕ) → start + k ≤ count → tree_valid ranges t ≡ true → list_all (demanded_valid ranges count) (map (λ j. must_hold_in j t) (range_with_len start k)) ≡ true
+below-valid : (ranges : List ℕ) (count : ℕ) (t : Tree) (k start : ℕ) → start + k ≤ count → tree_valid ranges t ≡ true → list_all (demanded_valid ranges count) (map (λ j. demand_form_holds_in_copy j t) (range_with_len start k)) ≡ true
 below-valid ranges count t zero start le h = refl
 below-valid ranges count t (suc k) start le h = and_from _ _ (and_from _ _ (lt-ltb start count (omega arith)) h) (below-valid ranges count t k (start + 1) (omega arith) h)
 
-each-below-valid : (ranges : List ℕ) (count : ℕ) (ts : List Tree) (k : ℕ) → k ≤ count → list_all (tree_valid ranges) ts ≡ true → list_all (demanded_valid ranges count) (flat_map (λ t. must_hold_below t k) ts) ≡ true
+each-below-valid : (ranges : List ℕ) (count : ℕ) (ts : List Tree) (k : ℕ) → k ≤ count → list_all (tree_valid ranges) ts ≡ true → list_all (demanded_valid ranges count) (flat_map (λ t. demands_form_holds_below_copy t k) ts) ≡ true
 each-below-valid ranges count [] k le h = refl
 each-below-valid ranges count (t ∷ ts) k le h =
     let parts = and_parts (tree_valid ranges t) (list_all (tree_valid ranges) ts) h in
-    list_all-append (demanded_valid ranges count) (must_hold_below t k) (flat_map (λ u. must_hold_below u k) ts) ∙ and_from _ _ (below-valid ranges count t k 0 (omega arith) parts.0) (each-below-valid ranges count ts k le parts.1)
+    list_all-append (demanded_valid ranges count) (demands_form_holds_below_copy t k) (flat_map (λ u. demands_form_holds_below_copy u k) ts)
+    ∙ and_from _ _ (below-valid ranges count t k 0 (omega arith) parts.0) (each-below-valid ranges count ts k le parts.1)
 
 pub record GoalValid (ranges : List ℕ) (g : PlainGoal) : Type 0 where
   pub start : tree_valid ranges g.start ≡ true
@@ -155,26 +156,26 @@ pub demands_of-valid : (ranges : List ℕ) (g : PlainGoal) (q : Wanted) → goal
 demands_of-valid ranges g (Hazard n) h =
     let k = goal-valid ranges g h in
     and_from _ _ (one-valid ranges (suc n) 0 g.start true (omega arith) k.start)
-    (list_all-append (demanded_valid ranges (suc n)) (must_hold_below g.wellformed n)
-    (must_hold_in n g.hazard ∷ [])
+    (list_all-append (demanded_valid ranges (suc n)) (demands_form_holds_below_copy g.wellformed n)
+    (demand_form_holds_in_copy n g.hazard ∷ [])
     ∙ and_from _ _ (below-valid ranges (suc n) g.wellformed n 0 (omega arith) k.wellformed)
     (and_from _ _ (one-valid ranges (suc n) n g.hazard true (omega arith) k.hazard) refl))
 demands_of-valid ranges g (Breach n) h =
     let k = goal-valid ranges g h in
     and_from _ _ (one-valid ranges (suc n) 0 g.start true (omega arith) k.start)
-    (list_all-append (demanded_valid ranges (suc n)) (must_hold_below g.wellformed (n + 1))
-    (must_fail_in n (all_of (trees_from_list g.families)) ∷ [])
+    (list_all-append (demanded_valid ranges (suc n)) (demands_form_holds_below_copy g.wellformed (n + 1))
+    (demand_form_fails_in_copy n (all_of (trees_from_list g.families)) ∷ [])
     ∙ and_from _ _ (below-valid ranges (suc n) g.wellformed (n + 1) 0 (omega arith) k.wellformed)
     (and_from _ _
     (one-valid ranges (suc n) n (all_of (trees_from_list g.families)) false (omega arith) k.kept) refl))
 demands_of-valid ranges g (Step n) h =
     let k = goal-valid ranges g h in
     let test = demanded_valid ranges (suc n) in
-    let last = must_fail_in n (all_of (trees_from_list (negation g.hazard ∷ g.families))) ∷ [] in
-    let families = flat_map (λ t. must_hold_below t n) g.families in
-    list_all-append test (must_hold_below g.wellformed n ++ families) last
+    let last = demand_form_fails_in_copy n (all_of (trees_from_list (negation g.hazard ∷ g.families))) ∷ [] in
+    let families = flat_map (λ t. demands_form_holds_below_copy t n) g.families in
+    list_all-append test (demands_form_holds_below_copy g.wellformed n ++ families) last
     ∙ and_from _ _
-    (list_all-append test (must_hold_below g.wellformed n) families
+    (list_all-append test (demands_form_holds_below_copy g.wellformed n) families
     ∙ and_from _ _ (below-valid ranges (suc n) g.wellformed n 0 (omega arith) k.wellformed)
     (each-below-valid ranges (suc n) g.families n (omega arith) k.families))
     (and_from _ _
@@ -221,5 +222,5 @@ table-is [] j table h = absurd cc
 table-is (t ∷ tables) zero table h = same_Some t table h
 table-is (t ∷ tables) (suc j) table h = table-is tables j table h
 
-pub must_hold_below-more : (t : Tree) (n : ℕ) → must_hold_below t (n + 1) ≡ must_hold_below t n ++ must_hold_in n t ∷ []
-must_hold_below-more t n = ap (map (λ j. must_hold_in j t)) (range-more n) ∙ map-append (λ j. must_hold_in j t) (range_with_len 0 n) (n ∷ [])
+pub demands_form_holds_below_copy-more : (t : Tree) (n : ℕ) → demands_form_holds_below_copy t (n + 1) ≡ demands_form_holds_below_copy t n ++ demand_form_holds_in_copy n t ∷ []
+demands_form_holds_below_copy-more t n = ap (map (λ j. demand_form_holds_in_copy j t)) (range-more n) ∙ map-append (λ j. demand_form_holds_in_copy j t) (range_with_len 0 n) (n ∷ [])

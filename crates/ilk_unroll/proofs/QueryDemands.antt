@@ -10,31 +10,32 @@ use Rattle.ilk_base.proofs.Tested.{list_all-slice_get}
 use Rattle.ilk_ir.specs.Tree.{Tree}
 use Rattle.ilk_ir.specs.System.{PlainSystem, in_ranges}
 use Rattle.ilk_unroll.specs.declared.queries.Wanted.{Wanted}
-use Rattle.ilk_unroll.specs.Goal.{PlainGoal, must_hold_in, must_hold_below, step_count, demands_of}
+use Rattle.ilk_unroll.specs.Goal.{PlainGoal, demand_form_holds_in_copy, demands_form_holds_below_copy, step_count, demands_of}
 use Rattle.ilk_unroll.specs.Run.{run_firing_rules, demand_is_met_by_run, is_wanted_run}
 
-pub below-each : (run : List (List ℕ)) (t : Tree) (n j : ℕ) → list_all (demand_is_met_by_run run) (must_hold_below t n) ≡ true → j < n → demand_is_met_by_run run (must_hold_in j t) ≡ true
+pub below-each : (run : List (List ℕ)) (t : Tree) (n j : ℕ) → list_all (demand_is_met_by_run run) (demands_form_holds_below_copy t n) ≡ true → j < n → demand_is_met_by_run run (demand_form_holds_in_copy j t) ≡ true
 below-each run t n j h less =
-    list_all-slice_get (λ i. demand_is_met_by_run run (must_hold_in i t)) (range_with_len 0 n) j j (sym (list_all-map (demand_is_met_by_run run) (λ i. must_hold_in i t) (range_with_len 0 n)) ∙ h) (range-at n j less)
+    list_all-slice_get (λ i. demand_is_met_by_run run (demand_form_holds_in_copy i t)) (range_with_len 0 n) j j (sym (list_all-map (demand_is_met_by_run run) (λ i. demand_form_holds_in_copy i t) (range_with_len 0 n)) ∙ h) (range-at n j less)
 
 range-from : (p : ℕ → Bool) (start k : ℕ) → ((j : ℕ) → start ≤ j → j < start + k → p j ≡ true) → list_all p (range_with_len start k) ≡ true
 range-from p start zero h = refl
 range-from p start (suc k) h =
     and_from _ _ (h start (omega arith) (omega arith)) (range-from p (start + 1) k (λ j low high. h j (omega arith) (omega arith)))
 
-pub below-from : (run : List (List ℕ)) (t : Tree) (n : ℕ) → ((j : ℕ) → j < n → demand_is_met_by_run run (must_hold_in j t) ≡ true) → list_all (demand_is_met_by_run run) (must_hold_below t n) ≡ true
+pub below-from : (run : List (List ℕ)) (t : Tree) (n : ℕ) → ((j : ℕ) → j < n → demand_is_met_by_run run (demand_form_holds_in_copy j t) ≡ true) → list_all (demand_is_met_by_run run) (demands_form_holds_below_copy t n) ≡ true
 below-from run t n h =
-    list_all-map (demand_is_met_by_run run) (λ j. must_hold_in j t) (range_with_len 0 n)
-    ∙ range-from (λ j. demand_is_met_by_run run (must_hold_in j t)) 0 n (λ j low high. h j (omega arith))
+    list_all-map (demand_is_met_by_run run) (λ j. demand_form_holds_in_copy j t) (range_with_len 0 n)
+    ∙ range-from (λ j. demand_is_met_by_run run (demand_form_holds_in_copy j t)) 0 n (λ j low high. h j (omega arith))
 
-pub each-below-from : (run : List (List ℕ)) (ts : List Tree) (n : ℕ) → ((j : ℕ) → j < n → list_all (λ t. demand_is_met_by_run run (must_hold_in j t)) ts ≡ true) → list_all (demand_is_met_by_run run) (flat_map (λ t. must_hold_below t n) ts) ≡ true
+pub each-below-from : (run : List (List ℕ)) (ts : List Tree) (n : ℕ) → ((j : ℕ) → j < n → list_all (λ t. demand_is_met_by_run run (demand_form_holds_in_copy j t)) ts ≡ true)
+    → list_all (demand_is_met_by_run run) (flat_map (λ t. demands_form_holds_below_copy t n) ts) ≡ true
 each-below-from run [] n h = refl
 each-below-from run (t ∷ ts) n h =
-    let P : ℕ → Bool = λ j. list_all (λ u. demand_is_met_by_run run (must_hold_in j u)) ts in
-    list_all-append (demand_is_met_by_run run) (must_hold_below t n) (flat_map (λ u. must_hold_below u n) ts)
+    let P : ℕ → Bool = λ j. list_all (λ u. demand_is_met_by_run run (demand_form_holds_in_copy j u)) ts in
+    list_all-append (demand_is_met_by_run run) (demands_form_holds_below_copy t n) (flat_map (λ u. demands_form_holds_below_copy u n) ts)
     ∙ and_from _ _
-    (below-from run t n (λ j less. (and_parts (demand_is_met_by_run run (must_hold_in j t)) (P j) (h j less)).0))
-    (each-below-from run ts n (λ j less. (and_parts (demand_is_met_by_run run (must_hold_in j t)) (P j) (h j less)).1))
+    (below-from run t n (λ j less. (and_parts (demand_is_met_by_run run (demand_form_holds_in_copy j t)) (P j) (h j less)).0))
+    (each-below-from run ts n (λ j less. (and_parts (demand_is_met_by_run run (demand_form_holds_in_copy j t)) (P j) (h j less)).1))
 
 -- The parts of a run that a query asks for.
 pub record IsWanted (s : PlainSystem) (g : PlainGoal) (q : Wanted) (first rules : List ℕ) : Type 0 where

@@ -4,7 +4,7 @@ use Rattle.std.specs.List.{list_all}
 use Rattle.std.proofs.Math.Nat.{suc-mul}
 use Rattle.std.proofs.lemmas.Bool.{and_from, and_parts, leb-true}
 use Rattle.ilk_cnf.specs.Literal.{Literal}
-use Rattle.ilk_cnf.specs.Formula.{Formula, with_vars_and_clauses, with_var_count}
+use Rattle.ilk_cnf.specs.Formula.{Formula, with_var_count_and_clauses, with_var_count}
 use Rattle.ilk_cnf.specs.Part.{FormulaPart, with_part, clauses_from_lists, and_then}
 use Rattle.ilk_cnf.specs.Truth.{satisfies}
 use Rattle.ilk_cnf.proofs.Extending.{extends-clauses_from_lists}
@@ -32,7 +32,7 @@ no_formula = record { vars = 0; clauses = [] }
 
 pub copies_made : (ranges : List ℕ) (steps count : ℕ) (f e d g : Formula) → f ≡ no_formula →
     e ≡ with_var_count f (f.vars + steps * copy_var_count ranges) → d ≡ with_var_count e (e.vars + copy_var_count ranges) →
-    count ≡ suc steps → g ≡ with_vars_and_clauses d d.vars (clauses_from_lists (copies_part ranges count 0).part.clauses) →
+    count ≡ suc steps → g ≡ with_var_count_and_clauses d d.vars (clauses_from_lists (copies_part ranges count 0).part.clauses) →
     g ≡ with_part no_formula (copies_part ranges (suc steps) 0).part
 copies_made ranges steps count f e d g empty later first many made =
     let w = copy_var_count ranges in
@@ -43,8 +43,8 @@ copies_made ranges steps count f e d g empty later first many made =
     let clear : d.clauses ≡ [] = ap (λ (k : Formula). k.clauses) first ∙ ap (λ (k : Formula). k.clauses) later ∙ ap (λ (k : Formula). k.clauses) empty in
     let is : d ≡ with_var_count no_formula p.part.vars = ap (λ (n : ℕ). with_var_count d n) all ∙ ap (λ (cs : List (List Literal)). let k : Formula = record { vars = p.part.vars; clauses = cs } in k) clear in
     made
-    ∙ ap (λ (k : ℕ). with_vars_and_clauses d d.vars (clauses_from_lists (copies_part ranges k 0).part.clauses)) many
-    ∙ ap (λ (k : Formula). with_vars_and_clauses k k.vars (clauses_from_lists p.part.clauses)) is
+    ∙ ap (λ (k : ℕ). with_var_count_and_clauses d d.vars (clauses_from_lists (copies_part ranges k 0).part.clauses)) many
+    ∙ ap (λ (k : Formula). with_var_count_and_clauses k k.vars (clauses_from_lists p.part.clauses)) is
 
 pub first_copies : (ranges : List ℕ) (steps before : ℕ) (f e : Formula) → f ≡ no_formula → e ≡ with_var_count f (f.vars + steps * copy_var_count ranges) → before ≡ e.vars → before ≡ (copies_part ranges steps 0).part.vars
 first_copies ranges steps before f e empty later is = omega (arith, copies-end steps ranges 0, ap (λ (k : Formula). k.vars) later, ap (λ (k : Formula). k.vars) empty, is)

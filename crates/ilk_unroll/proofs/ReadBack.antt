@@ -7,7 +7,7 @@ use Rattle.ilk_base.proofs.Tested.{list_all-slice_get}
 use Rattle.ilk_cnf.specs.Part.{clauses_from_lists}
 use Rattle.ilk_cnf.specs.Truth.{satisfies}
 use Rattle.ilk_cnf.proofs.Gates.{satisfies-clauses_from_lists}
-use Rattle.ilk_ints.specs.Bits.{bit_count, lowest_bits_of, bits_at}
+use Rattle.ilk_ints.specs.Bits.{bit_count, lowest_bits_of, assigned_bits_from_var}
 use Rattle.ilk_ints.specs.Number.{non_value_clauses}
 use Rattle.ilk_ints.proofs.BitsLaw.{number_of, number-bits}
 use Rattle.ilk_ints.proofs.NumberLaw.{value-passes}
@@ -24,7 +24,7 @@ pub record Told (a : List Bool) (first range : ℕ) (others ws : List ℕ) : Typ
   pub rest : List ℕ
   pub split : ws ≡ value ∷ rest
   pub below : value < range
-  pub bits : bits_at a first (bit_count range) ≡ lowest_bits_of (bit_count range) value
+  pub bits : assigned_bits_from_var a first (bit_count range) ≡ lowest_bits_of (bit_count range) value
   pub in_range : in_ranges rest others ≡ true
   pub have : BitsEncode a (first + bit_count range) others rest
 
@@ -41,7 +41,7 @@ told a first range all others ws split h k =
 pub told-passes : (a : List Bool) (first range : ℕ) (others ws : List ℕ) → range ≤ 2 ^ bit_count range → Told a first range others ws → satisfies a (clauses_from_lists (non_value_clauses first range)) ≡ true
 told-passes a first range others ws enough t = satisfies-clauses_from_lists a (non_value_clauses first range) ∙ value-passes a first range t.value enough t.below t.bits
 
-told-read : (a : List Bool) (first range v : ℕ) (others ws : List ℕ) → range ≤ 2 ^ bit_count range → (t : Told a first range others ws) → bits_at a first (bit_count range) ≡ lowest_bits_of (bit_count range) v → v < range → v ≡ t.value
+told-read : (a : List Bool) (first range v : ℕ) (others ws : List ℕ) → range ≤ 2 ^ bit_count range → (t : Told a first range others ws) → assigned_bits_from_var a first (bit_count range) ≡ lowest_bits_of (bit_count range) v → v < range → v ≡ t.value
 told-read a first range v others ws enough t is less =
     let below = t.below in
     sym (number-bits (bit_count range) v (omega arith)) ∙ ap number_of (sym is ∙ t.bits) ∙ number-bits (bit_count range) t.value (omega arith)
@@ -54,7 +54,7 @@ pub record Left (a : List Bool) (first : ℕ) (ranges done values : List ℕ) : 
 
 pub left-next : (a : List Bool) (first range count v : ℕ) (all others done longer values : List ℕ) →
     all ≡ range ∷ others → count ≡ bit_count range → range ≤ 2 ^ bit_count range →
-    bits_at a first (bit_count range) ≡ lowest_bits_of (bit_count range) v → v < range → longer ≡ done ++ v ∷ [] →
+    assigned_bits_from_var a first (bit_count range) ≡ lowest_bits_of (bit_count range) v → v < range → longer ≡ done ++ v ∷ [] →
     Left a first all done values → Left a (first + count) others longer values
 left-next a first range count v all others done longer values split counted enough is less pushed h =
     let t = told a first range all others h.rest split h.in_range h.have in

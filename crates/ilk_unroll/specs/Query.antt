@@ -20,8 +20,8 @@ pub record PartWithCopyLits : Type 0 where
 
 -- Puts one copy before the later ones: its clauses and literals come before theirs, its variables
 -- after theirs.
-abbrev pub prepend_copy : PartWithAllVarLits → PartWithCopyLits → PartWithCopyLits
-prepend_copy one later =
+abbrev pub prepend_copy_part : PartWithAllVarLits → PartWithCopyLits → PartWithCopyLits
+prepend_copy_part one later =
     record {
       part = record { vars = one.part.vars; clauses = one.part.clauses ++ later.part.clauses };
       tables = one.columns ∷ later.tables;
@@ -31,7 +31,7 @@ prepend_copy one later =
 -- variables. Their variables are in reverse order: the last copy has the lowest.
 abbrev pub copies_part : List ℕ → ℕ → ℕ → PartWithCopyLits
 copies_part ranges zero n = record { part = empty_part n; tables = [] }
-copies_part ranges (suc count) n = prepend_copy (copy_part ranges (copies_part ranges count n).part.vars) (copies_part ranges count n)
+copies_part ranges (suc count) n = prepend_copy_part (copy_part ranges (copies_part ranges count n).part.vars) (copies_part ranges count n)
 
 -- The formula part with a step from each copy to the next, after the first `n` variables.
 abbrev pub steps_part : List PlainRule → List (List VarValueAndBoundLits) → ℕ → FormulaPart

@@ -42,5 +42,5 @@ abbrev pub run_part : PlainSystem → ℕ → FormulaPart
 run_part s steps = and_then (run_copies s.ranges steps).part (steps_part s.rules (run_copies s.ranges steps).tables)
 
 -- For each step of a run of `steps` steps, the variables that say which rule it chooses.
-abbrev pub run_choices : PlainSystem → ℕ → List Choice
-run_choices s steps = step_choice_variables s.rules (run_copies s.ranges steps).tables (run_copies s.ranges steps).part.vars
+abbrev pub run_choice_variables : PlainSystem → ℕ → List Choice
+run_choice_variables s steps = step_choice_variables s.rules (run_copies s.ranges steps).tables (run_copies s.ranges steps).part.vars

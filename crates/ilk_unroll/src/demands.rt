@@ -3,7 +3,7 @@ ghost use Rattle.std.specs.List.{list_all, flat_map};
 ghost use Rattle.ilk_cnf.specs.Part.{with_part};
 ghost use Rattle.ilk_ir.specs.Form.{tree_of, trees_of};
 ghost use Rattle.ilk_ir.specs.Tree.{all_of, more, negation};
-ghost use Rattle.ilk_unroll.specs.Goal.{must_hold_in, must_fail_in, must_hold_below, demands_of, plain_goal, step_count};
+ghost use Rattle.ilk_unroll.specs.Goal.{demand_form_holds_in_copy, demand_form_fails_in_copy, demands_form_holds_below_copy, demands_of, plain_goal, step_count};
 ghost use Rattle.ilk_unroll.specs.Query.{demands_part};
 ghost use Rattle.ilk_unroll.specs.Tables.{are_copies_within_vars, is_valid_in_each};
 
@@ -27,7 +27,8 @@ fn demand_in(
     ensures made { OnOk result
         (cnf.new
         ≡ with_part cnf.old
-        (demands_part tables.now (must_hold_in copy (tree_of form.now) ∷ []) cnf.old.vars)) }
+        (demands_part tables.now
+        (demand_form_holds_in_copy copy (tree_of form.now) ∷ []) cnf.old.vars)) }
     ensures within { OnOk result (IsTrue (are_copies_within_vars cnf.new.vars tables.now)) }
 {
     demand_some_lit_or_form(alloc, cnf, tables.at(u64::from(copy)), &[], form)?;
@@ -47,7 +48,8 @@ fn demand_below(
     ensures made { OnOk result
         (cnf.new
         ≡ with_part cnf.old
-        (demands_part tables.now (must_hold_below (tree_of form.now) count) cnf.old.vars)) }
+        (demands_part tables.now
+        (demands_form_holds_below_copy (tree_of form.now) count) cnf.old.vars)) }
     ensures within { OnOk result (IsTrue (are_copies_within_vars cnf.new.vars tables.now)) }
 {
     for copy in 0..count {
@@ -70,7 +72,8 @@ fn demand_each_below(
         (cnf.new
         ≡ with_part cnf.old
         (demands_part tables.now
-        (flat_map (λ t. must_hold_below t count) (map tree_of forms.now)) cnf.old.vars)) }
+        (flat_map (λ t. demands_form_holds_below_copy t count)
+        (map tree_of forms.now)) cnf.old.vars)) }
     ensures within { OnOk result (IsTrue (are_copies_within_vars cnf.new.vars tables.now)) }
 {
     for form in forms {
@@ -92,7 +95,7 @@ fn demand_violated(
     ensures { OnOk result
         (cnf.new
         ≡ with_part cnf.old
-        (demands_part tables.now (must_fail_in copy (all_of (trees_of forms.now)) ∷ [])
+        (demands_part tables.now (demand_form_fails_in_copy copy (all_of (trees_of forms.now)) ∷ [])
         cnf.old.vars)) }
 {
     demand_some_form_fails(alloc, cnf, tables.at(u64::from(copy)), forms.as_slice())?;
@@ -116,7 +119,7 @@ fn demand_or_violated(
         (cnf.new
         ≡ with_part cnf.old
         (demands_part tables.now
-        (must_fail_in copy
+        (demand_form_fails_in_copy copy
         (all_of (more (negation (tree_of form.now)) (trees_of forms.now)))
         ∷ []) cnf.old.vars)) }
 {

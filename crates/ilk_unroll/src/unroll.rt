@@ -1,16 +1,16 @@
 ghost use Rattle.std.specs.Prelude.{◌≡◌, ◌+◌, ◌*◌, ◌<◌, ◌≤◌, ◌^◌, [], nat_lt, map, OnOk, IfOk, IsTrue};
 ghost use Rattle.std.specs.List.{list_all};
-ghost use Rattle.ilk_cnf.specs.Formula.{with_vars_and_clauses, with_var_count};
+ghost use Rattle.ilk_cnf.specs.Formula.{with_var_count_and_clauses, with_var_count};
 ghost use Rattle.ilk_cnf.specs.Part.{with_part, clauses_from_lists};
 ghost use Rattle.ilk_ir.specs.System.{plain_rule, plain_system, system_valid};
 ghost use Rattle.ilk_forms.specs.Copy.{copy_bit_count, copy_var_count};
 ghost use Rattle.ilk_unroll.specs.Query.{copies_part, steps_part};
-ghost use Rattle.ilk_unroll.specs.Represented.{run_choices, run_copies, run_part};
+ghost use Rattle.ilk_unroll.specs.Represented.{run_choice_variables, run_copies, run_part};
 ghost use Rattle.ilk_unroll.specs.Tables.{are_copies_within_vars, CopiesHaveRanges, step_choice_variables, choices_begin_at_or_before};
 
 use ilk_base::Row;
 use ilk_cnf::Cnf;
-use ilk_forms::{CopyLits, add_copy_clauses, reserve_copy};
+use ilk_forms::{CopyLits, add_copy_clauses, reserve_copy_vars};
 use ilk_ir::{Ranges, System};
 use ilk_step::{Choice, add_step};
 use std::alloc::{AllocError, Global};
@@ -35,7 +35,7 @@ fn take_copies(cnf: &mut Cnf, ranges: &Ranges, count: u32) -> Result<(), AllocEr
         (cnf.new ≡ with_var_count cnf.old (cnf.old.vars + count * copy_var_count ranges.now)) }
 {
     for _ in 0..count {
-        reserve_copy(cnf, ranges)?;
+        reserve_copy_vars(cnf, ranges)?;
     }
     Ok(())
 }
@@ -52,7 +52,7 @@ fn add_copies(
     ensures tables { IfOk result (λ tables. tables ≡ (copies_part ranges.now count 0).tables) }
     ensures made { OnOk result
         (cnf.new
-        ≡ with_vars_and_clauses cnf.old cnf.old.vars
+        ≡ with_var_count_and_clauses cnf.old cnf.old.vars
         (clauses_from_lists (copies_part ranges.now count 0).part.clauses)) }
 {
     let mut tables = RunLits::new(alloc);
@@ -114,7 +114,7 @@ pub(crate) fn unroll(
     ensures first { IfOk result
         (λ unrolled. unrolled.first ≡ (copies_part system.now.ranges steps 0).part.vars + 1) }
     ensures choices { IfOk result
-        (λ unrolled. unrolled.choices ≡ run_choices (plain_system system.now) steps) }
+        (λ unrolled. unrolled.choices ≡ run_choice_variables (plain_system system.now) steps) }
     ensures made { OnOk result
         (cnf.new
         ≡ with_part (record { vars = 0; clauses = [] })
@@ -131,7 +131,7 @@ pub(crate) fn unroll(
     let _ranges = bytes_of(system.ranges.as_slice());
     take_copies(cnf, &system.ranges, steps)?;
     let before = cnf.vars();
-    reserve_copy(cnf, &system.ranges)?;
+    reserve_copy_vars(cnf, &system.ranges)?;
     let all = cnf.vars();
     let tables = add_copies(alloc, cnf, &system.ranges, all - before, steps + 1)?;
     let choices = add_steps(alloc, cnf, system, &tables)?;

@@ -12,23 +12,23 @@ use Rattle.ilk_log.specs.Propagation.{is_false, is_falsified}
 use Rattle.ilk_trail.specs.declared.entry.Entry.{Entry}
 use Rattle.ilk_trail.specs.Laws.{is_set, lits_of}
 use Rattle.ilk_trail.proofs.Entries.{set-at}
-use Rattle.ilk_arena.specs.Arena.{ArenaLists, with_clause_added, chain_of, literals_of, number_of_clause, contains_reference}
+use Rattle.ilk_arena.specs.Arena.{ArenaContent, with_clause_added, chain_of, literals_of, number_of_clause, contains_reference}
 use Rattle.ilk_arena.proofs.Watching.{stands-with_clause_added}
-use Rattle.ilk_watches.specs.Chained.{IsClauses, IsClauseAdded}
+use Rattle.ilk_watches.specs.Chained.{AreValidNumberedClauses, IsClauseAdded}
 use Rattle.ilk_watches.proofs.Chained.{by-number, placed}
-use Rattle.ilk_watches.specs.Watched.{is_satisfied, FirstTwoAreWatchable, IsCovered, IsPropagationInvariant, MayForce}
+use Rattle.ilk_watches.specs.Watched.{is_satisfied, FirstTwoAreWatchable, IsCovered, IsPropagationInvariant, ClauseMayForceLit}
 use Rattle.ilk_watches.proofs.Covers.{stands-either, stands-one}
 
-chains-old : (a : ArenaLists) (clause : List Literal) (r s d : ℕ) (p : Literal) → d ≢ r → contains_reference d (chain_of (with_clause_added a clause r s) p) ≡ true → contains_reference d (chain_of a p) ≡ true
+chains-old : (a : ArenaContent) (clause : List Literal) (r s d : ℕ) (p : Literal) → d ≢ r → contains_reference d (chain_of (with_clause_added a clause r s) p) ≡ true → contains_reference d (chain_of a p) ≡ true
 chains-old a [] r s d p ne h = h
 chains-old a (l ∷ []) r s d p ne h = h
 chains-old a (l ∷ (m ∷ ls)) r s d p ne h = elim (stands-with_clause_added a l m ls r s d p h) [ inl q ↦ q | inr q ↦ absurd (ne q.0) ]
 
-pub record Same (a b : ArenaLists) (c : ℕ) : Type 0 where
+pub record Same (a b : ArenaContent) (c : ℕ) : Type 0 where
   pub literals : literals_of b c ≡ literals_of a c
   pub number : number_of_clause b c ≡ number_of_clause a c
 
-old-same : (a : ArenaLists) (clause : List Literal) (r s c : ℕ) → IsClauses a → IsClauses (with_clause_added a clause r s) → contains_reference c a.references ≡ true → Same a (with_clause_added a clause r s) c
+old-same : (a : ArenaContent) (clause : List Literal) (r s c : ℕ) → AreValidNumberedClauses a → AreValidNumberedClauses (with_clause_added a clause r s) → contains_reference c a.references ≡ true → Same a (with_clause_added a clause r s) c
 old-same a clause r s c ka kb known =
     let p = placed a.references c known in
     let old = by-number a p.index c ka p.stands in
@@ -38,11 +38,11 @@ old-same a clause r s c ka kb known =
       number = new.number ∙ sym old.number;
     }
 
-pub record New (b : ArenaLists) (clause : List Literal) (r n : ℕ) : Type 0 where
+pub record New (b : ArenaContent) (clause : List Literal) (r n : ℕ) : Type 0 where
   pub literals : literals_of b r ≡ clause
   pub number : number_of_clause b r ≡ n + 1
 
-new-is : (a : ArenaLists) (clause : List Literal) (r s : ℕ) → IsClauses a → IsClauses (with_clause_added a clause r s) → New (with_clause_added a clause r s) clause r (length a.clauses)
+new-is : (a : ArenaContent) (clause : List Literal) (r s : ℕ) → AreValidNumberedClauses a → AreValidNumberedClauses (with_clause_added a clause r s) → New (with_clause_added a clause r s) clause r (length a.clauses)
 new-is a clause r s ka kb =
     let z : length a.references + 0 ≡ length a.clauses = omega (arith, ka.paired) in
     let there : slice_get (a.references ++ r ∷ []) (length a.clauses) ≡ Some r = ap (slice_get (a.references ++ r ∷ [])) (sym z) ∙ at-past a.references (r ∷ []) 0 r refl in
@@ -63,7 +63,7 @@ falsified-other_lits set l (m ∷ ls) h =
 not-made : (es : List Entry) (i : ℕ) (e : Entry) (l : Literal) → is_set es l.var ≡ false → slice_get es i ≡ Some e → e.lit ≢ negated_lit l
 not-made es i e l u s q = true≢false (sym (set-at es i e s) ∙ ap (λ (m : Literal). is_set es m.var) q ∙ u)
 
-new-watches : (a : ArenaLists) (l m : Literal) (ls : List Literal) (r s : ℕ) (p : Literal) → IsClauses a → contains_reference r a.references ≡ false → contains_reference r (chain_of (with_clause_added a (l ∷ (m ∷ ls)) r s) p) ≡ true →
+new-watches : (a : ArenaContent) (l m : Literal) (ls : List Literal) (r s : ℕ) (p : Literal) → AreValidNumberedClauses a → contains_reference r a.references ≡ false → contains_reference r (chain_of (with_clause_added a (l ∷ (m ∷ ls)) r s) p) ≡ true →
     (p ≡ l) ⊎ (p ≡ m)
 new-watches a l m ls r s p k fresh h =
     elim (stands-with_clause_added a l m ls r s r p h) [
@@ -71,13 +71,13 @@ new-watches a l m ls r s p k fresh h =
       | inr q ↦ q.1
     ]
 
-new-covered : (a : ArenaLists) (es : List Entry) (h s r sp : ℕ) (clause : List Literal) → IsClauses a →
-    IsClauses (with_clause_added a clause r sp) → contains_reference r a.references ≡ false →
+new-covered : (a : ArenaContent) (es : List Entry) (h s r sp : ℕ) (clause : List Literal) → AreValidNumberedClauses a →
+    AreValidNumberedClauses (with_clause_added a clause r sp) → contains_reference r a.references ≡ false →
     contains_reference r (with_clause_added a clause r sp).references ≡ true → s ≤ length a.clauses → FirstTwoAreWatchable es clause →
     IsCovered (with_clause_added a clause r sp) es h r
     ⊎
     ((s < number_of_clause (with_clause_added a clause r sp) r) ×
-    ((x y : Literal) × MayForce (with_clause_added a clause r sp) es h r x y))
+    ((x y : Literal) × ClauseMayForceLit (with_clause_added a clause r sp) es h r x y))
 new-covered a es h s r sp [] ka kb fresh known le ok =
     let new = new-is a [] r sp ka kb in
     inl (λ i e l b t w1 w2 ne. absurd (true≢false (sym w1 ∙ kb.arena.short r known (omega (arith, ap length new.literals)) (negated_lit e.lit))))
@@ -108,12 +108,12 @@ new-covered a es h s r sp (l ∷ (m ∷ ls)) ka kb fresh known le ok =
       )
     ]
 
-old-covered : (a : ArenaLists) (es : List Entry) (h s r sp c : ℕ) (clause : List Literal) → IsPropagationInvariant a es h s →
-    IsClauses a → IsClauses (with_clause_added a clause r sp) → contains_reference c a.references ≡ true → c ≢ r →
+old-covered : (a : ArenaContent) (es : List Entry) (h s r sp c : ℕ) (clause : List Literal) → IsPropagationInvariant a es h s →
+    AreValidNumberedClauses a → AreValidNumberedClauses (with_clause_added a clause r sp) → contains_reference c a.references ≡ true → c ≢ r →
     IsCovered (with_clause_added a clause r sp) es h c
     ⊎
     ((s < number_of_clause (with_clause_added a clause r sp) c) ×
-    ((x y : Literal) × MayForce (with_clause_added a clause r sp) es h c x y))
+    ((x y : Literal) × ClauseMayForceLit (with_clause_added a clause r sp) es h c x y))
 old-covered a es h s r sp c clause q ka kb known ne =
     let same = old-same a clause r sp c ka kb known in
     elim (q.watched c known) [
@@ -133,7 +133,8 @@ old-covered a es h s r sp c clause q ka kb known ne =
       )
     ]
 
-grown : (a : ArenaLists) (es : List Entry) (h s r sp : ℕ) (clause : List Literal) → IsPropagationInvariant a es h s → IsClauses a → IsClauses (with_clause_added a clause r sp) → contains_reference r a.references ≡ false →
+grown : (a : ArenaContent) (es : List Entry) (h s r sp : ℕ) (clause : List Literal) → IsPropagationInvariant a es h s → AreValidNumberedClauses a → AreValidNumberedClauses (with_clause_added a clause r sp) → contains_reference r a.references
+    ≡ false →
     FirstTwoAreWatchable es clause
     → IsPropagationInvariant (with_clause_added a clause r sp) es h s
 grown a es h s r sp clause q ka kb fresh ok =
@@ -145,7 +146,7 @@ grown a es h s r sp clause q ka kb fresh ok =
       watched = λ c known. elim (stands-either c a.references (r ∷ []) known) [
         | inl old ↦ old-covered a es h s r sp c clause q ka kb old (other c old)
         | inr new ↦ (let e = stands-one c r new in
-            let P : ℕ → Type 0 = λ d. IsCovered (with_clause_added a clause r sp) es h d ⊎ ((s < number_of_clause (with_clause_added a clause r sp) d) × ((x y : Literal) × MayForce (with_clause_added a clause r sp) es h d x y)) in
+            let P : ℕ → Type 0 = λ d. IsCovered (with_clause_added a clause r sp) es h d ⊎ ((s < number_of_clause (with_clause_added a clause r sp) d) × ((x y : Literal) × ClauseMayForceLit (with_clause_added a clause r sp) es h d x y)) in
             subst P (sym e) (new-covered a es h s r sp clause ka kb fresh (ap (λ (d : ℕ). contains_reference d (a.references ++ r ∷ [])) (sym e) ∙ known) q.settled_in ok))
       ];
       short = λ c known few b. elim (stands-either c a.references (r ∷ []) known) [
@@ -158,9 +159,10 @@ grown a es h s r sp clause q ka kb fresh ok =
       ];
     }
 
-pub queue-with_clause_added : (a b : ArenaLists) (es : List Entry) (h s : ℕ) (clause : List Literal) → IsPropagationInvariant a es h s → IsClauses a → IsClauses b → IsClauseAdded a clause b → FirstTwoAreWatchable es clause →
+pub queue-with_clause_added : (a b : ArenaContent) (es : List Entry) (h s : ℕ) (clause : List Literal) → IsPropagationInvariant a es h s → AreValidNumberedClauses a → AreValidNumberedClauses b → IsClauseAdded a clause b
+    → FirstTwoAreWatchable es clause →
     IsPropagationInvariant b es h s
 queue-with_clause_added a b es h s clause q ka kb n ok =
-    let C : ArenaLists → Type 0 = λ x. IsClauses x in
-    let Q : ArenaLists → Type 0 = λ x. IsPropagationInvariant x es h s in
+    let C : ArenaContent → Type 0 = λ x. AreValidNumberedClauses x in
+    let Q : ArenaContent → Type 0 = λ x. IsPropagationInvariant x es h s in
     subst Q (sym n.is) (grown a es h s n.reference b.spare clause q ka (subst C n.is kb) n.fresh ok)

@@ -9,22 +9,22 @@ use Rattle.ilk_trail.specs.declared.entry.Entry.{Entry}
 use Rattle.ilk_trail.specs.Trail.{level_of, entries_up_to}
 use Rattle.ilk_trail.specs.Laws.{each_may_follow_level, lits_of}
 use Rattle.ilk_trail.proofs.Levels.{entries_up_to-all}
-use Rattle.ilk_arena.specs.Arena.{ArenaLists, literals_of}
+use Rattle.ilk_arena.specs.Arena.{ArenaContent, literals_of}
 use Rattle.ilk_watches.specs.Reasons.{nth_clause_or_empty}
-use Rattle.ilk_watches.specs.Chained.{IsClauses}
+use Rattle.ilk_watches.specs.Chained.{AreValidNumberedClauses}
 use Rattle.ilk_watches.proofs.Chained.{by-reference}
 use Rattle.ilk_watches.proofs.Within.{clause-there}
-use Rattle.ilk_watches.specs.Watched.{IsCovered, IsPropagationInvariant, MayForce}
+use Rattle.ilk_watches.specs.Watched.{IsCovered, IsPropagationInvariant, ClauseMayForceLit}
 use Rattle.ilk_watches.proofs.Entries.{at-kept}
 use Rattle.ilk_watches.proofs.Prefixes.{front-kept, up-level, entries_up_to-twice}
 use Rattle.ilk_watches.proofs.Satisfied.{is_open, short-satisfied}
 
-covered-back : (a : ArenaLists) (es : List Entry) (h n k c : ℕ) → each_may_follow_level 0 es ≡ true → n ≤ h → IsCovered a es h c → IsCovered a (entries_up_to k es) n c
+covered-back : (a : ArenaContent) (es : List Entry) (h n k c : ℕ) → each_may_follow_level 0 es ≡ true → n ≤ h → IsCovered a es h c → IsCovered a (entries_up_to k es) n c
 covered-back a es h n k c climb le v = λ i e l b s w1 w2 ne.
     let t = v i e l (omega (arith, b, le)) (at-kept (entries_up_to k es) es i e (front-kept k es climb) s) w1 w2 ne in
     ap (λ (xs : List Entry). has_lit l (lits_of xs)) (entries_up_to-twice e.level k es (up-level k es i e s)) ∙ t
 
-forced-back : (a : ArenaLists) (es : List Entry) (h n k c : ℕ) (x y : Literal) → each_may_follow_level 0 es ≡ true → n ≤ h → k < level_of es → MayForce a es h c x y → IsCovered a (entries_up_to k es) n c
+forced-back : (a : ArenaContent) (es : List Entry) (h n k c : ℕ) (x y : Literal) → each_may_follow_level 0 es ≡ true → n ≤ h → k < level_of es → ClauseMayForceLit a es h c x y → IsCovered a (entries_up_to k es) n c
 forced-back a es h n k c x y climb le low m = λ i e l b s w1 w2 ne.
     let old = at-kept (entries_up_to k es) es i e (front-kept k es climb) s in
     let level = up-level k es i e s in
@@ -33,7 +33,7 @@ forced-back a es h n k c x y climb le low m = λ i e l b s w1 w2 ne.
       | inr q ↦ absurd (let now = m.recent i e old (sym (negated_lit-negated_lit e.lit) ∙ ap negated_lit q) in omega (arith, now, level, low))
     ]
 
-lower : (a : ArenaLists) (es : List Entry) (h s k n : ℕ) → IsPropagationInvariant a es h s → IsClauses a →
+lower : (a : ArenaContent) (es : List Entry) (h s k n : ℕ) → IsPropagationInvariant a es h s → AreValidNumberedClauses a →
     each_may_follow_level 0 es ≡ true → k < level_of es → is_saturated a.clauses (lits_of (entries_up_to k es)) ≡ true → n ≤ h →
     n ≤ length (entries_up_to k es) → (n < length (entries_up_to k es) → n ≡ h) → IsPropagationInvariant a (entries_up_to k es) n s
 lower a es h s k n q cl climb low closed le fits same = record {
@@ -56,7 +56,7 @@ lower a es h s k n q cl climb low closed le fits same = record {
       short-satisfied (entries_up_to k es) (literals_of a c) b (ap (is_open (lits_of (entries_up_to k es))) (sym r.literals) ∙ o));
 }
 
-pub queue-back : (a : ArenaLists) (es : List Entry) (h s k : ℕ) → IsPropagationInvariant a es h s → IsClauses a → each_may_follow_level 0 es ≡ true → (k < level_of es → is_saturated a.clauses (lits_of (entries_up_to k es)) ≡ true)
+pub queue-back : (a : ArenaContent) (es : List Entry) (h s k : ℕ) → IsPropagationInvariant a es h s → AreValidNumberedClauses a → each_may_follow_level 0 es ≡ true → (k < level_of es → is_saturated a.clauses (lits_of (entries_up_to k es)) ≡ true)
     → IsPropagationInvariant a (entries_up_to k es) (min h (length (entries_up_to k es))) s
 queue-back a es h s k q cl climb closed =
     elim (below_or_past k (level_of es)) [

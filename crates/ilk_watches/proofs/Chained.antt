@@ -8,11 +8,11 @@ use Rattle.ilk_base.proofs.Lists.{item_at}
 use Rattle.ilk_base.proofs.Tested.{list_all-more}
 use Rattle.ilk_cnf.specs.Literal.{Literal, has_distinct_vars}
 use Rattle.ilk_cnf.specs.Formula.{is_clause_over, are_clauses_over}
-use Rattle.ilk_arena.specs.Arena.{ArenaLists, with_clause_added, literals_of, number_of_clause, item_at_reference_or_default, with_watch_moved, set_for_reference, contains_reference}
+use Rattle.ilk_arena.specs.Arena.{ArenaContent, with_clause_added, literals_of, number_of_clause, item_at_reference_or_default, with_watch_moved, set_for_reference, contains_reference}
 use Rattle.ilk_arena.specs.Chains.{EachLongClauseWatchesTwo}
 use Rattle.ilk_arena.proofs.Watching.{once-head}
 use Rattle.ilk_watches.specs.Reasons.{nth_clause_or_empty}
-use Rattle.ilk_watches.specs.Chained.{IsClauses, IsClauseAdded}
+use Rattle.ilk_watches.specs.Chained.{AreValidNumberedClauses, IsClauseAdded}
 use Rattle.ilk_watches.specs.Held.{AreClauseReferences}
 
 -- The item at the position of the reference at an index.
@@ -53,34 +53,34 @@ placed (x ∷ rs) r h =
       | inr e ↦ (let t = placed rs r (rw e.0 at h) in record { index = suc t.index; stands = t.stands; within = omega (arith, t.within) })
     ]
 
-pub record ByNumber (a : ArenaLists) (c r : ℕ) : Type 0 where
+pub record ByNumber (a : ArenaContent) (c r : ℕ) : Type 0 where
   pub known : contains_reference r a.references ≡ true
   pub literals : literals_of a r ≡ nth_clause_or_empty a.clauses c
   pub number : number_of_clause a r ≡ c + 1
 
-pub by-number : (a : ArenaLists) (c r : ℕ) → IsClauses a → slice_get a.references c ≡ Some r → ByNumber a c r
+pub by-number : (a : ArenaContent) (c r : ℕ) → AreValidNumberedClauses a → slice_get a.references c ≡ Some r → ByNumber a c r
 by-number a c r k s =
     let p = paired a.references a.clauses [] c r k.once k.paired s in
     record { known = p.stands; literals = p.item; number = ap (λ n. n + 1) p.place }
 
-pub record ByReference (a : ArenaLists) (r : ℕ) : Type 0 where
+pub record ByReference (a : ArenaContent) (r : ℕ) : Type 0 where
   pub index : ℕ
   pub number : number_of_clause a r ≡ index + 1
   pub within : index < length a.clauses
   pub literals : nth_clause_or_empty a.clauses index ≡ literals_of a r
 
-pub by-reference : (a : ArenaLists) (r : ℕ) → IsClauses a → contains_reference r a.references ≡ true → ByReference a r
+pub by-reference : (a : ArenaContent) (r : ℕ) → AreValidNumberedClauses a → contains_reference r a.references ≡ true → ByReference a r
 by-reference a r k h =
     let p = placed a.references r h in
     let b = by-number a p.index r k p.stands in
     record { index = p.index; number = b.number; within = omega (arith, p.within, k.paired); literals = sym b.literals }
 
-pub record Referred (a : ArenaLists) (c : ℕ) : Type 0 where
+pub record Referred (a : ArenaContent) (c : ℕ) : Type 0 where
   pub reference : ℕ
   pub stands : slice_get a.references c ≡ Some reference
   pub is : ByNumber a c reference
 
-pub referred : (a : ArenaLists) (c : ℕ) → IsClauses a → c < length a.clauses → Referred a c
+pub referred : (a : ArenaContent) (c : ℕ) → AreValidNumberedClauses a → c < length a.clauses → Referred a c
 referred a c k h =
     let r = item_at a.references c (omega (arith, h, k.paired)) in
     record { reference = r.0; stands = r.1; is = by-number a c r.0 k r.1 }
@@ -89,7 +89,7 @@ none-twice : IsDistinct eqb []
 unfolding IsDistinct
 none-twice = tt
 
-pub held-none : (a : ArenaLists) → a.vars ≤ 2 ^ 62 → a.references ≡ [] → a.clauses ≡ [] → EachLongClauseWatchesTwo a → AreClauseReferences a []
+pub held-none : (a : ArenaContent) → a.vars ≤ 2 ^ 62 → a.references ≡ [] → a.clauses ≡ [] → EachLongClauseWatchesTwo a → AreClauseReferences a []
 held-none a few rs cs k = record {
   row = sym rs;
   clauses = record {
@@ -111,7 +111,7 @@ once-push (x ∷ rs) r u h =
     all-push [] k e = (e, tt)
     all-push (y ∷ ys) k e = (k.0, all-push ys k.1 e)
 
-pub held-with_clause_added : (a : ArenaLists) (rs : List ℕ) (clause : List Literal) (r s : ℕ) → AreClauseReferences a rs →
+pub held-with_clause_added : (a : ArenaContent) (rs : List ℕ) (clause : List Literal) (r s : ℕ) → AreClauseReferences a rs →
     is_clause_over a.vars clause ≡ true → has_distinct_vars clause ≡ true → contains_reference r a.references ≡ false →
     EachLongClauseWatchesTwo (with_clause_added a clause r s) → AreClauseReferences (with_clause_added a clause r s) (rs ++ r ∷ [])
 held-with_clause_added a rs clause r s h w d f k = record {
@@ -128,13 +128,13 @@ held-with_clause_added a rs clause r s h w d f k = record {
   };
 }
 
-pub held-with_watch_moved : (a : ArenaLists) (rs : List ℕ) (c : ℕ) (f t : Literal) → AreClauseReferences a rs → EachLongClauseWatchesTwo (with_watch_moved a c f t) → AreClauseReferences (with_watch_moved a c f t) rs
+pub held-with_watch_moved : (a : ArenaContent) (rs : List ℕ) (c : ℕ) (f t : Literal) → AreClauseReferences a rs → EachLongClauseWatchesTwo (with_watch_moved a c f t) → AreClauseReferences (with_watch_moved a c f t) rs
 held-with_watch_moved a rs c f t h k = record {
   row = h.row;
   clauses = record { formula = h.clauses.formula; arena = k; paired = h.clauses.paired; once = h.clauses.once };
 }
 
-pub held-cursor : (a : ArenaLists) (rs : List ℕ) (c i : ℕ) → AreClauseReferences a rs → AreClauseReferences (record a { cursors = set_for_reference c a.references a.cursors i }) rs
+pub held-cursor : (a : ArenaContent) (rs : List ℕ) (c i : ℕ) → AreClauseReferences a rs → AreClauseReferences (record a { cursors = set_for_reference c a.references a.cursors i }) rs
 held-cursor a rs c i h = record {
   row = h.row;
   clauses = record {
@@ -161,7 +161,7 @@ held-cursor a rs c i h = record {
   };
 }
 
-pub held-room : (a : ArenaLists) (rs : List ℕ) (s : ℕ) → AreClauseReferences a rs → AreClauseReferences (record a { spare = s }) rs
+pub held-room : (a : ArenaContent) (rs : List ℕ) (s : ℕ) → AreClauseReferences a rs → AreClauseReferences (record a { spare = s }) rs
 held-room a rs s h = record {
   row = h.row;
   clauses = record {
@@ -188,26 +188,26 @@ held-room a rs s h = record {
   };
 }
 
-pub read-reference : (a : ArenaLists) (rs : List ℕ) (c r : ℕ) → AreClauseReferences a rs → c < length a.clauses → r ≡ get_or rs c r → ByNumber a c r
+pub read-reference : (a : ArenaContent) (rs : List ℕ) (c r : ℕ) → AreClauseReferences a rs → c < length a.clauses → r ≡ get_or rs c r → ByNumber a c r
 read-reference a rs c r h w e =
     let size : length rs ≡ length a.clauses = ap length h.row ∙ h.clauses.paired in
     let there : slice_get rs c ≡ Some r = slice_get-get_or rs c r (omega (arith, size, w)) ∙ ap Some (sym e) in
     by-number a c r h.clauses (ap (λ (xs : List ℕ). slice_get xs c) (sym h.row) ∙ there)
 
-pub held-grown : (a b n : ArenaLists) (rs : List ℕ) (clause : List Literal) (r : ℕ) → AreClauseReferences a rs →
+pub held-grown : (a b n : ArenaContent) (rs : List ℕ) (clause : List Literal) (r : ℕ) → AreClauseReferences a rs →
     b ≡ record a { spare = b.spare } → is_clause_over a.vars clause ≡ true → has_distinct_vars clause ≡ true →
     contains_reference r b.references ≡ false → n ≡ with_clause_added b clause r n.spare → EachLongClauseWatchesTwo n →
     AreClauseReferences n (rs ++ r ∷ [])
 held-grown a b n rs clause r h e w d f g k =
-    let H : ArenaLists → Type 0 = λ x. AreClauseReferences x rs in
-    let G : ArenaLists → Type 0 = λ x. AreClauseReferences x (rs ++ r ∷ []) in
-    let A : ArenaLists → Type 0 = λ x. EachLongClauseWatchesTwo x in
-    let wide : is_clause_over b.vars clause ≡ true = ap (λ (x : ArenaLists). is_clause_over x.vars clause) e ∙ w in
+    let H : ArenaContent → Type 0 = λ x. AreClauseReferences x rs in
+    let G : ArenaContent → Type 0 = λ x. AreClauseReferences x (rs ++ r ∷ []) in
+    let A : ArenaContent → Type 0 = λ x. EachLongClauseWatchesTwo x in
+    let wide : is_clause_over b.vars clause ≡ true = ap (λ (x : ArenaContent). is_clause_over x.vars clause) e ∙ w in
     subst G (sym g) (held-with_clause_added b rs clause r n.spare (subst H (sym e) (held-room a rs b.spare h)) wide d f (subst A g k))
 
-pub with_clause_added-is : (a b n : ArenaLists) (clause : List Literal) (r : ℕ) → b ≡ record a { spare = b.spare } → contains_reference r b.references ≡ false → n ≡ with_clause_added b clause r n.spare → IsClauseAdded a clause n
+pub with_clause_added-is : (a b n : ArenaContent) (clause : List Literal) (r : ℕ) → b ≡ record a { spare = b.spare } → contains_reference r b.references ≡ false → n ≡ with_clause_added b clause r n.spare → IsClauseAdded a clause n
 with_clause_added-is a b n clause r e f g = record {
   reference = r;
-  fresh = ap (λ (x : ArenaLists). contains_reference r x.references) (sym e) ∙ f;
-  is = g ∙ ap (λ (x : ArenaLists). with_clause_added x clause r n.spare) e;
+  fresh = ap (λ (x : ArenaContent). contains_reference r x.references) (sym e) ∙ f;
+  is = g ∙ ap (λ (x : ArenaContent). with_clause_added x clause r n.spare) e;
 }

@@ -9,21 +9,21 @@ use Rattle.ilk_trail.specs.declared.entry.Entry.{Entry}
 use Rattle.ilk_trail.specs.Trail.{level_of}
 use Rattle.ilk_trail.specs.Laws.{each_may_follow_level, lits_of}
 use Rattle.ilk_trail.proofs.Levels.{entries_up_to-all}
-use Rattle.ilk_arena.specs.Arena.{ArenaLists, place, chain_of, with_watch_moved, contains_reference, without_reference}
+use Rattle.ilk_arena.specs.Arena.{ArenaContent, place, chain_of, with_watch_moved, contains_reference, without_reference}
 use Rattle.ilk_arena.proofs.Watching.{chain-left, once-head, stands-front, stands-with_watch_moved, without-between}
 use Rattle.ilk_watches.specs.Watched.{is_true_by_level, IsCovered}
 use Rattle.ilk_watches.specs.Visits.{CoveredExceptInChains, OtherWatchesTrueInPassed, IsOtherWatchTrue}
 use Rattle.ilk_watches.proofs.Entries.{true-somewhere, true-kept, lit-kept, at-old, not-both, entry-denies}
 
-pub covered-more : (a : ArenaLists) (es fs : List Entry) (n c : ℕ) → take (length es) fs ≡ es → n ≤ length es → IsCovered a es n c → IsCovered a fs n c
+pub covered-more : (a : ArenaContent) (es fs : List Entry) (n c : ℕ) → take (length es) fs ≡ es → n ≤ length es → IsCovered a es n c → IsCovered a fs n c
 covered-more a es fs n c p w h = λ i e l b s w1 w2 d.
     true-kept es fs e.level l p (h i e l b (at-old es fs i e p (omega (arith, b, w)) s) w1 w2 d)
 
-pub but-more : (a : ArenaLists) (es fs : List Entry) (n : ℕ) (f g : Literal) → take (length es) fs ≡ es → n ≤ length es → CoveredExceptInChains a es n f g → CoveredExceptInChains a fs n f g
+pub but-more : (a : ArenaContent) (es fs : List Entry) (n : ℕ) (f g : Literal) → take (length es) fs ≡ es → n ≤ length es → CoveredExceptInChains a es n f g → CoveredExceptInChains a fs n f g
 but-more a es fs n f g p w h = λ c known i e l b s nf ng w1 w2 d.
     true-kept es fs e.level l p (h c known i e l b (at-old es fs i e p (omega (arith, b, w)) s) nf ng w1 w2 d)
 
-pub but-chains : (a b : ArenaLists) (es : List Entry) (n : ℕ) (f g : Literal) → b.references ≡ a.references → b.chains ≡ a.chains → CoveredExceptInChains a es n f g → CoveredExceptInChains b es n f g
+pub but-chains : (a b : ArenaContent) (es : List Entry) (n : ℕ) (f g : Literal) → b.references ≡ a.references → b.chains ≡ a.chains → CoveredExceptInChains a es n f g → CoveredExceptInChains b es n f g
 but-chains a b es n f g r e h = λ c known.
     (let P : List (List ℕ) → Type 0 = λ ch. (i : ℕ) (x : Entry) (l : Literal) → i < n →
     slice_get es i ≡ Some x → negated_lit x.lit ≢ f → negated_lit x.lit ≢ g →
@@ -31,7 +31,7 @@ but-chains a b es n f g r e h = λ c known.
     contains_reference c (get_or ch (place l) []) ≡ true → l ≢ negated_lit x.lit → is_true_by_level es x.level l ≡ true in
     subst P (sym e) (h c (ap (contains_reference c) (sym r) ∙ known)))
 
-pub but-with_watch_moved : (a : ArenaLists) (es : List Entry) (n c : ℕ) (f g t : Literal) →
+pub but-with_watch_moved : (a : ArenaContent) (es : List Entry) (n c : ℕ) (f g t : Literal) →
     has_distinct_vars (lits_of es) ≡ true → is_false (lits_of es) f ≡ true → is_false (lits_of es) t ≡ false →
     contains_reference c (chain_of a f) ≡ true → CoveredExceptInChains a es n f g → CoveredExceptInChains (with_watch_moved a c f t) es n f g
 but-with_watch_moved a es n c f g t d ff tf sf h = λ k known i e l b s nf ng w1 w2 ne.
@@ -44,7 +44,7 @@ but-with_watch_moved a es n c f g t d ff tf sf h = λ k known i e l b s nf ng w1
       | inr q ↦ absurd (true≢false (sym (entry-denies es i e s) ∙ ap (is_false (lits_of es)) q.1 ∙ tf))
     ]
 
-pub but-turned : (a : ArenaLists) (es : List Entry) (n : ℕ) (f g : Literal) → CoveredExceptInChains a es n f g → CoveredExceptInChains a es n g f
+pub but-turned : (a : ArenaContent) (es : List Entry) (n : ℕ) (f g : Literal) → CoveredExceptInChains a es n f g → CoveredExceptInChains a es n g f
 but-turned a es n f g h = λ c known i e l b s ng nf. h c known i e l b s nf ng
 
 pub stands-either : (d : ℕ) (xs ys : List ℕ) → contains_reference d (xs ++ ys) ≡ true → (contains_reference d xs ≡ true) ⊎ (contains_reference d ys ≡ true)
@@ -65,11 +65,11 @@ not-passed (x ∷ xs) ys c d =
     let e : eqb x c ≡ false = ne_eqb x c (λ q. eqb-false c x (or_parts (eqb c x) (contains_reference x ys) away.1).0 (sym q)) in
     rw e (not-passed xs ys c (IsDistinct-tail eqb x (xs ++ c ∷ ys) d))
 
-pub walk-start : (a : ArenaLists) (es : List Entry) (f : Literal) → OtherWatchesTrueInPassed a es f [] (chain_of a f)
+pub walk-start : (a : ArenaContent) (es : List Entry) (f : Literal) → OtherWatchesTrueInPassed a es f [] (chain_of a f)
 walk-start a es f = record { split = refl; done = λ c s. absurd (true≢false (sym s)) }
 
 pub walk-stays :
-    (a b : ArenaLists) (es fs : List Entry) (f : Literal) (passed : List ℕ) (c : ℕ) (rest : List ℕ) →
+    (a b : ArenaContent) (es fs : List Entry) (f : Literal) (passed : List ℕ) (c : ℕ) (rest : List ℕ) →
     OtherWatchesTrueInPassed a es f passed (c ∷ rest) → b.chains ≡ a.chains → take (length es) fs ≡ es → IsOtherWatchTrue a fs c f →
     OtherWatchesTrueInPassed b fs f (passed ++ c ∷ []) rest
 walk-stays a b es fs f passed c rest w e p o =
@@ -83,7 +83,7 @@ walk-stays a b es fs f passed c rest w e p o =
     }
 
 pub walk-moves :
-    (a b : ArenaLists) (es fs : List Entry) (f t : Literal) (passed : List ℕ) (c : ℕ) (rest : List ℕ) →
+    (a b : ArenaContent) (es fs : List Entry) (f t : Literal) (passed : List ℕ) (c : ℕ) (rest : List ℕ) →
     OtherWatchesTrueInPassed a es f passed (c ∷ rest) → b.chains ≡ (with_watch_moved a c f t).chains → take (length es) fs ≡ es →
     IsDistinct eqb (chain_of a f) → is_false (lits_of es) f ≡ true → is_false (lits_of es) t ≡ false →
     OtherWatchesTrueInPassed b fs f passed rest
@@ -103,7 +103,7 @@ walk-moves a b es fs f t passed c rest w e p once ff tf =
 
 -- After a walk along the chain of `f` each clause is covered for entries of the current level that
 -- make `f` false.
-pub walk-end : (a : ArenaLists) (es : List Entry) (f : Literal) (passed : List ℕ) → OtherWatchesTrueInPassed a es f passed [] →
+pub walk-end : (a : ArenaContent) (es : List Entry) (f : Literal) (passed : List ℕ) → OtherWatchesTrueInPassed a es f passed [] →
     each_may_follow_level 0 es ≡ true → (c : ℕ) (e : Entry) (l : Literal) → negated_lit e.lit ≡ f → e.level ≡ level_of es →
     contains_reference c (chain_of a (negated_lit e.lit)) ≡ true → contains_reference c (chain_of a l) ≡ true →
     l ≢ negated_lit e.lit → is_true_by_level es e.level l ≡ true

@@ -10,11 +10,11 @@ use Rattle.ilk_cnf.proofs.SameLiterals.{lit-is, same-lit}
 use Rattle.ilk_trail.specs.declared.entry.Entry.{Entry}
 use Rattle.ilk_trail.specs.Trail.{TrailList, level_of}
 use Rattle.ilk_trail.specs.Laws.{each_may_follow_level, lits_of}
-use Rattle.ilk_arena.specs.Arena.{ArenaLists, chain_of, first_of, contains_reference}
+use Rattle.ilk_arena.specs.Arena.{ArenaContent, chain_of, first_of, contains_reference}
 use Rattle.ilk_watches.specs.Chained.{SameClauses}
 use Rattle.ilk_watches.specs.Propagated.{ExtendsByPropagation}
 use Rattle.ilk_watches.specs.Watched.{AllCovered, is_true_by_level}
-use Rattle.ilk_watches.specs.Visits.{CoveredExceptInChains, IsMadeFalseBy, OtherWatchesTrueBefore}
+use Rattle.ilk_watches.specs.Visits.{CoveredExceptInChains, EntryMakesLitFalse, OtherWatchesTrueBefore}
 use Rattle.ilk_watches.specs.declared.walk.Walk.{Walk}
 use Rattle.ilk_watches.proofs.Beside.{StepAt, but-step, walking-beside}
 use Rattle.ilk_watches.proofs.Covers.{but-turned, walk-end, walk-start}
@@ -24,22 +24,22 @@ use Rattle.ilk_watches.proofs.Propagations.{propagated-join, propagated-same, pr
 use Rattle.ilk_watches.proofs.Visiting.{still-false}
 use Rattle.ilk_watches.proofs.Walks.{all-passed}
 
-pub record Sofar (a0 a : ArenaLists) (t0 t : TrailList) : Type 0 where
+pub record Sofar (a0 a : ArenaContent) (t0 t : TrailList) : Type 0 where
   pub trail : t ≡ record t0 { entries = t.entries }
   pub same : SameClauses a0 a
   pub propagated : ExtendsByPropagation a0.clauses t0.entries t.entries
 
-pub sofar-start : (a : ArenaLists) (t : TrailList) → Sofar a a t t
+pub sofar-start : (a : ArenaContent) (t : TrailList) → Sofar a a t t
 sofar-start a t = record { trail = refl; same = same-self a; propagated = propagated-start a.clauses t.entries }
 
-pub sofar-more : {a0 a b : ArenaLists} {t0 t u : TrailList} → Sofar a0 a t0 t → SameClauses a b → u ≡ record t { entries = u.entries } → ExtendsByPropagation a.clauses t.entries u.entries → Sofar a0 b t0 u
+pub sofar-more : {a0 a b : ArenaContent} {t0 t u : TrailList} → Sofar a0 a t0 t → SameClauses a b → u ≡ record t { entries = u.entries } → ExtendsByPropagation a.clauses t.entries u.entries → Sofar a0 b t0 u
 sofar-more {a0} {a} {b} {t0} {t} {u} s same e p = record {
   trail = e ∙ ap (λ (x : TrailList). record x { entries = u.entries }) s.trail;
   same = same-join a0 a b s.same same;
   propagated = propagated-join a0.clauses t0.entries t.entries u.entries s.propagated (propagated-same a0.clauses a.clauses t.entries u.entries s.same.clauses p);
 }
 
-pub at-level : {a0 a : ArenaLists} {t0 t : TrailList} (head : ℕ) → Sofar a0 a t0 t →
+pub at-level : {a0 a : ArenaContent} {t0 t : TrailList} (head : ℕ) → Sofar a0 a t0 t →
     ((i : ℕ) (e : Entry) → head ≤ i → slice_get t0.entries i ≡ Some e → e.level ≡ level_of t0.entries) →
     (i : ℕ) (e : Entry) → head ≤ i → slice_get t.entries i ≡ Some e → e.level ≡ level_of t.entries
 at-level {a0} {a} {t0} {t} head s queued i e low st =
@@ -50,27 +50,27 @@ at-level {a0} {a} {t0} {t} head s queued i e low st =
     ]
 
 -- A walk for an entry from `head` on and before `next`.
-pub record Going (a : ArenaLists) (es : List Entry) (head next : ℕ) (w : Walk) : Type 0 where
+pub record Going (a : ArenaContent) (es : List Entry) (head next : ℕ) (w : Walk) : Type 0 where
   pub index : ℕ
-  pub made : IsMadeFalseBy a.vars es index w.f
+  pub made : EntryMakesLitFalse a.vars es index w.f
   pub level : (e : Entry) → slice_get es index ≡ Some e → e.level ≡ level_of es
   pub low : head ≤ index
   pub high : index < next
   pub walking : OtherWatchesTrueBefore a es w.f w.before w.next
 
-pub record Alone (a : ArenaLists) (es : List Entry) (head next : ℕ) (w : Walk) : Type 0 where
+pub record Alone (a : ArenaContent) (es : List Entry) (head next : ℕ) (w : Walk) : Type 0 where
   pub going : Going a es head next w
   pub covered : CoveredExceptInChains a es next w.f w.f
   pub next_in : next ≤ length es
 
-pub record Both (a : ArenaLists) (es : List Entry) (head next : ℕ) (v w : Walk) : Type 0 where
+pub record Both (a : ArenaContent) (es : List Entry) (head next : ℕ) (v w : Walk) : Type 0 where
   pub one : Going a es head next v
   pub two : Going a es head next w
   pub apart : w.f ≢ v.f
   pub covered : CoveredExceptInChains a es next v.f w.f
   pub next_in : next ≤ length es
 
-pub both-turned : {a : ArenaLists} {es : List Entry} {head next : ℕ} {v w : Walk} → Both a es head next v w → Both a es head next w v
+pub both-turned : {a : ArenaContent} {es : List Entry} {head next : ℕ} {v w : Walk} → Both a es head next v w → Both a es head next w v
 both-turned {a} {es} {head} {next} {v} {w} b = record {
   one = b.two;
   two = b.one;
@@ -79,7 +79,7 @@ both-turned {a} {es} {head} {next} {v} {w} b = record {
   next_in = b.next_in;
 }
 
-going-start : (a : ArenaLists) (es : List Entry) (head n : ℕ) (w : Walk) → IsMadeFalseBy a.vars es n w.f →
+going-start : (a : ArenaContent) (es : List Entry) (head n : ℕ) (w : Walk) → EntryMakesLitFalse a.vars es n w.f →
     ((e : Entry) → slice_get es n ≡ Some e → e.level ≡ level_of es) → head ≤ n → w.before ≡ None →
     w.next ≡ first_of (chain_of a w.f) → Going a es head (n + 1) w
 going-start a es head n w m level low before next = record {
@@ -91,8 +91,8 @@ going-start a es head n w m level low before next = record {
   walking = record { passed = []; rest = chain_of a w.f; before_is = before; next_is = next; is = walk-start a es w.f };
 }
 
-pub alone-start : (a : ArenaLists) (es : List Entry) (head : ℕ) (w : Walk) → AllCovered a es head →
-    IsMadeFalseBy a.vars es head w.f → ((e : Entry) → slice_get es head ≡ Some e → e.level ≡ level_of es) →
+pub alone-start : (a : ArenaContent) (es : List Entry) (head : ℕ) (w : Walk) → AllCovered a es head →
+    EntryMakesLitFalse a.vars es head w.f → ((e : Entry) → slice_get es head ≡ Some e → e.level ≡ level_of es) →
     w.before ≡ None → w.next ≡ first_of (chain_of a w.f) → Alone a es head (head + 1) w
 alone-start a es head w all m level before next = record {
   going = going-start a es head head w m level (omega arith) before next;
@@ -106,13 +106,13 @@ alone-start a es head w all m level before next = record {
     first : (i : ℕ) (e : Entry) → i ≡ head → slice_get es i ≡ Some e → negated_lit e.lit ≡ w.f
     first i e q s = (let one : Some e ≡ Some m.entry = sym s ∙ ap (slice_get es) q ∙ m.stands in let same : e ≡ m.entry = cc in ap (λ (x : Entry). negated_lit x.lit) same ∙ m.is)
 
-one-index : (vars n k : ℕ) (es : List Entry) (f : Literal) (e : Entry) → has_distinct_vars (lits_of es) ≡ true → (m : IsMadeFalseBy vars es n f) → slice_get es k ≡ Some e → negated_lit e.lit ≡ f → k ≡ n
+one-index : (vars n k : ℕ) (es : List Entry) (f : Literal) (e : Entry) → has_distinct_vars (lits_of es) ≡ true → (m : EntryMakesLitFalse vars es n f) → slice_get es k ≡ Some e → negated_lit e.lit ≡ f → k ≡ n
 one-index vars n k es f e d m s q =
     let same : e.lit ≡ m.entry.lit = sym (negated_lit-negated_lit e.lit) ∙ ap negated_lit (q ∙ sym m.is) ∙ negated_lit-negated_lit m.entry.lit in
     one-entry es k n e m.entry d s m.stands (ap (λ (l : Literal). l.var) same)
 
-pub both-start : (a : ArenaLists) (es : List Entry) (head next : ℕ) (v w : Walk) → Alone a es head next v →
-    has_distinct_vars (lits_of es) ≡ true → IsMadeFalseBy a.vars es next w.f →
+pub both-start : (a : ArenaContent) (es : List Entry) (head next : ℕ) (v w : Walk) → Alone a es head next v →
+    has_distinct_vars (lits_of es) ≡ true → EntryMakesLitFalse a.vars es next w.f →
     ((e : Entry) → slice_get es next ≡ Some e → e.level ≡ level_of es) → head ≤ next → w.before ≡ None →
     w.next ≡ first_of (chain_of a w.f) → Both a es head (next + 1) v w
 both-start a es head next v w o d m level low before first =
@@ -131,10 +131,10 @@ both-start a es head next v w o d m level low before first =
     newest : (i : ℕ) (e : Entry) → i ≡ next → slice_get es i ≡ Some e → negated_lit e.lit ≡ w.f
     newest i e q s = (let one : Some e ≡ Some m.entry = sym s ∙ ap (slice_get es) q ∙ m.stands in let same : e ≡ m.entry = cc in ap (λ (x : Entry). negated_lit x.lit) same ∙ m.is)
 
-going-own : {a b : ArenaLists} {es fs : List Entry} {head next : ℕ} {v w : Walk} → Going a es head next v → StepAt a b es fs v.f → level_of fs ≡ level_of es → w.f ≡ v.f → OtherWatchesTrueBefore b fs v.f w.before w.next → Going b fs head next w
+going-own : {a b : ArenaContent} {es fs : List Entry} {head next : ℕ} {v w : Walk} → Going a es head next v → StepAt a b es fs v.f → level_of fs ≡ level_of es → w.f ≡ v.f → OtherWatchesTrueBefore b fs v.f w.before w.next → Going b fs head next w
 going-own {a} {b} {es} {fs} {head} {next} {v} {w} g s level f walking =
     let P : Literal → Type 0 = λ x. OtherWatchesTrueBefore b fs x w.before w.next in
-    let M : Literal → Type 0 = λ x. IsMadeFalseBy b.vars fs g.index x in
+    let M : Literal → Type 0 = λ x. EntryMakesLitFalse b.vars fs g.index x in
     let made = still-false {a = a} {b = b} {es = es} {fs = fs} g.made s.same s.kept in
     record {
       index = g.index;
@@ -152,7 +152,7 @@ going-own {a} {b} {es} {fs} {head} {next} {v} {w} g s level f walking =
       walking = subst P (sym f) walking;
     }
 
-going-beside : {a b : ArenaLists} {es fs : List Entry} {head next : ℕ} {w : Walk} (f : Literal) → Going a es head next w → StepAt a b es fs f → level_of fs ≡ level_of es → w.f ≢ f → Going b fs head next w
+going-beside : {a b : ArenaContent} {es fs : List Entry} {head next : ℕ} {w : Walk} (f : Literal) → Going a es head next w → StepAt a b es fs f → level_of fs ≡ level_of es → w.f ≢ f → Going b fs head next w
 going-beside {a} {b} {es} {fs} {head} {next} {w} f g s level n = record {
   index = g.index;
   made = still-false {a = a} {b = b} {es = es} {fs = fs} g.made s.same s.kept;
@@ -162,7 +162,7 @@ going-beside {a} {b} {es} {fs} {head} {next} {w} f g s level n = record {
   walking = walking-beside a b es fs f w.f w.before w.next s g.made.denied n g.walking;
 }
 
-pub alone-step : {a b : ArenaLists} {es fs : List Entry} {head next : ℕ} {v w : Walk} → Alone a es head next v → StepAt a b es fs v.f → level_of fs ≡ level_of es → w.f ≡ v.f → OtherWatchesTrueBefore b fs v.f w.before w.next → Alone b fs head next w
+pub alone-step : {a b : ArenaContent} {es fs : List Entry} {head next : ℕ} {v w : Walk} → Alone a es head next v → StepAt a b es fs v.f → level_of fs ≡ level_of es → w.f ≡ v.f → OtherWatchesTrueBefore b fs v.f w.before w.next → Alone b fs head next w
 alone-step {a} {b} {es} {fs} {head} {next} {v} {w} o s level f walking =
     let C : Literal → Type 0 = λ x. CoveredExceptInChains b fs next x x in
     let longer = length-kept es fs s.kept in
@@ -172,7 +172,7 @@ alone-step {a} {b} {es} {fs} {head} {next} {v} {w} o s level f walking =
       next_in = omega (arith, longer, o.next_in);
     }
 
-pub both-step : {a b : ArenaLists} {es fs : List Entry} {head next : ℕ} {v w u : Walk} → Both a es head next v u → StepAt a b es fs v.f → level_of fs ≡ level_of es → w.f ≡ v.f → OtherWatchesTrueBefore b fs v.f w.before w.next →
+pub both-step : {a b : ArenaContent} {es fs : List Entry} {head next : ℕ} {v w u : Walk} → Both a es head next v u → StepAt a b es fs v.f → level_of fs ≡ level_of es → w.f ≡ v.f → OtherWatchesTrueBefore b fs v.f w.before w.next →
     Both b fs head next w u
 both-step {a} {b} {es} {fs} {head} {next} {v} {w} {u} o s level f walking =
     let C : Literal → Type 0 = λ x. CoveredExceptInChains b fs next x u.f in
@@ -191,7 +191,7 @@ same-or-not f g = elim (cases_Bool (same_lit f g)) [
   | inr n ↦ inr (λ e. true≢false (sym (ap (same_lit f) (sym e) ∙ same-lit f) ∙ n))
 ]
 
-ended : (a : ArenaLists) (es : List Entry) (head next : ℕ) (w : Walk) → Going a es head next w →
+ended : (a : ArenaContent) (es : List Entry) (head next : ℕ) (w : Walk) → Going a es head next w →
     w.next ≡ None → has_distinct_vars (lits_of es) ≡ true → each_may_follow_level 0 es ≡ true →
     (c i : ℕ) (e : Entry) (l : Literal) → slice_get es i ≡ Some e → negated_lit e.lit ≡ w.f →
     contains_reference c (chain_of a (negated_lit e.lit)) ≡ true → contains_reference c (chain_of a l) ≡ true →
@@ -201,7 +201,7 @@ ended a es head next w g none d climb c i e l s is w1 w2 ne =
     let level : e.level ≡ level_of es = g.level e (ap (slice_get es) (sym k) ∙ s) in
     walk-end a es w.f g.walking.passed (all-passed a es w.f w.before w.next g.walking none) climb c e l is level w1 w2 ne
 
-pub both-ended : {a : ArenaLists} {es : List Entry} {head next : ℕ} {v w : Walk} → Both a es head next v w → v.next ≡ None → has_distinct_vars (lits_of es) ≡ true → each_may_follow_level 0 es ≡ true → Alone a es head next w
+pub both-ended : {a : ArenaContent} {es : List Entry} {head next : ℕ} {v w : Walk} → Both a es head next v w → v.next ≡ None → has_distinct_vars (lits_of es) ≡ true → each_may_follow_level 0 es ≡ true → Alone a es head next w
 both-ended {a} {es} {head} {next} {v} {w} b none d climb = record {
   going = b.two;
   covered = λ c known i e l below s nw nw2 w1 w2 ne. elim (same-or-not (negated_lit e.lit) v.f) [
@@ -211,31 +211,31 @@ both-ended {a} {es} {head} {next} {v} {w} b none d climb = record {
   next_in = b.next_in;
 }
 
-pub alone-ended : {a : ArenaLists} {es : List Entry} {head next : ℕ} {w : Walk} → Alone a es head next w → w.next ≡ None → has_distinct_vars (lits_of es) ≡ true → each_may_follow_level 0 es ≡ true → AllCovered a es next
+pub alone-ended : {a : ArenaContent} {es : List Entry} {head next : ℕ} {w : Walk} → Alone a es head next w → w.next ≡ None → has_distinct_vars (lits_of es) ≡ true → each_may_follow_level 0 es ≡ true → AllCovered a es next
 alone-ended {a} {es} {head} {next} {w} o none d climb = λ c known i e l below s w1 w2 ne. elim (same-or-not (negated_lit e.lit) w.f) [
   | inl q ↦ ended a es head next w o.going none d climb c i e l s q w1 w2 ne
   | inr q ↦ o.covered c known i e l below s q q w1 w2 ne
 ]
 
-before-going : (a : ArenaLists) (es : List Entry) (head next : ℕ) (w : Walk) → Going a es head next w → has_distinct_vars (lits_of es) ≡ true → (i : ℕ) (e : Entry) → i < head → slice_get es i ≡ Some e → negated_lit e.lit ≢ w.f
+before-going : (a : ArenaContent) (es : List Entry) (head next : ℕ) (w : Walk) → Going a es head next w → has_distinct_vars (lits_of es) ≡ true → (i : ℕ) (e : Entry) → i < head → slice_get es i ≡ Some e → negated_lit e.lit ≢ w.f
 before-going a es head next w g d i e below s q =
     let k = one-index a.vars g.index i es w.f e d g.made s q in
     absurd (omega (arith, k, below, g.low))
 
-pub alone-before : {a : ArenaLists} {es : List Entry} {head next : ℕ} {w : Walk} → Alone a es head next w → has_distinct_vars (lits_of es) ≡ true → AllCovered a es head
+pub alone-before : {a : ArenaContent} {es : List Entry} {head next : ℕ} {w : Walk} → Alone a es head next w → has_distinct_vars (lits_of es) ≡ true → AllCovered a es head
 alone-before {a} {es} {head} {next} {w} o d = λ c known i e l below s w1 w2 ne.
     (let g = o.going in
     let n = before-going a es head next w g d i e below s in
     o.covered c known i e l (omega (arith, below, g.low, g.high)) s n n w1 w2 ne)
 
-pub alone-broken : {a b : ArenaLists} {es fs : List Entry} {head next : ℕ} {w : Walk} → Alone a es head next w → StepAt a b es fs w.f → AllCovered b fs head
+pub alone-broken : {a b : ArenaContent} {es fs : List Entry} {head next : ℕ} {w : Walk} → Alone a es head next w → StepAt a b es fs w.f → AllCovered b fs head
 alone-broken {a} {b} {es} {fs} {head} {next} {w} o s = λ c known i e l below st w1 w2 ne.
     (let g = o.going in
     let old = at-old es fs i e s.kept (omega (arith, below, g.low, g.made.below)) st in
     let n = before-going a es head next w g s.once i e below old in
     but-step a b es fs next w.f w.f s o.next_in o.covered c known i e l (omega (arith, below, g.low, g.high)) st n n w1 w2 ne)
 
-pub both-broken : {a b : ArenaLists} {es fs : List Entry} {head next : ℕ} {v w : Walk} → Both a es head next v w → StepAt a b es fs v.f → AllCovered b fs head
+pub both-broken : {a b : ArenaContent} {es fs : List Entry} {head next : ℕ} {v w : Walk} → Both a es head next v w → StepAt a b es fs v.f → AllCovered b fs head
 both-broken {a} {b} {es} {fs} {head} {next} {v} {w} o s = λ c known i e l below st w1 w2 ne.
     (let g = o.one in
     let old = at-old es fs i e s.kept (omega (arith, below, g.low, g.made.below)) st in

@@ -11,16 +11,16 @@ use Rattle.ilk_trail.specs.declared.entry.Entry.{Entry}
 use Rattle.ilk_trail.specs.Trail.{with_assignment, level_of}
 use Rattle.ilk_trail.specs.Laws.{each_may_follow_level, lits_of}
 use Rattle.ilk_trail.proofs.Levels.{entries_up_to-all}
-use Rattle.ilk_arena.specs.Arena.{ArenaLists, literals_of, number_of_clause, contains_reference}
+use Rattle.ilk_arena.specs.Arena.{ArenaContent, literals_of, number_of_clause, contains_reference}
 use Rattle.ilk_watches.specs.Reasons.{nth_clause_or_empty}
-use Rattle.ilk_watches.specs.Chained.{IsClauses}
+use Rattle.ilk_watches.specs.Chained.{AreValidNumberedClauses}
 use Rattle.ilk_watches.proofs.Chained.{by-reference}
 use Rattle.ilk_watches.proofs.Forced.{unit-forces}
 use Rattle.ilk_watches.proofs.Within.{clause-there}
 use Rattle.ilk_watches.specs.Look.{clause_state}
 use Rattle.ilk_watches.specs.declared.look.ClauseState.TheVariants.{Open, Unit}
 use Rattle.ilk_watches.specs.Propagated.{ExtendsByPropagation}
-use Rattle.ilk_watches.specs.Watched.{is_true_by_level, is_satisfied, IsCovered, IsPropagationInvariant, MayForce}
+use Rattle.ilk_watches.specs.Watched.{is_true_by_level, is_satisfied, IsCovered, IsPropagationInvariant, ClauseMayForceLit}
 use Rattle.ilk_watches.proofs.Entries.{at-old, length-kept, lit-kept, true-pushed}
 use Rattle.ilk_watches.proofs.Covers.{covered-more}
 use Rattle.ilk_watches.proofs.Finding.{left-open, lone-open, open-told, unit-told}
@@ -28,7 +28,7 @@ use Rattle.ilk_watches.proofs.Others.{pushed-true}
 use Rattle.ilk_watches.proofs.Propagations.{propagated-one, propagated-start}
 use Rattle.ilk_watches.proofs.Satisfied.{is_open, open-true, other_lits-only, satisfied-by, short-satisfied}
 
-pub forced-covered : (a : ArenaLists) (es fs : List Entry) (n c : ℕ) (x y : Literal) → MayForce a es n c x y → take (length es) fs ≡ es → n ≤ length es → is_true_by_level fs (level_of es) x ≡ true → IsCovered a fs n c
+pub forced-covered : (a : ArenaContent) (es fs : List Entry) (n c : ℕ) (x y : Literal) → ClauseMayForceLit a es n c x y → take (length es) fs ≡ es → n ≤ length es → is_true_by_level fs (level_of es) x ≡ true → IsCovered a fs n c
 forced-covered a es fs n c x y m p le t = λ i e l b s w1 w2 ne.
     let old = at-old es fs i e p (omega (arith, b, le)) s in
     elim (m.watches (negated_lit e.lit) w1) [
@@ -54,7 +54,7 @@ satisfied-kept es fs (l ∷ ls) p h =
       | inr q ↦ or_right (has_lit l (lits_of fs)) (is_satisfied fs ls) (satisfied-kept es fs ls p q)
     ]
 
-may-more : (a : ArenaLists) (es fs : List Entry) (n c : ℕ) (x y : Literal) → ExtendsByPropagation a.clauses es fs → n ≤ length es → MayForce a es n c x y → MayForce a fs n c x y
+may-more : (a : ArenaContent) (es fs : List Entry) (n c : ℕ) (x y : Literal) → ExtendsByPropagation a.clauses es fs → n ≤ length es → ClauseMayForceLit a es n c x y → ClauseMayForceLit a fs n c x y
 may-more a es fs n c x y p le m = record {
   watches = m.watches;
   others_false = falsified-kept es fs (other_lits x (literals_of a c)) p.kept m.others_false;
@@ -65,11 +65,11 @@ may-more a es fs n c x y p le m = record {
   possible = λ i e b s. m.possible i e b (at-old es fs i e p.kept (omega (arith, b, le)) s);
 }
 
-pub record Looked (a : ArenaLists) (fs : List Entry) (h c : ℕ) : Type 0 where
+pub record Looked (a : ArenaContent) (fs : List Entry) (h c : ℕ) : Type 0 where
   pub covered : IsCovered a fs h c
   pub short : length (literals_of a c) < 2 → is_satisfied fs (literals_of a c) ≡ true
 
-pub queue-next : (a : ArenaLists) (es fs : List Entry) (h s : ℕ) → IsPropagationInvariant a es h s → s < length a.clauses →
+pub queue-next : (a : ArenaContent) (es fs : List Entry) (h s : ℕ) → IsPropagationInvariant a es h s → s < length a.clauses →
     ExtendsByPropagation a.clauses es fs →
     ((c : ℕ) → contains_reference c a.references ≡ true → number_of_clause a c ≡ s + 1 → Looked a fs h c) →
     IsPropagationInvariant a fs h (s + 1)
@@ -93,16 +93,16 @@ queue-next a es fs h s k w p here = record {
   ];
 }
 
-pub at-number : (a : ArenaLists) (c s : ℕ) → IsClauses a → contains_reference c a.references ≡ true → number_of_clause a c ≡ s + 1 → literals_of a c ≡ nth_clause_or_empty a.clauses s
+pub at-number : (a : ArenaContent) (c s : ℕ) → AreValidNumberedClauses a → contains_reference c a.references ≡ true → number_of_clause a c ≡ s + 1 → literals_of a c ≡ nth_clause_or_empty a.clauses s
 at-number a c s k known n =
     let b = by-reference a c k known in
     let same : b.index ≡ s = omega (arith, b.number, n) in
     sym b.literals ∙ ap (nth_clause_or_empty a.clauses) same
 
-pub differ-at : (a : ArenaLists) (s : ℕ) → IsClauses a → s < length a.clauses → has_distinct_vars (nth_clause_or_empty a.clauses s) ≡ true
+pub differ-at : (a : ArenaContent) (s : ℕ) → AreValidNumberedClauses a → s < length a.clauses → has_distinct_vars (nth_clause_or_empty a.clauses s) ≡ true
 differ-at a s k w = list_all-slice_get has_distinct_vars a.clauses s (nth_clause_or_empty a.clauses s) k.formula.differ (clause-there a.clauses s w)
 
-pub queue-unit : (a : ArenaLists) (es : List Entry) (h s : ℕ) (l : Literal) → IsPropagationInvariant a es h s → IsClauses a →
+pub queue-unit : (a : ArenaContent) (es : List Entry) (h s : ℕ) (l : Literal) → IsPropagationInvariant a es h s → AreValidNumberedClauses a →
     has_distinct_vars (lits_of es) ≡ true → s < length a.clauses →
     clause_state (lits_of es) (nth_clause_or_empty a.clauses s) ≡ Unit l → IsPropagationInvariant a (with_assignment es l s) h (s + 1)
 queue-unit a es h s l k cl d w look =
@@ -128,7 +128,8 @@ queue-unit a es h s l k cl d w look =
       short = λ b. satisfied-by (with_assignment es l s) (literals_of a c) l inside (pushed-true es e);
     }))
 
-pub queue-open : (a : ArenaLists) (es : List Entry) (h s : ℕ) → IsPropagationInvariant a es h s → IsClauses a → each_may_follow_level 0 es ≡ true → s < length a.clauses → clause_state (lits_of es) (nth_clause_or_empty a.clauses s) ≡ Open →
+pub queue-open : (a : ArenaContent) (es : List Entry) (h s : ℕ) → IsPropagationInvariant a es h s → AreValidNumberedClauses a → each_may_follow_level 0 es ≡ true → s < length a.clauses → clause_state (lits_of es) (nth_clause_or_empty a.clauses s)
+    ≡ Open →
     IsPropagationInvariant a es h (s + 1)
 queue-open a es h s k cl climb w look =
     let set = lits_of es in

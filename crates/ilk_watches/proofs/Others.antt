@@ -8,10 +8,10 @@ use Rattle.ilk_cnf.specs.Literal.{Literal, same_lit, has_lit}
 use Rattle.ilk_cnf.proofs.SameLiterals.{same-lit, lit-is, is_lit_over-clause}
 use Rattle.ilk_log.specs.Fresh.{other_lits}
 use Rattle.ilk_log.specs.Propagation.{is_false, is_falsified}
-use Rattle.ilk_arena.specs.Arena.{ArenaLists, chain_of, literals_of, number_of_clause, other_watch_of, with_watch_moved, contains_reference}
+use Rattle.ilk_arena.specs.Arena.{ArenaContent, chain_of, literals_of, number_of_clause, other_watch_of, with_watch_moved, contains_reference}
 use Rattle.ilk_arena.specs.Chains.{WatchesTwo}
 use Rattle.ilk_watches.specs.Reasons.{nth_clause_or_empty, is_conflict, clause_forces_lit}
-use Rattle.ilk_watches.specs.Chained.{IsClauses, SameClauses, formula_of}
+use Rattle.ilk_watches.specs.Chained.{AreValidNumberedClauses, SameClauses, formula_of}
 use Rattle.ilk_watches.proofs.Within.{clause-in}
 use Rattle.ilk_cnf.specs.Formula.{is_clause_over, is_lit_over}
 use Rattle.ilk_base.proofs.Tested.{list_all-slice_get}
@@ -29,14 +29,14 @@ find-passes p (m ∷ c) l h =
       | inr f ↦ find-passes p c l (rw f at h)
     ]
 
-pub record Other (a : ArenaLists) (c : ℕ) (f m : Literal) : Type 0 where
+pub record Other (a : ArenaContent) (c : ℕ) (f m : Literal) : Type 0 where
   pub known : contains_reference c a.references ≡ true
   pub stands : contains_reference c (chain_of a m) ≡ true
   pub differs : m ≢ f
   pub has : has_lit m (literals_of a c) ≡ true
   pub only : (l : Literal) → contains_reference c (chain_of a l) ≡ true → l ≢ f → l ≡ m
 
-of-two : (a : ArenaLists) (c : ℕ) (f m x y : Literal) → contains_reference c a.references ≡ true → WatchesTwo a c x y → contains_reference c (chain_of a f) ≡ true → contains_reference c (chain_of a m) ≡ true → m ≢ f → Other a c f m
+of-two : (a : ArenaContent) (c : ℕ) (f m x y : Literal) → contains_reference c a.references ≡ true → WatchesTwo a c x y → contains_reference c (chain_of a f) ≡ true → contains_reference c (chain_of a m) ≡ true → m ≢ f → Other a c f m
 of-two a c f m x y k w sf sm ne = record {
   known = k;
   stands = sm;
@@ -57,7 +57,7 @@ of-two a c f m x y k w sf sm ne = record {
     other-is l x y f (inr p) (inl q) e nl nm = absurd (nm (q ∙ sym e))
     other-is l x y f (inr p) (inr q) e nl nm = p ∙ sym q
 
-pub other-facts : (a : ArenaLists) (c : ℕ) (f m : Literal) → IsClauses a → contains_reference c (chain_of a f) ≡ true → other_watch_of a c f ≡ Some m → Other a c f m
+pub other-facts : (a : ArenaContent) (c : ℕ) (f m : Literal) → AreValidNumberedClauses a → contains_reference c (chain_of a f) ≡ true → other_watch_of a c f ≡ Some m → Other a c f m
 other-facts a c f m k s e =
     let known = k.arena.held f c s in
     let p = and_parts (contains_reference c (chain_of a m)) (not (same_lit f m)) (find-passes (λ l. contains_reference c (chain_of a l) && not (same_lit f l)) (literals_of a c) m e) in
@@ -67,21 +67,21 @@ other-facts a c f m k s e =
       | inr b ↦ (let w = k.arena.long c known b in of-two a c f m w.0 w.1 known w.2 s p.0 differs)
     ]
 
-pub number-same : (a b : ArenaLists) (c : ℕ) → b.references ≡ a.references → number_of_clause b c ≡ number_of_clause a c
+pub number-same : (a b : ArenaContent) (c : ℕ) → b.references ≡ a.references → number_of_clause b c ≡ number_of_clause a c
 number-same a b c e = ap (λ (rs : List ℕ). position_or_len (λ x. x == c) rs + 1) e
 
-pub clause-within : (a : ArenaLists) (c : ℕ) → IsClauses a → contains_reference c a.references ≡ true → is_clause_over a.vars (literals_of a c) ≡ true
+pub clause-within : (a : ArenaContent) (c : ℕ) → AreValidNumberedClauses a → contains_reference c a.references ≡ true → is_clause_over a.vars (literals_of a c) ≡ true
 clause-within a c k s =
     let b = by-reference a c k s in
     ap (is_clause_over a.vars) (sym b.literals) ∙ clause-in (formula_of a) b.index k.formula b.within
 
-pub literal-within : (a : ArenaLists) (c i : ℕ) (l : Literal) → IsClauses a → contains_reference c a.references ≡ true → slice_get (literals_of a c) i ≡ Some l → is_lit_over a.vars l ≡ true
+pub literal-within : (a : ArenaContent) (c i : ℕ) (l : Literal) → AreValidNumberedClauses a → contains_reference c a.references ≡ true → slice_get (literals_of a c) i ≡ Some l → is_lit_over a.vars l ≡ true
 literal-within a c i l k s e = list_all-slice_get (is_lit_over a.vars) (literals_of a c) i l (clause-within a c k s) e
 
-pub other-within : (a : ArenaLists) (c : ℕ) (f m : Literal) → IsClauses a → Other a c f m → is_lit_over a.vars m ≡ true
+pub other-within : (a : ArenaContent) (c : ℕ) (f m : Literal) → AreValidNumberedClauses a → Other a c f m → is_lit_over a.vars m ≡ true
 other-within a c f m k o = is_lit_over-clause a.vars (literals_of a c) m (clause-within a c k o.known) o.has
 
-pub reason-of : (a : ArenaLists) (c : ℕ) (set : List Literal) (m : Literal) → IsClauses a →
+pub reason-of : (a : ArenaContent) (c : ℕ) (set : List Literal) (m : Literal) → AreValidNumberedClauses a →
     contains_reference c a.references ≡ true → has_lit m (literals_of a c) ≡ true →
     is_falsified set (other_lits m (literals_of a c)) ≡ true →
     clause_forces_lit a.clauses set m (number_of_clause a c - 1) ≡ true
@@ -99,7 +99,7 @@ falsified-whole set m (l ∷ c) h f =
       | inr t ↦ (let p = and_parts (is_false set l) (is_falsified set (other_lits m c)) (rw t at h) in and_from (is_false set l) (is_falsified set c) p.0 (falsified-whole set m c p.1 f))
     ]
 
-pub conflict-of : (a : ArenaLists) (c : ℕ) (set : List Literal) (m : Literal) → IsClauses a →
+pub conflict-of : (a : ArenaContent) (c : ℕ) (set : List Literal) (m : Literal) → AreValidNumberedClauses a →
     contains_reference c a.references ≡ true → is_falsified set (other_lits m (literals_of a c)) ≡ true →
     is_false set m ≡ true → is_conflict a.clauses set (number_of_clause a c - 1) ≡ true
 conflict-of a c set m k s o f =
@@ -160,7 +160,7 @@ may-watch-at set other ls i l s f n =
     let P : Option Literal → Type 0 = λ o. IsSomeAnd o (λ m. may_watch set other m ≡ true) in
     subst P (sym s) (and_from (not (same_lit other l)) (not (is_false set l)) (not_from_false (same_lit other l) n) (not_from_false (is_false set l) f))
 
-pub unwatched : (a : ArenaLists) (c : ℕ) (f m t : Literal) (set : List Literal) → Other a c f m → is_false set f ≡ true → same_lit m t ≡ false → is_false set t ≡ false → contains_reference c (chain_of a t) ≡ false
+pub unwatched : (a : ArenaContent) (c : ℕ) (f m t : Literal) (set : List Literal) → Other a c f m → is_false set f ≡ true → same_lit m t ≡ false → is_false set t ≡ false → contains_reference c (chain_of a t) ≡ false
 unwatched a c f m t set o ff n ft =
     elim (cases_Bool (contains_reference c (chain_of a t))) [
       | inl s ↦ absurd (let apart : t ≢ f = λ q. true≢false (sym ff ∙ ap (is_false set) (sym q) ∙ ft) in
@@ -170,37 +170,37 @@ unwatched a c f m t set o ff n ft =
     ]
 
 -- The chains after a watch has moved; a cursor may have been set before.
-pub record MovedTo (a b : ArenaLists) (c : ℕ) (f t : Literal) : Type 0 where
+pub record MovedTo (a b : ArenaContent) (c : ℕ) (f t : Literal) : Type 0 where
   pub same : SameClauses a b
   pub chains : b.chains ≡ (with_watch_moved a c f t).chains
 
-pub moved-to : (a m b : ArenaLists) (c : ℕ) (f t : Literal) → m ≡ record a { cursors = m.cursors } → b ≡ with_watch_moved m c f t → MovedTo a b c f t
+pub moved-to : (a m b : ArenaContent) (c : ℕ) (f t : Literal) → m ≡ record a { cursors = m.cursors } → b ≡ with_watch_moved m c f t → MovedTo a b c f t
 moved-to a m b c f t e h = record {
   same = record {
-    vars = ap (λ (x : ArenaLists). x.vars) h ∙ ap (λ (x : ArenaLists). x.vars) e;
-    references = ap (λ (x : ArenaLists). x.references) h ∙ ap (λ (x : ArenaLists). x.references) e;
-    clauses = ap (λ (x : ArenaLists). x.clauses) h ∙ ap (λ (x : ArenaLists). x.clauses) e;
+    vars = ap (λ (x : ArenaContent). x.vars) h ∙ ap (λ (x : ArenaContent). x.vars) e;
+    references = ap (λ (x : ArenaContent). x.references) h ∙ ap (λ (x : ArenaContent). x.references) e;
+    clauses = ap (λ (x : ArenaContent). x.clauses) h ∙ ap (λ (x : ArenaContent). x.clauses) e;
   };
-  chains = ap (λ (x : ArenaLists). x.chains) h ∙ ap (λ (x : ArenaLists). (with_watch_moved x c f t).chains) e;
+  chains = ap (λ (x : ArenaContent). x.chains) h ∙ ap (λ (x : ArenaContent). (with_watch_moved x c f t).chains) e;
 }
 
-pub same-cursors : (a m : ArenaLists) → m ≡ record a { cursors = m.cursors } → SameClauses a m × (m.chains ≡ a.chains)
+pub same-cursors : (a m : ArenaContent) → m ≡ record a { cursors = m.cursors } → SameClauses a m × (m.chains ≡ a.chains)
 same-cursors a m e = (
   record {
-    vars = ap (λ (x : ArenaLists). x.vars) e;
-    references = ap (λ (x : ArenaLists). x.references) e;
-    clauses = ap (λ (x : ArenaLists). x.clauses) e;
+    vars = ap (λ (x : ArenaContent). x.vars) e;
+    references = ap (λ (x : ArenaContent). x.references) e;
+    clauses = ap (λ (x : ArenaContent). x.clauses) e;
   },
-  ap (λ (x : ArenaLists). x.chains) e,
+  ap (λ (x : ArenaContent). x.chains) e,
 )
 
-pub same-self : (a : ArenaLists) → SameClauses a a
+pub same-self : (a : ArenaContent) → SameClauses a a
 same-self a = record { vars = refl; references = refl; clauses = refl }
 
-pub same-join : (a b c : ArenaLists) → SameClauses a b → SameClauses b c → SameClauses a c
+pub same-join : (a b c : ArenaContent) → SameClauses a b → SameClauses b c → SameClauses a c
 same-join a b c p q = record { vars = q.vars ∙ p.vars; references = q.references ∙ p.references; clauses = q.clauses ∙ p.clauses }
 
-pub other-true : (a b : ArenaLists) (es fs : List Entry) (c : ℕ) (f m : Literal) → Other a c f m → b.chains ≡ a.chains → has_lit m (lits_of fs) ≡ true → IsVisitResult a es b fs c f Stays
+pub other-true : (a b : ArenaContent) (es fs : List Entry) (c : ℕ) (f m : Literal) → Other a c f m → b.chains ≡ a.chains → has_lit m (lits_of fs) ≡ true → IsVisitResult a es b fs c f Stays
 other-true a b es fs c f m o e h = (e, λ l s ne. ap (λ (x : Literal). has_lit x (lits_of fs)) (o.only l s ne) ∙ h)
 
 pub pushed-true : (es : List Entry) (e : Entry) → has_lit e.lit (lits_of (es ++ e ∷ [])) ≡ true

@@ -15,9 +15,9 @@ use Rattle.ilk_trail.specs.declared.entry.Entry.{Entry}
 use Rattle.ilk_trail.specs.Trail.{with_decision, level_of}
 use Rattle.ilk_trail.specs.Laws.{lits_of}
 use Rattle.ilk_trail.proofs.Levels.{last_level_or-push}
-use Rattle.ilk_arena.specs.Arena.{ArenaLists, literals_of, number_of_clause, item_at_reference_or_default, contains_reference}
+use Rattle.ilk_arena.specs.Arena.{ArenaContent, literals_of, number_of_clause, item_at_reference_or_default, contains_reference}
 use Rattle.ilk_watches.specs.Reasons.{nth_clause_or_empty, is_conflict, clause_forces_lit}
-use Rattle.ilk_watches.specs.Chained.{IsClauses, SameClauses}
+use Rattle.ilk_watches.specs.Chained.{AreValidNumberedClauses, SameClauses}
 use Rattle.ilk_watches.proofs.Chained.{by-reference}
 use Rattle.ilk_watches.proofs.Within.{clause-there}
 use Rattle.ilk_watches.specs.Propagated.{ExtendsByPropagation}
@@ -28,7 +28,7 @@ use Rattle.ilk_watches.proofs.Others.{number-same}
 use Rattle.ilk_watches.proofs.Satisfied.{closed-all, is_open, open-true}
 use Rattle.ilk_watches.proofs.Looks.{differ-at, satisfied-kept}
 
-pub queue-start : (a : ArenaLists) → IsPropagationInvariant a [] 0 0
+pub queue-start : (a : ArenaContent) → IsPropagationInvariant a [] 0 0
 queue-start a = record {
   head_in = omega arith;
   settled_in = omega arith;
@@ -40,16 +40,16 @@ queue-start a = record {
     nothing : (i : ℕ) (e : Entry) → slice_get {X = Entry} [] i ≡ Some e → ⊥
     nothing i e s = absurd (cc)
 
-pub literals-same : (a b : ArenaLists) (c : ℕ) → SameClauses a b → literals_of b c ≡ literals_of a c
+pub literals-same : (a b : ArenaContent) (c : ℕ) → SameClauses a b → literals_of b c ≡ literals_of a c
 literals-same a b c s = ap (λ (rs : List ℕ). item_at_reference_or_default c rs b.clauses []) s.references ∙ ap (λ (cs : List (List Literal)). item_at_reference_or_default c a.references cs []) s.clauses
 
-pub all-covered : (a : ArenaLists) (es : List Entry) (h s : ℕ) → IsPropagationInvariant a es h s → IsClauses a → s ≡ length a.clauses → AllCovered a es h
+pub all-covered : (a : ArenaContent) (es : List Entry) (h s : ℕ) → IsPropagationInvariant a es h s → AreValidNumberedClauses a → s ≡ length a.clauses → AllCovered a es h
 all-covered a es h s k cl all = λ c known. elim (k.watched c known) [
   | inl v ↦ v
   | inr m ↦ absurd (let b = by-reference a c cl known in omega (arith, m.0, b.number, b.within, all))
 ]
 
-pub queue-walked : (a b : ArenaLists) (es fs : List Entry) (h n s : ℕ) → IsPropagationInvariant a es h s → AllCovered b fs n → ExtendsByPropagation a.clauses es fs → SameClauses a b → h ≤ n → n ≤ length fs → IsPropagationInvariant b fs n s
+pub queue-walked : (a b : ArenaContent) (es fs : List Entry) (h n s : ℕ) → IsPropagationInvariant a es h s → AllCovered b fs n → ExtendsByPropagation a.clauses es fs → SameClauses a b → h ≤ n → n ≤ length fs → IsPropagationInvariant b fs n s
 queue-walked a b es fs h n s k v p same le m = record {
   head_in = m;
   settled_in = omega (arith, k.settled_in, ap length same.clauses);
@@ -65,7 +65,8 @@ queue-walked a b es fs h n s k v p same le m = record {
       ap (is_satisfied fs) ls ∙ satisfied-kept es fs (literals_of a c) p.kept (k.short c there (omega (arith, few, number)) (omega (arith, b2, ap length ls))));
 }
 
-pub queue-closed : (a : ArenaLists) (es : List Entry) (h s : ℕ) → IsPropagationInvariant a es h s → IsClauses a → has_distinct_vars (lits_of es) ≡ true → s ≡ length a.clauses → length es ≤ h → (is_saturated a.clauses (lits_of es) ≡ true) ×
+pub queue-closed : (a : ArenaContent) (es : List Entry) (h s : ℕ) → IsPropagationInvariant a es h s → AreValidNumberedClauses a → has_distinct_vars (lits_of es) ≡ true → s ≡ length a.clauses → length es ≤ h
+    → (is_saturated a.clauses (lits_of es) ≡ true) ×
     (h ≡ length es)
 queue-closed a es h s k cl d all past =
     let here : h ≡ length es = omega (arith, past, k.head_in) in
@@ -73,7 +74,7 @@ queue-closed a es h s k cl d all past =
     let count : (c : ℕ) → contains_reference c a.references ≡ true → number_of_clause a c ≤ s = λ c known. (let b = by-reference a c cl known in omega (arith, b.number, b.within, all)) in
     (closed-all a es cl d (subst P here (all-covered a es h s k cl all)) (λ c known n. k.short c known (count c known) n), here)
 
-pub queue-with_decision : (a : ArenaLists) (es : List Entry) (h s : ℕ) (l : Literal) → IsPropagationInvariant a es h s → IsClauses a → s ≡ length a.clauses → h ≡ length es → IsPropagationInvariant a (with_decision es l) h s
+pub queue-with_decision : (a : ArenaContent) (es : List Entry) (h s : ℕ) (l : Literal) → IsPropagationInvariant a es h s → AreValidNumberedClauses a → s ≡ length a.clauses → h ≡ length es → IsPropagationInvariant a (with_decision es l) h s
 queue-with_decision a es h s l k cl all here =
     let e : Entry = record { lit = l; level = level_of es + 1; reason = None } in
     let kept : take (length es) (with_decision es l) ≡ es = take-append_seam es (e ∷ []) in
@@ -96,7 +97,7 @@ queue-with_decision a es h s l k cl all here =
     end-of [] x = refl
     end-of (y ∷ xs) x = end-of xs x
 
-forced-open : (a : ArenaLists) (es : List Entry) (l : Literal) (c : ℕ) → IsClauses a → is_saturated a.clauses (lits_of es) ≡ true → clause_forces_lit a.clauses (lits_of es) l c ≡ true → has_lit l (lits_of es) ≡ true
+forced-open : (a : ArenaContent) (es : List Entry) (l : Literal) (c : ℕ) → AreValidNumberedClauses a → is_saturated a.clauses (lits_of es) ≡ true → clause_forces_lit a.clauses (lits_of es) l c ≡ true → has_lit l (lits_of es) ≡ true
 forced-open a es l c k closed r =
     let clause = nth_clause_or_empty a.clauses c in
     let p = and_parts (has_lit l clause) (is_falsified (lits_of es) (other_lits l clause)) r in
@@ -111,7 +112,7 @@ drop-past [] (suc n) h = refl
 drop-past (x ∷ xs) zero h = absurd (omega arith)
 drop-past (x ∷ xs) (suc n) h = drop-past xs n (omega arith)
 
-pub nothing-forced : (a : ArenaLists) (es fs : List Entry) → IsClauses a → is_saturated a.clauses (lits_of es) ≡ true → ExtendsByPropagation a.clauses es fs → has_distinct_vars (lits_of fs) ≡ true → fs ≡ es
+pub nothing-forced : (a : ArenaContent) (es fs : List Entry) → AreValidNumberedClauses a → is_saturated a.clauses (lits_of es) ≡ true → ExtendsByPropagation a.clauses es fs → has_distinct_vars (lits_of fs) ≡ true → fs ≡ es
 nothing-forced a es fs k closed p d =
     elim (below_or_past (length es) (length fs)) [
       | inl b ↦ absurd (let x = item_at fs (length es) b in

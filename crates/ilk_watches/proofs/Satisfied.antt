@@ -12,9 +12,9 @@ use Rattle.ilk_log.specs.Fresh.{other_lits}
 use Rattle.ilk_log.specs.Propagation.{is_saturated, is_false, is_falsified, unit_lit}
 use Rattle.ilk_trail.specs.declared.entry.Entry.{Entry}
 use Rattle.ilk_trail.specs.Laws.{lits_of}
-use Rattle.ilk_arena.specs.Arena.{ArenaLists, chain_of, literals_of, contains_reference}
+use Rattle.ilk_arena.specs.Arena.{ArenaContent, chain_of, literals_of, contains_reference}
 use Rattle.ilk_arena.specs.Chains.{WatchesTwo}
-use Rattle.ilk_watches.specs.Chained.{IsClauses}
+use Rattle.ilk_watches.specs.Chained.{AreValidNumberedClauses}
 use Rattle.ilk_watches.proofs.Chained.{referred}
 use Rattle.ilk_watches.specs.Watched.{AllCovered, is_satisfied}
 use Rattle.ilk_watches.proofs.Entries.{entry-of-lit, true-not-false, true-somewhere}
@@ -112,7 +112,7 @@ short-satisfied es (l ∷ []) n h =
     ]
 short-satisfied es (l ∷ (m ∷ c)) n h = absurd (omega arith)
 
-pub watched-open : (a : ArenaLists) (es : List Entry) (c : ℕ) (x y : Literal) →
+pub watched-open : (a : ArenaContent) (es : List Entry) (c : ℕ) (x y : Literal) →
     has_distinct_vars (lits_of es) ≡ true → WatchesTwo a c x y →
     (is_false (lits_of es) x ≡ true → has_lit y (lits_of es) ≡ true) →
     (is_false (lits_of es) y ≡ true → has_lit x (lits_of es) ≡ true) →
@@ -128,7 +128,7 @@ watched-open a es c x y d w fx fy =
       ]
     ]
 
-pub other-holds : (a : ArenaLists) (es : List Entry) (c : ℕ) (x y : Literal) →
+pub other-holds : (a : ArenaContent) (es : List Entry) (c : ℕ) (x y : Literal) →
     contains_reference c a.references ≡ true → AllCovered a es (length es) → contains_reference c (chain_of a x) ≡ true →
     contains_reference c (chain_of a y) ≡ true → y ≢ x → is_false (lits_of es) x ≡ true → has_lit y (lits_of es) ≡ true
 other-holds a es c x y known h sx sy ne f =
@@ -136,7 +136,7 @@ other-holds a es c x y known h sx sy ne f =
     let same : negated_lit e.entry.lit ≡ x = ap negated_lit e.is ∙ negated_lit-negated_lit x in
     true-somewhere es e.entry.level y (h c known e.index e.entry y (slice_get_within es e.index e.entry e.stands) e.stands (ap (λ (l : Literal). contains_reference c (chain_of a l)) same ∙ sx) sy (λ q. ne (q ∙ same)))
 
-pub closed-all : (a : ArenaLists) (es : List Entry) → IsClauses a → has_distinct_vars (lits_of es) ≡ true →
+pub closed-all : (a : ArenaContent) (es : List Entry) → AreValidNumberedClauses a → has_distinct_vars (lits_of es) ≡ true →
     AllCovered a es (length es) →
     ((c : ℕ) → contains_reference c a.references ≡ true → length (literals_of a c) < 2 →
     is_satisfied es (literals_of a c) ≡ true) →

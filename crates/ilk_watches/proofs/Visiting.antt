@@ -8,13 +8,13 @@ use Rattle.ilk_trail.specs.declared.entry.Entry.{Entry}
 use Rattle.ilk_trail.specs.Trail.{TrailList}
 use Rattle.ilk_trail.specs.Laws.{IsTrail, lits_of}
 use Rattle.ilk_trail.proofs.Entries.{entry-within}
-use Rattle.ilk_arena.specs.Arena.{ArenaLists}
+use Rattle.ilk_arena.specs.Arena.{ArenaContent}
 use Rattle.ilk_watches.specs.Chained.{SameClauses}
-use Rattle.ilk_watches.specs.Visits.{IsMadeFalseBy}
+use Rattle.ilk_watches.specs.Visits.{EntryMakesLitFalse}
 use Rattle.ilk_watches.proofs.Entries.{at-kept, entry-denies, length-kept}
 use Rattle.ilk_watches.proofs.Walks.{entry-at}
 
-pub made-false : {t : TrailList} {l f : Literal} (vars n : ℕ) → IsTrail t → t.vars ≡ vars → n < length t.entries → option_map (λ (e : Entry). e.lit) (slice_get t.entries n) ≡ Some l → f ≡ negated_lit l → IsMadeFalseBy vars t.entries n f
+pub made-false : {t : TrailList} {l f : Literal} (vars n : ℕ) → IsTrail t → t.vars ≡ vars → n < length t.entries → option_map (λ (e : Entry). e.lit) (slice_get t.entries n) ≡ Some l → f ≡ negated_lit l → EntryMakesLitFalse vars t.entries n f
 made-false {t} {l} {f} vars n k same below h q =
     let at = entry-at t.entries n l h in
     let is : negated_lit at.entry.lit ≡ f = ap negated_lit at.is ∙ sym q in
@@ -27,7 +27,7 @@ made-false {t} {l} {f} vars n k same below h q =
       below = below;
     }
 
-pub still-false : {a b : ArenaLists} {es fs : List Entry} {n : ℕ} {f : Literal} → IsMadeFalseBy a.vars es n f → SameClauses a b → take (length es) fs ≡ es → IsMadeFalseBy b.vars fs n f
+pub still-false : {a b : ArenaContent} {es fs : List Entry} {n : ℕ} {f : Literal} → EntryMakesLitFalse a.vars es n f → SameClauses a b → take (length es) fs ≡ es → EntryMakesLitFalse b.vars fs n f
 still-false {a} {b} {es} {fs} {n} {f} m same kept =
     let stands : slice_get fs n ≡ Some m.entry = at-kept es fs n m.entry kept m.stands in
     let longer = length-kept es fs kept in

@@ -1,9 +1,9 @@
 ghost use Rattle.std.specs.Prelude.{◌≡◌, ◌≤◌, ◌<◌, ◌^◌, [], false, length, slice_get, Some, IfOk, IfSome, OnOk, OnErr, IsTrue};
 ghost use Rattle.ilk_cnf.specs.Formula.{is_clause_over, is_lit_over, IsFormula};
 ghost use Rattle.ilk_cnf.specs.Literal.{has_distinct_vars};
-ghost use Rattle.ilk_arena.specs.Arena.{chain_of, follows_or_is_first, literals_of, with_watch_moved, set_for_reference, contains_reference};
+ghost use Rattle.ilk_arena.specs.Arena.{chain_of, follows_or_heads_chain, literals_of, with_watch_moved, set_for_reference, contains_reference};
 ghost use Rattle.ilk_watches.specs.Reasons.{nth_clause_or_empty};
-ghost use Rattle.ilk_watches.specs.Chained.{formula_of, IsClauses, IsClauseAdded};
+ghost use Rattle.ilk_watches.specs.Chained.{formula_of, AreValidNumberedClauses, IsClauseAdded};
 
 use ilk_arena::Arena;
 use ilk_cnf::{Cnf, Lit};
@@ -19,10 +19,10 @@ pub struct NumberedClauses {
 }
 
 impl Model for NumberedClauses {
-    ghost use Rattle.ilk_arena.specs.Arena.{ArenaLists};
+    ghost use Rattle.ilk_arena.specs.Arena.{ArenaContent};
     ghost use Rattle.ilk_watches.specs.Held.{AreClauseReferences};
 
-    ghost Value = { ArenaLists };
+    ghost Value = { ArenaContent };
 
     ghost view = { λ c. c.arena };
 
@@ -79,7 +79,7 @@ impl NumberedClauses {
     pub fn count(&self) -> u64
         ensures count { result ≡ length self.now.clauses }
         ensures formula { IsFormula (formula_of self.now) }
-        ensures clauses { IsClauses self.now }
+        ensures clauses { AreValidNumberedClauses self.now }
     {
         self.references.len() as u64
     }
@@ -106,14 +106,14 @@ impl NumberedClauses {
     #[inline(always)]
     pub fn arena(&self) -> &Arena
         ensures arena { result.now ≡ self.now }
-        ensures clauses { IsClauses self.now }
+        ensures clauses { AreValidNumberedClauses self.now }
     {
         &self.arena
     }
 
     /// Sets the cursor of the clause at reference `c` to position `i` among its literals.
     #[inline(always)]
-    pub fn set_cursor(&mut self, c: u64, i: u64)
+    pub fn set_clause_cursor(&mut self, c: u64, i: u64)
         requires known { IsTrue (contains_reference c self.old.references) }
         requires within { i ≤ length (literals_of self.old c) }
         ensures { self.new
@@ -122,7 +122,7 @@ impl NumberedClauses {
                   i;
             } }
     {
-        self.arena.set_cursor(c, i);
+        self.arena.set_clause_cursor(c, i);
     }
 
     /// Moves the watch of the clause at reference `c` from `from` to its literal number `to`, which
@@ -130,7 +130,7 @@ impl NumberedClauses {
     #[inline(always)]
     pub fn rewatch(&mut self, before: Option<u64>, c: u64, from: Lit, to: u64)
         requires within { IsTrue (is_lit_over self.old.vars from) }
-        requires follows { IsTrue (follows_or_is_first before c (chain_of self.old from)) }
+        requires follows { IsTrue (follows_or_heads_chain before c (chain_of self.old from)) }
         requires to_in { to < length (literals_of self.old c) }
         requires unwatched { IfSome (slice_get (literals_of self.old c) to)
             (λ l. contains_reference c (chain_of self.old l) ≡ false) }

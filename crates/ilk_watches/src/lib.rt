@@ -29,7 +29,7 @@
 //!
 //! `from_cnf` takes the clauses of a formula, and `add` adds one. `length` and `literal` read a
 //! clause by number. A walk along a chain goes by reference, through `arena`; it moves a watch by
-//! `rewatch`, and a cursor by `set_cursor`.
+//! `rewatch`, and a cursor by `set_clause_cursor`.
 //!
 //! `specs/Reasons` relates the entries of a trail to the clauses: which clause forces a literal,
 //! and which is a conflict. These are the antecedents and conflicts of J. P. Marques-Silva and K.

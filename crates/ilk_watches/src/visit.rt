@@ -5,7 +5,7 @@ ghost use Rattle.ilk_log.specs.Propagation.{is_false as is_false_by, is_falsifie
 ghost use Rattle.ilk_trail.specs.declared.entry.Entry.{Entry};
 ghost use Rattle.ilk_trail.specs.Trail.{level_of};
 ghost use Rattle.ilk_trail.specs.Laws.{lits_of, IsTrail};
-ghost use Rattle.ilk_arena.specs.Arena.{chain_of, follows_or_is_first, literals_of, other_watch_of, contains_reference};
+ghost use Rattle.ilk_arena.specs.Arena.{chain_of, follows_or_heads_chain, literals_of, other_watch_of, contains_reference};
 ghost use Rattle.ilk_watches.specs.Reasons.{is_conflict};
 ghost use Rattle.ilk_watches.specs.Chained.{SameClauses};
 ghost use Rattle.ilk_watches.specs.Propagated.{ExtendsByPropagation};
@@ -113,7 +113,7 @@ fn find_watch(clauses: &mut NumberedClauses, trail: &Trail, c: u64, other: Lit) 
     let cursor = clauses.arena().cursor(c);
     let found = find_around(clauses, trail, c, other, cursor);
     if let Some(i) = found {
-        clauses.set_cursor(c, i);
+        clauses.set_clause_cursor(c, i);
     }
     found
 }
@@ -133,7 +133,7 @@ fn replace_watch(
     requires within { IsTrue (is_lit_over clauses.old.vars f) }
     requires denied { IsTrue (is_false_by (lits_of trail.now.entries) f) }
     requires stands { IsTrue (contains_reference c (chain_of clauses.old f)) }
-    requires follows { IsTrue (follows_or_is_first before c (chain_of clauses.old f)) }
+    requires follows { IsTrue (follows_or_heads_chain before c (chain_of clauses.old f)) }
     requires other { other_watch_of clauses.old c f ≡ Some other }
     ensures replaced { IsReplacementResult clauses.old
         (lits_of trail.now.entries) clauses.new c f other
@@ -165,7 +165,7 @@ pub(crate) fn visit(
     requires within { IsTrue (is_lit_over clauses.old.vars f) }
     requires denied { IsTrue (is_false_by (lits_of trail.old.entries) f) }
     requires stands { IsTrue (contains_reference c (chain_of clauses.old f)) }
-    requires follows { IsTrue (follows_or_is_first before c (chain_of clauses.old f)) }
+    requires follows { IsTrue (follows_or_heads_chain before c (chain_of clauses.old f)) }
     ensures visited { IsVisitResult clauses.old trail.old.entries clauses.new trail.new.entries c f
         result }
     ensures clauses { SameClauses clauses.old clauses.new }

@@ -9,7 +9,7 @@ ghost use Rattle.ilk_watches.specs.Reasons.{is_conflict};
 ghost use Rattle.ilk_watches.specs.Chained.{SameClauses};
 ghost use Rattle.ilk_watches.specs.Propagated.{ExtendsByPropagation};
 ghost use Rattle.ilk_watches.specs.Watched.{AllCovered};
-ghost use Rattle.ilk_watches.specs.Visits.{AtMostOneLeftChain, IsMadeFalseBy, OtherWatchesTrueBefore, count_rest_of_chain};
+ghost use Rattle.ilk_watches.specs.Visits.{AtMostOneLeftChain, EntryMakesLitFalse, OtherWatchesTrueBefore, count_rest_of_chain};
 
 use crate::clauses::NumberedClauses;
 use crate::visit::{Visited, visit};
@@ -28,7 +28,7 @@ struct Walk {
 fn start(clauses: &NumberedClauses, trail: &Trail, i: u64) -> Walk
     requires vars { trail.now.vars ≡ clauses.now.vars }
     requires entry { i < length trail.now.entries }
-    ensures literal { IsMadeFalseBy clauses.now.vars trail.now.entries i result.f }
+    ensures literal { EntryMakesLitFalse clauses.now.vars trail.now.entries i result.f }
     ensures before { result.before ≡ None }
     ensures next { result.next ≡ first_of (chain_of clauses.now result.f) }
     ensures trail { IsTrail trail.now }

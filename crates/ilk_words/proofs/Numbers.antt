@@ -14,11 +14,11 @@ use Rattle.clap.proofs.ValueTestLemmas.{Accepts-accepts, accepts-Accepts}
 use Rattle.ilk_base.specs.Option.{◌>>=◌, then_some}
 use Rattle.ilk_base.proofs.Options.{IfSome-from, bind_some}
 use Rattle.ilk_base.proofs.Tested.{find-at}
-use Rattle.ilk_words.specs.Commands.{CommandNameAndOptions, audit_command, check_command, column_rule_mode_of, commands, demo_command, drive_command, export_command, make_command, query_kind_of, replay_command, rup_command, table_command, verify_command}
+use Rattle.ilk_words.specs.Commands.{CommandNameAndOptions, audit_command_spec, check_command_spec, column_rule_mode_of, commands, demo_command_spec, drive_command_spec, export_command_spec, make_command_spec, query_kind_of, replay_command_spec, rup_command_spec, table_command_spec, verify_command_spec}
 use Rattle.ilk_words.specs.Limits.{within_option_limits, within_query_limits, within_search_limits, within_station_limits}
 use Rattle.ilk_words.specs.Options.{ParsedArgs, OptionSpec, cert_option, conflicts_option, depth_option, number_between, option_number_or_default, number_of_value, query_number_option, run_option, stations_option, option_value_or_default}
 use Rattle.ilk_words.specs.Queries.{query_exists}
-use Rattle.ilk_words.specs.Words.{command_from_args, has_only_own_options, command_if_options_fit}
+use Rattle.ilk_words.specs.Words.{command_from_args, has_only_own_options, command_if_only_own_options}
 use Rattle.ilk_words.specs.declared.command.Command.{Command}
 use Rattle.ilk_words.specs.declared.command.Command.TheVariants.{Check, Verify, Audit, Replay, Make, Demo, Table, Export, Rup, Drive}
 use Rattle.ilk_words.specs.declared.command.QueryKind.{QueryKind}
@@ -51,7 +51,7 @@ HasLimits command = IsTrue (within_option_limits command)
 abbrev KeepsLimits : CommandNameAndOptions → Type 0
 KeepsLimits c = (line : ParsedArgs) (command : Command) → c.command line ≡ Some command → HasLimits command
 
-check_keeps : KeepsLimits check_command
+check_keeps : KeepsLimits check_command_spec
 check_keeps line command e =
     let columns = bind_some (column_rule_mode_of line) _ command e in
     subst HasLimits (same_Some (Check columns.0) command columns.2) refl
@@ -72,7 +72,7 @@ query_within line query number e has =
     let n = option_within line query_number_option 0 MAX_QUERY_EVENTS number refl e in
     rw (le-leb number MAX_QUERY_EVENTS n.1, has) refl
 
-verify_keeps : KeepsLimits verify_command
+verify_keeps : KeepsLimits verify_command_spec
 verify_keeps line command e =
     let columns = bind_some (column_rule_mode_of line) _ command e in
     let depth = bind_some (option_number_or_default line depth_option) _ command columns.2 in
@@ -81,25 +81,25 @@ verify_keeps line command e =
     let limits : HasLimits (Verify columns.0 depth.0 conflicts.0 cert.0) = search_within line depth.0 conflicts.0 depth.1 conflicts.1 in
     subst HasLimits (same_Some _ _ cert.2) limits
 
-audit_keeps : KeepsLimits audit_command
+audit_keeps : KeepsLimits audit_command_spec
 audit_keeps line command e =
     let columns = bind_some (column_rule_mode_of line) _ command e in
     let cert = bind_some (option_value_or_default line cert_option) _ command columns.2 in
     subst HasLimits (same_Some (Audit columns.0 cert.0) command cert.2) refl
 
-replay_keeps : KeepsLimits replay_command
+replay_keeps : KeepsLimits replay_command_spec
 replay_keeps line command e =
     let columns = bind_some (column_rule_mode_of line) _ command e in
     let run = bind_some (option_value_or_default line run_option) _ command columns.2 in
     subst HasLimits (same_Some (Replay columns.0 run.0) command run.2) refl
 
-make_keeps : KeepsLimits make_command
+make_keeps : KeepsLimits make_command_spec
 make_keeps line command e =
     let stations = bind_some (option_number_or_default line stations_option) _ command e in
     let limits : HasLimits (Make stations.0) = stations_within line stations.0 stations.1 in
     subst HasLimits (same_Some _ _ stations.2) limits
 
-demo_keeps : KeepsLimits demo_command
+demo_keeps : KeepsLimits demo_command_spec
 demo_keeps line command e =
     let stations = bind_some (option_number_or_default line stations_option) _ command e in
     let depth = bind_some (option_number_or_default line depth_option) _ command stations.2 in
@@ -111,12 +111,12 @@ demo_keeps line command e =
     (search_within line depth.0 conflicts.0 depth.1 conflicts.1) in
     subst HasLimits (same_Some _ _ cert.2) limits
 
-table_keeps : KeepsLimits table_command
+table_keeps : KeepsLimits table_command_spec
 table_keeps line command e =
     let columns = bind_some (column_rule_mode_of line) _ command e in
     subst HasLimits (same_Some (Table columns.0) command columns.2) refl
 
-export_keeps : KeepsLimits export_command
+export_keeps : KeepsLimits export_command_spec
 export_keeps line command e =
     let columns = bind_some (column_rule_mode_of line) _ command e in
     let query = bind_some (query_kind_of line) _ command columns.2 in
@@ -125,7 +125,7 @@ export_keeps line command e =
     let limits : HasLimits (Export columns.0 query.0 number.0) = query_within line query.0 number.0 number.1 asked.0 in
     subst HasLimits asked.1 limits
 
-rup_keeps : KeepsLimits rup_command
+rup_keeps : KeepsLimits rup_command_spec
 rup_keeps line command e =
     let columns = bind_some (column_rule_mode_of line) _ command e in
     let query = bind_some (query_kind_of line) _ command columns.2 in
@@ -135,7 +135,7 @@ rup_keeps line command e =
     let limits : HasLimits (Rup columns.0 query.0 number.0 cert.0) = query_within line query.0 number.0 number.1 asked.0 in
     subst HasLimits asked.1 limits
 
-drive_keeps : KeepsLimits drive_command
+drive_keeps : KeepsLimits drive_command_spec
 drive_keeps line command e =
     let columns = bind_some (column_rule_mode_of line) _ command e in
     let run = bind_some (option_value_or_default line run_option) _ command columns.2 in
@@ -156,8 +156,8 @@ keeps_limits (suc (suc (suc (suc (suc (suc (suc (suc (suc (suc i)))))))))) c e =
 
 pub line_limits : (line : ParsedArgs) → IfSome (command_from_args line) (λ (command : Command). IsTrue (within_option_limits command))
 line_limits line = IfSome-from (command_from_args line) (λ (command : Command). IsTrue (within_option_limits command)) (λ command e.
-    let name = bind_some (line (codes "command")) (λ name. find (λ (c : CommandNameAndOptions). bytes_eq name c.name) commands >>= command_if_options_fit line) command e in
-    let chosen = bind_some (find (λ (c : CommandNameAndOptions). bytes_eq name.0 c.name) commands) (command_if_options_fit line) command name.2 in
+    let name = bind_some (line (codes "command")) (λ name. find (λ (c : CommandNameAndOptions). bytes_eq name c.name) commands >>= command_if_only_own_options line) command e in
+    let chosen = bind_some (find (λ (c : CommandNameAndOptions). bytes_eq name.0 c.name) commands) (command_if_only_own_options line) command name.2 in
     let place = find-at (λ (c : CommandNameAndOptions). bytes_eq name.0 c.name) commands chosen.0 chosen.1 in
     let taken = bind_some (then_some (has_only_own_options line (λ option. list_any (λ (o : OptionSpec). bytes_eq option o.name) chosen.0.options)) chosen.0) (λ c. chosen.0.command line) command chosen.2 in
     keeps_limits place.0 chosen.0 place.1 line command taken.2)

@@ -4,7 +4,7 @@ use Rattle.clap.specs.Words.{Text}
 use Rattle.ilk_base.specs.Option.{◌>>=◌, then_some}
 use Rattle.ilk_words.specs.Columns.{column_rule_mode_of_word}
 use Rattle.ilk_words.specs.Options.{ParsedArgs, OptionSpec, cert_option, columns_option, conflicts_option, depth_option, option_number_or_default, query_number_option, query_option, run_option, stations_option, option_value_or_default}
-use Rattle.ilk_words.specs.Queries.{query_exists, query_of_word}
+use Rattle.ilk_words.specs.Queries.{query_exists, query_kind_of_word}
 use Rattle.ilk_words.specs.declared.command.ColumnRuleMode.{ColumnRuleMode}
 use Rattle.ilk_words.specs.declared.command.Command.{Command}
 use Rattle.ilk_words.specs.declared.command.Command.TheVariants.{Check, Verify, Audit, Replay, Make, Demo, Table, Export, Rup, Drive}
@@ -26,10 +26,10 @@ column_rule_mode_of line = do
 abbrev pub query_kind_of : ParsedArgs → Option QueryKind
 query_kind_of line = do
   value ← option_value_or_default line query_option
-  query_of_word value
+  query_kind_of_word value
 
-abbrev pub check_command : CommandNameAndOptions
-check_command = record {
+abbrev pub check_command_spec : CommandNameAndOptions
+check_command_spec = record {
   name = codes "check";
   options = columns_option ∷ [];
   command = λ line. do
@@ -37,8 +37,8 @@ check_command = record {
     Some (Check columns);
 }
 
-abbrev pub verify_command : CommandNameAndOptions
-verify_command = record {
+abbrev pub verify_command_spec : CommandNameAndOptions
+verify_command_spec = record {
   name = codes "verify";
   options = columns_option ∷ depth_option ∷ conflicts_option ∷ cert_option ∷ [];
   command = λ line. do
@@ -49,8 +49,8 @@ verify_command = record {
     Some (Verify columns depth conflicts cert);
 }
 
-abbrev pub audit_command : CommandNameAndOptions
-audit_command = record {
+abbrev pub audit_command_spec : CommandNameAndOptions
+audit_command_spec = record {
   name = codes "audit";
   options = columns_option ∷ cert_option ∷ [];
   command = λ line. do
@@ -59,8 +59,8 @@ audit_command = record {
     Some (Audit columns cert);
 }
 
-abbrev pub replay_command : CommandNameAndOptions
-replay_command = record {
+abbrev pub replay_command_spec : CommandNameAndOptions
+replay_command_spec = record {
   name = codes "replay";
   options = columns_option ∷ run_option ∷ [];
   command = λ line. do
@@ -69,8 +69,8 @@ replay_command = record {
     Some (Replay columns run);
 }
 
-abbrev pub make_command : CommandNameAndOptions
-make_command = record {
+abbrev pub make_command_spec : CommandNameAndOptions
+make_command_spec = record {
   name = codes "make";
   options = stations_option ∷ [];
   command = λ line. do
@@ -78,8 +78,8 @@ make_command = record {
     Some (Make stations);
 }
 
-abbrev pub demo_command : CommandNameAndOptions
-demo_command = record {
+abbrev pub demo_command_spec : CommandNameAndOptions
+demo_command_spec = record {
   name = codes "demo";
   options = stations_option ∷ depth_option ∷ conflicts_option ∷ cert_option ∷ [];
   command = λ line. do
@@ -90,8 +90,8 @@ demo_command = record {
     Some (Demo stations depth conflicts cert);
 }
 
-abbrev pub table_command : CommandNameAndOptions
-table_command = record {
+abbrev pub table_command_spec : CommandNameAndOptions
+table_command_spec = record {
   name = codes "table";
   options = columns_option ∷ [];
   command = λ line. do
@@ -99,8 +99,8 @@ table_command = record {
     Some (Table columns);
 }
 
-abbrev pub export_command : CommandNameAndOptions
-export_command = record {
+abbrev pub export_command_spec : CommandNameAndOptions
+export_command_spec = record {
   name = codes "export";
   options = columns_option ∷ query_option ∷ query_number_option ∷ [];
   command = λ line. do
@@ -110,8 +110,8 @@ export_command = record {
     then_some (query_exists query number) (Export columns query number);
 }
 
-abbrev pub rup_command : CommandNameAndOptions
-rup_command = record {
+abbrev pub rup_command_spec : CommandNameAndOptions
+rup_command_spec = record {
   name = codes "rup";
   options = columns_option ∷ query_option ∷ query_number_option ∷ cert_option ∷ [];
   command = λ line. do
@@ -122,8 +122,8 @@ rup_command = record {
     then_some (query_exists query number) (Rup columns query number cert);
 }
 
-abbrev pub drive_command : CommandNameAndOptions
-drive_command = record {
+abbrev pub drive_command_spec : CommandNameAndOptions
+drive_command_spec = record {
   name = codes "drive";
   options = columns_option ∷ run_option ∷ [];
   command = λ line. do
@@ -134,5 +134,5 @@ drive_command = record {
 
 abbrev pub commands : List CommandNameAndOptions
 commands =
-    check_command ∷ verify_command ∷ audit_command ∷ replay_command ∷ make_command
-    ∷ demo_command ∷ table_command ∷ export_command ∷ rup_command ∷ drive_command ∷ []
+    check_command_spec ∷ verify_command_spec ∷ audit_command_spec ∷ replay_command_spec ∷ make_command_spec
+    ∷ demo_command_spec ∷ table_command_spec ∷ export_command_spec ∷ rup_command_spec ∷ drive_command_spec ∷ []

@@ -4,14 +4,14 @@ use Rattle.clap.specs.Words.{App, Rule, Text, new_app, new_rule, with_rule}
 use Rattle.clap.specs.declared.builder.ArgAction.TheVariants.{Set}
 use Rattle.clap.specs.declared.builder.value_parser.ValueParser.{ValueParser}
 use Rattle.ilk_words.specs.Commands.{commands}
-use Rattle.ilk_words.specs.Options.{OptionSpec, one_of_texts, options}
+use Rattle.ilk_words.specs.Options.{OptionSpec, only_these_texts, options}
 
 -- The argument, for `clap`, that names the command: the only one that isn't an option.
 abbrev pub command_name_arg : Rule
 command_name_arg = record (new_rule (codes "command")) {
   required = true;
   action = Some Set;
-  parser = Some (one_of_texts (map (λ c. c.name) commands));
+  parser = Some (only_these_texts (map (λ c. c.name) commands));
 }
 
 -- An option, for `clap`, with this name. It occurs at most once, and the parser says which values
@@ -24,9 +24,9 @@ option_arg_with_parser name values = record (new_rule name) {
 }
 
 -- An option of the table, as an argument for `clap`.
-abbrev pub option_arg : OptionSpec → Rule
-option_arg o = option_arg_with_parser o.name o.values
+abbrev pub option_arg_from_spec : OptionSpec → Rule
+option_arg_from_spec o = option_arg_with_parser o.name o.values
 
 -- The whole command line for `clap`: the command's name and all options.
 unfoldable pub app : App
-app = fold with_rule (new_app (codes "irv")) (command_name_arg ∷ map option_arg options)
+app = fold with_rule (new_app (codes "irv")) (command_name_arg ∷ map option_arg_from_spec options)

@@ -15,12 +15,12 @@ use Rattle.ilk_words.specs.declared.command.ColumnRuleMode.TheVariants.{Strict}
 use Rattle.ilk_words.specs.declared.limits.TheConstants.{DEFAULT_TOTAL_CONFLICTS, DEFAULT_DEPTH, MAX_TOTAL_CONFLICTS, MAX_DEPTH, MAX_QUERY_EVENTS, MAX_STATIONS}
 
 -- A reference to `x`, as `clap` holds texts, at address 0. Parsing doesn't depend on the address.
-abbrev pub as_reference : {X : Type 0} → X → Bor X
-as_reference x = record { ref_ptr = (0, 0); now = x }
+abbrev pub reference_at_address_zero : {X : Type 0} → X → Bor X
+reference_at_address_zero x = record { ref_ptr = (0, 0); now = x }
 
 -- The parser that accepts only these values.
-abbrev pub one_of_texts : List Text → ValueParser
-one_of_texts values = parser.Names (as_reference (map as_reference values))
+abbrev pub only_these_texts : List Text → ValueParser
+only_these_texts values = parser.Names (reference_at_address_zero (map reference_at_address_zero values))
 
 -- The parser that accepts only whole numbers from the first bound to the second.
 abbrev pub number_between : ℕ → ℕ → ValueParser
@@ -40,7 +40,7 @@ pub record OptionSpec : Type 0 where
 abbrev pub columns_option : OptionSpec
 columns_option = record {
   name = codes "columns";
-  values = one_of_texts (map column_rule_mode_word all_column_rule_modes);
+  values = only_these_texts (map column_rule_mode_word all_column_rule_modes);
   default = Some (column_rule_mode_word Strict);
 }
 
@@ -74,7 +74,7 @@ stations_option = record {
 abbrev pub query_option : OptionSpec
 query_option = record {
   name = codes "query";
-  values = one_of_texts (map query_word all_queries);
+  values = only_these_texts (map query_word all_queries);
   default = None;
 }
 

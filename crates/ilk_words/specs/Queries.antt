@@ -13,8 +13,8 @@ abbrev pub all_queries : List QueryKind
 all_queries = Hazard ∷ Breach ∷ Step ∷ []
 
 -- The kind of query with this word, or `None` if there is none.
-abbrev pub query_of_word : List ℕ → Option QueryKind
-query_of_word = first_value_with_word query_word all_queries
+abbrev pub query_kind_of_word : List ℕ → Option QueryKind
+query_kind_of_word = first_value_with_word query_word all_queries
 
 -- Returns whether there is a query of this kind for this number of events; a step query has at
 -- least one.

@@ -15,8 +15,8 @@ has_only_own_options line is_own = list_all (λ o. is_none (line o.name) || is_o
 
 -- The command that the line gives as this one, or `None` if an option of another command is on the
 -- line or a required one is missing.
-abbrev pub command_if_options_fit : ParsedArgs → CommandNameAndOptions → Option Command
-command_if_options_fit line c = do
+abbrev pub command_if_only_own_options : ParsedArgs → CommandNameAndOptions → Option Command
+command_if_only_own_options line c = do
   _ ← then_some (has_only_own_options line (λ name. list_any (λ o. bytes_eq name o.name) c.options)) c
   c.command line
 
@@ -25,7 +25,7 @@ abbrev pub command_from_args : ParsedArgs → Option Command
 command_from_args line = do
   name ← line (codes "command")
   c ← find (λ c. bytes_eq name c.name) commands
-  command_if_options_fit line c
+  command_if_only_own_options line c
 
 -- The command that the arguments give, or `None` if they are a usage error. Lack of memory in
 -- `clap` is left out.

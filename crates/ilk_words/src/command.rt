@@ -1,6 +1,6 @@
 ghost use Rattle.std.specs.Prelude.{◌≡◌};
 ghost use Rattle.ilk_words.specs.Columns.{column_rule_mode_of_word};
-ghost use Rattle.ilk_words.specs.Queries.{query_exists, query_of_word};
+ghost use Rattle.ilk_words.specs.Queries.{query_exists, query_kind_of_word};
 
 use ilk_base::{HasWord, Text, first_value_with_word};
 
@@ -74,7 +74,7 @@ impl HasWord for QueryKind {
 
 impl QueryKind {
     pub(crate) fn of_word(word: &[u8]) -> Option<QueryKind>
-        ensures { result ≡ query_of_word word.now }
+        ensures { result ≡ query_kind_of_word word.now }
     {
         first_value_with_word(
             &[QueryKind::Hazard, QueryKind::Breach, QueryKind::Step],

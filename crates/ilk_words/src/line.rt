@@ -4,7 +4,7 @@ ghost use Rattle.std.specs.Prelude.{◌≡◌, IfOk, false};
 ghost use Rattle.clap.specs.Words.{app_of, rule_of};
 ghost use Rattle.ilk_words.specs.Line.{app, command_name_arg, option_arg_with_parser};
 ghost use Rattle.ilk_words.specs.Options.{columns_option, query_option};
-ghost use Rattle.ilk_words.specs.Places.{app_without_addresses, rule_without_addresses, parser_without_addresses};
+ghost use Rattle.ilk_words.specs.Places.{app_without_addresses, clap_arg_without_addresses, parser_without_addresses};
 
 use crate::command::{COLUMNS_WORDS, QUERY_WORDS};
 use crate::{MAX_DEPTH, MAX_QUERY_EVENTS, MAX_STATIONS, MAX_TOTAL_CONFLICTS};
@@ -76,7 +76,7 @@ pub(crate) fn line_command<'a>(alloc: Global) -> Result<clap::Command<'a>, Alloc
 }
 
 fn command_argument<'a>(alloc: Global) -> Arg<'a>
-    ensures rule { rule_without_addresses (rule_of result) ≡ command_name_arg }
+    ensures rule { clap_arg_without_addresses (rule_of result) ≡ command_name_arg }
     ensures local { result.global ≡ false }
 {
     Arg::new(alloc, "command")
@@ -86,7 +86,7 @@ fn command_argument<'a>(alloc: Global) -> Arg<'a>
 }
 
 fn option_argument<'a>(alloc: Global, name: &'a str, values: ValueParser<'a>) -> Arg<'a>
-    ensures rule { rule_without_addresses (rule_of result)
+    ensures rule { clap_arg_without_addresses (rule_of result)
         ≡ option_arg_with_parser name.entry.now (parser_without_addresses values.entry) }
     ensures local { result.global ≡ false }
 {

@@ -2,11 +2,11 @@
 //! options.
 ghost use Rattle.std.specs.Prelude.{◌≡◌, IfOk, IfSome, IsTrue, map, string_bytes};
 ghost use Rattle.clap.specs.Words.{first_value, found_of};
-ghost use Rattle.ilk_words.specs.Commands.{audit_command, check_command, demo_command, drive_command};
-ghost use Rattle.ilk_words.specs.Commands.{export_command, make_command, replay_command, rup_command};
-ghost use Rattle.ilk_words.specs.Commands.{table_command, verify_command};
+ghost use Rattle.ilk_words.specs.Commands.{audit_command_spec, check_command_spec, demo_command_spec, drive_command_spec};
+ghost use Rattle.ilk_words.specs.Commands.{export_command_spec, make_command_spec, replay_command_spec, rup_command_spec};
+ghost use Rattle.ilk_words.specs.Commands.{table_command_spec, verify_command_spec};
 ghost use Rattle.ilk_words.specs.Limits.{within_option_limits};
-ghost use Rattle.ilk_words.specs.Words.{parsed_command, command_from_args, command_if_options_fit};
+ghost use Rattle.ilk_words.specs.Words.{parsed_command, command_from_args, command_if_only_own_options};
 
 use crate::Command;
 use crate::line::{
@@ -60,7 +60,8 @@ fn chosen(alloc: Global, matches: &ArgMatches<'_>) -> Result<Option<Command>, Al
 // Like the functions below, returns `None` if an option of another command is on the line, or a
 // required one is missing.
 fn check(matches: &ArgMatches<'_>) -> Option<Command>
-    ensures { result ≡ command_if_options_fit (first_value (found_of matches.now)) check_command }
+    ensures { result ≡ command_if_only_own_options
+        (first_value (found_of matches.now)) check_command_spec }
 {
     if !has_only(matches, &[COLUMNS]) {
         return None;
@@ -70,8 +71,8 @@ fn check(matches: &ArgMatches<'_>) -> Option<Command>
 }
 
 fn verify(alloc: Global, matches: &ArgMatches<'_>) -> Result<Option<Command>, AllocError>
-    ensures { IfOk result (λ c. c ≡ command_if_options_fit (first_value (found_of matches.now))
-        verify_command) }
+    ensures { IfOk result (λ c. c ≡ command_if_only_own_options (first_value (found_of matches.now))
+        verify_command_spec) }
 {
     if !has_only(matches, &[COLUMNS, DEPTH, CONFLICTS, CERT]) {
         return Ok(None);
@@ -94,8 +95,8 @@ fn verify(alloc: Global, matches: &ArgMatches<'_>) -> Result<Option<Command>, Al
 }
 
 fn audit(alloc: Global, matches: &ArgMatches<'_>) -> Result<Option<Command>, AllocError>
-    ensures { IfOk result (λ c. c ≡ command_if_options_fit (first_value (found_of matches.now))
-        audit_command) }
+    ensures { IfOk result (λ c. c ≡ command_if_only_own_options (first_value (found_of matches.now))
+        audit_command_spec) }
 {
     if !has_only(matches, &[COLUMNS, CERT]) {
         return Ok(None);
@@ -108,8 +109,8 @@ fn audit(alloc: Global, matches: &ArgMatches<'_>) -> Result<Option<Command>, All
 }
 
 fn replay(alloc: Global, matches: &ArgMatches<'_>) -> Result<Option<Command>, AllocError>
-    ensures { IfOk result (λ c. c ≡ command_if_options_fit (first_value (found_of matches.now))
-        replay_command) }
+    ensures { IfOk result (λ c. c ≡ command_if_only_own_options (first_value (found_of matches.now))
+        replay_command_spec) }
 {
     if !has_only(matches, &[COLUMNS, RUN]) {
         return Ok(None);
@@ -122,7 +123,8 @@ fn replay(alloc: Global, matches: &ArgMatches<'_>) -> Result<Option<Command>, Al
 }
 
 fn make(matches: &ArgMatches<'_>) -> Option<Command>
-    ensures { result ≡ command_if_options_fit (first_value (found_of matches.now)) make_command }
+    ensures { result ≡ command_if_only_own_options
+        (first_value (found_of matches.now)) make_command_spec }
 {
     if !has_only(matches, &[STATIONS]) {
         return None;
@@ -132,8 +134,8 @@ fn make(matches: &ArgMatches<'_>) -> Option<Command>
 }
 
 fn demo(alloc: Global, matches: &ArgMatches<'_>) -> Result<Option<Command>, AllocError>
-    ensures { IfOk result (λ c. c ≡ command_if_options_fit (first_value (found_of matches.now))
-        demo_command) }
+    ensures { IfOk result (λ c. c ≡ command_if_only_own_options (first_value (found_of matches.now))
+        demo_command_spec) }
 {
     if !has_only(matches, &[STATIONS, DEPTH, CONFLICTS, CERT]) {
         return Ok(None);
@@ -156,7 +158,8 @@ fn demo(alloc: Global, matches: &ArgMatches<'_>) -> Result<Option<Command>, Allo
 }
 
 fn table(matches: &ArgMatches<'_>) -> Option<Command>
-    ensures { result ≡ command_if_options_fit (first_value (found_of matches.now)) table_command }
+    ensures { result ≡ command_if_only_own_options
+        (first_value (found_of matches.now)) table_command_spec }
 {
     if !has_only(matches, &[COLUMNS]) {
         return None;
@@ -166,7 +169,8 @@ fn table(matches: &ArgMatches<'_>) -> Option<Command>
 }
 
 fn export(matches: &ArgMatches<'_>) -> Option<Command>
-    ensures { result ≡ command_if_options_fit (first_value (found_of matches.now)) export_command }
+    ensures { result ≡ command_if_only_own_options
+        (first_value (found_of matches.now)) export_command_spec }
 {
     if !has_only(matches, &[COLUMNS, QUERY, NUMBER]) {
         return None;
@@ -185,8 +189,8 @@ fn export(matches: &ArgMatches<'_>) -> Option<Command>
 }
 
 fn rup(alloc: Global, matches: &ArgMatches<'_>) -> Result<Option<Command>, AllocError>
-    ensures { IfOk result (λ c. c ≡ command_if_options_fit (first_value (found_of matches.now))
-        rup_command) }
+    ensures { IfOk result (λ c. c ≡ command_if_only_own_options (first_value (found_of matches.now))
+        rup_command_spec) }
 {
     if !has_only(matches, &[COLUMNS, QUERY, NUMBER, CERT]) {
         return Ok(None);
@@ -212,8 +216,8 @@ fn rup(alloc: Global, matches: &ArgMatches<'_>) -> Result<Option<Command>, Alloc
 }
 
 fn drive(alloc: Global, matches: &ArgMatches<'_>) -> Result<Option<Command>, AllocError>
-    ensures { IfOk result (λ c. c ≡ command_if_options_fit (first_value (found_of matches.now))
-        drive_command) }
+    ensures { IfOk result (λ c. c ≡ command_if_only_own_options (first_value (found_of matches.now))
+        drive_command_spec) }
 {
     if !has_only(matches, &[COLUMNS, RUN]) {
         return Ok(None);

@@ -38,7 +38,7 @@ STAGES = [
      ["ilk_engine", "ilk_forever", "ilk_induct", "ilk_queries", "ilk_unroll"]),
     ("Runs, events, hazards and the invariant", VERDICT, ["ilk_model", "ilk_motion", "ilk_routes"]),
     ("The plant and its states", VERDICT, ["ilk_plant", "ilk_base"]),
-    ("From the configuration to the plant", [("ilk_answers.specs.Answer", "plant_of_conf"),
+    ("From the configuration to the plant", [("ilk_answers.specs.Answer", "plant_or_refusals_of_conf"),
                                              ("ilk_answers.specs.Refusal", "refusal_line")], None),
     ("Runs as texts",
      [("ilk_replay.specs.RunText", "run_text"), ("ilk_replay.specs.Told", "run_from_text"),
@@ -53,7 +53,7 @@ STAGES = [
     ("Configurations as texts", [TOP_CALL], ["ilk_conf_write", "ilk_tablegen"]),
     ("Formulas", [("ilk_dimacs.specs.DimacsText", "dimacs_text"),
                   ("ilk_unroll.specs.Satisfied", "IsSatisfiable")], None),
-    ("Certificates", [("ilk_certificate.specs.Certificate", "IsCertificateText")], None),
+    ("Certificates", [("ilk_certificate.specs.Certificate", "IsValidCertificate")], None),
     ("The first bad line of a certificate", [("ilk_answers.specs.Audits", "AnswersAudit")], None),
     ("Refutations", [("ilk_answers.specs.Refutations", "AnswersRefutationText")], None),
     ("Spent texts, and the certificate of a verdict",
@@ -67,7 +67,7 @@ FORMULA = frozenset({"query_formula", "system_of_plant", "goal_of_plant"})
 FOREVER = [("ilk_forever.specs.Forever", "AlwaysKeepsInvariant")]
 EVENTS = [("ilk_queries.specs.Asked", "HasQueriedRun")]
 EVIDENCE = [("ilk_unroll.specs.Evidence", name) for name in ("HoldsForNoneUpTo", "ReachesHazard", "ReachesBreach")]
-PLANT = [("ilk_answers.specs.Answer", "plant_of_conf")]
+PLANT = [("ilk_answers.specs.Answer", "plant_or_refusals_of_conf")]
 CLEAN = [("ilk_answers.specs.Strict", "IsCleanAndKeepsInvariant")]
 RULES = frozenset({"network_rules_broken", "table_rules_broken", "column_rules_broken",
                    "broken_for_column_rule"})

@@ -34,6 +34,6 @@ returns-in_ok-text-in-Rejected-clause-reply c same bytes fed short =
     let fits : length bytes < 2 ^ 63 = grind (arith, short) in
     inr (record {
       line = c.in-Rejected.line;
-      first = c.line_numbers_fit_in_u64.ensures (system_of_plant p) (goal_of_plant p) bytes c.in-Rejected.line fits ends;
+      first = c.rejected_line_is_first_bad.ensures (system_of_plant p) (goal_of_plant p) bytes c.in-Rejected.line fits ends;
       reply = c.with_report-in-Rejected.ensures ∙ ap (reply IsRejected) c.in_ok-text-in-Rejected.ensures;
     })

@@ -2,7 +2,7 @@ use Rattle.std.proofs.Common.{◌≡◌, ◌+◌, ◌-◌, ◌<◌, ◌∷◌, �
 use Rattle.ilk_cnf.specs.Formula.{is_lit_over}
 use Rattle.ilk_cnf.specs.Literal.{has_var, Literal, negated_lit}
 use Rattle.ilk_log.specs.Derived.{negated_clause}
-use Rattle.ilk_audit.specs.Stored.{VarsAndAssignedLits}
+use Rattle.ilk_audit.specs.Stored.{VarCountAndTrueLits}
 use Rattle.ilk_audit.proofs.Faults.{bad-literal, is_clause, next-literal}
 use Rattle.ilk_audit.proofs.fault.set_opposites.Goals as goal
 
@@ -39,10 +39,10 @@ loop-left-preserved c =
     let before : is_clause n (drop (i + 1) clause) ≡ true = ap (λ k. is_clause n (drop k clause)) (sym next) ∙ ap (λ k. is_clause k (drop c.loop-left.left clause)) (sym inv.vars) ∙ inv.clause in
     let step = next-literal n clause i l at c.index-clause-left.is before good in
     let ok = (c.in_ok-set.ensures {u = tt}).ok in
-    let vars = ap (λ (p : VarsAndAssignedLits). p.vars) ok ∙ inv.vars in
+    let vars = ap (λ (p : VarCountAndTrueLits). p.vars) ok ∙ inv.vars in
     record {
       vars = vars;
       within = omega (arith, at);
-      set = ap (λ (p : VarsAndAssignedLits). p.set) ok ∙ ap (λ (m : Literal). m ∷ c.loop-left.partial.set) c.negated.ensures ∙ ap (λ (ls : List Literal). negated_lit l ∷ ls) set_is ∙ sym step.1;
+      set = ap (λ (p : VarCountAndTrueLits). p.set) ok ∙ ap (λ (m : Literal). m ∷ c.loop-left.partial.set) c.negated.ensures ∙ ap (λ (ls : List Literal). negated_lit l ∷ ls) set_is ∙ sym step.1;
       clause = ap (λ k. is_clause k (drop i clause)) vars ∙ step.0;
     }

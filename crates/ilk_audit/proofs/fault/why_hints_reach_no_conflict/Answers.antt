@@ -1,6 +1,6 @@
 use Rattle.std.proofs.Common.{◌+◌, drop, get_or, refl, ap, sym, ◌∙◌}
 use Rattle.ilk_base.specs.Option.{then_some}
-use Rattle.ilk_audit.specs.Stored.{VarsAndAssignedLits}
+use Rattle.ilk_audit.specs.Stored.{VarCountAndTrueLits}
 use Rattle.ilk_audit.specs.Taken.{why_hints_reach_no_conflict}
 use Rattle.ilk_audit.specs.declared.hinted.ClauseStatus.TheVariants.{AllFalse, OneUnset, Other}
 use Rattle.ilk_audit.specs.declared.taken.Why.TheVariants.{NotFalse}
@@ -44,6 +44,6 @@ loop-i-preserved c =
     let next = hint-next clauses c.args.partial.now.set hints c.loop-i.partial.set i (get_or hints i 0) (OneUnset l) at c.loop-i-test.true refl (c.in-OneUnset.ensures {u = tt}).found in
     let ok = (c.in_ok-set-in-OneUnset.ensures {u = tt}).ok in
     record {
-      vars = ap (λ (p : VarsAndAssignedLits). p.vars) ok ∙ c.loop-i.invariant.vars;
-      fault = ap (λ (p : VarsAndAssignedLits). why_hints_reach_no_conflict clauses p.set (drop (i + 1) hints)) ok ∙ next;
+      vars = ap (λ (p : VarCountAndTrueLits). p.vars) ok ∙ c.loop-i.invariant.vars;
+      fault = ap (λ (p : VarCountAndTrueLits). why_hints_reach_no_conflict clauses p.set (drop (i + 1) hints)) ok ∙ next;
     }

@@ -4,7 +4,7 @@ use Rattle.ilk_base.proofs.Lists.{drop_at}
 use Rattle.ilk_ir.specs.Form.{tree_of, trees_of}
 use Rattle.ilk_forms.specs.Gathered.{forms_to_and_or_lits}
 use Rattle.ilk_forms.proofs.GatheredFits.{forms_to_and_or_lits-fits}
-use Rattle.ilk_forms.proofs.Steps.{lits-in, merge_lits_if_same_gate-lits, merge_lits_if_same_gate-made, form_to_and_or_lits-step}
+use Rattle.ilk_forms.proofs.Steps.{lits-in, keep_lits_if_same_gate-lits, keep_lits_if_same_gate-made, form_to_and_or_lits-step}
 use Rattle.ilk_forms.proofs.literals.+form_to_and_or_lits.Goals as goal
 
 pub join-take_in-requires : goal.join-take_in-requires
@@ -18,13 +18,13 @@ pub join-returns-clause-lits : goal.join-returns-clause-lits
 join-returns-clause-lits t c =
     let n = c.args.cnf.now.vars in
     let g = forms_to_and_or_lits c.args.table.now c.args.inner c.args.positive (trees_of c.args.forms.now) n in
-    c.in_ok-taken.ensures.lits ∙ merge_lits_if_same_gate-lits c.args.all c.args.inner c.args.cnf.now c.forms_to_and_or_lits.new.cnf g c.in_ok-lits.lits c.in_ok-lits.ensures.made c.in_ok-lits.ensures.lits
+    c.in_ok-taken.ensures.lits ∙ keep_lits_if_same_gate-lits c.args.all c.args.inner c.args.cnf.now c.forms_to_and_or_lits.new.cnf g c.in_ok-lits.lits c.in_ok-lits.ensures.made c.in_ok-lits.ensures.lits
 
 pub join-returns-clause-made : goal.join-returns-clause-made
 join-returns-clause-made t c =
     let n = c.args.cnf.now.vars in
     let g = forms_to_and_or_lits c.args.table.now c.args.inner c.args.positive (trees_of c.args.forms.now) n in
-    merge_lits_if_same_gate-made c.args.all c.args.inner c.args.cnf.now c.forms_to_and_or_lits.new.cnf c.take_in.new.cnf g c.in_ok-lits.lits c.in_ok-lits.ensures.made c.in_ok-lits.ensures.lits c.in_ok-taken.ensures.made
+    keep_lits_if_same_gate-made c.args.all c.args.inner c.args.cnf.now c.forms_to_and_or_lits.new.cnf c.take_in.new.cnf g c.in_ok-lits.lits c.in_ok-lits.ensures.made c.in_ok-lits.ensures.lits c.in_ok-taken.ensures.made
 
 pub forms_to_and_or_lits-loop-form-preserved : goal.forms_to_and_or_lits-loop-form-preserved
 forms_to_and_or_lits-loop-form-preserved t c =

@@ -5,8 +5,8 @@ use Rattle.ilk_ints.specs.Bits.{lowest_bits_of, bit_pattern_lits}
 use Rattle.ilk_ints.proofs.BitsLaw.{bit_pattern_lits-in, length-bits}
 use Rattle.ilk_ints.proofs.bounded.rule_out_value.Goals as goal
 
-pub add_clause_from_lits-requires : goal.add_clause_from_lits-requires
-add_clause_from_lits-requires c =
+pub add_clause_unless_tautology-requires : goal.add_clause_unless_tautology-requires
+add_clause_unless_tautology-requires c =
     let n = c.args.cnf.now.vars in
     let first = c.args.first in
     let qs = lowest_bits_of c.args.count c.args.value in

@@ -3,7 +3,7 @@ use Rattle.ilk_cnf.specs.Literal.{Literal}
 use Rattle.ilk_cnf.specs.Formula.{Formula, is_clause_over, with_var_count}
 use Rattle.ilk_base.proofs.Lists.{drop_at}
 use Rattle.ilk_ints.specs.Bits.{bit_count}
-use Rattle.ilk_ints.specs.Named.{bound_lits_from}
+use Rattle.ilk_ints.specs.Named.{bound_lits_part_from}
 use Rattle.ilk_ints.proofs.AtMostLaw.{bits_some}
 use Rattle.ilk_ints.proofs.BoundsLaw.{bounds_step}
 use Rattle.ilk_ints.proofs.OneOfLaw.{first-two}
@@ -37,7 +37,7 @@ loop-equal-preserved c =
     let before = c.loop-equal.invariant in
     let next = bounds_step (with_var_count c.loop-equal.cnf c.loop-equal.used)
     (with_var_count c.add_bound_lit.new.cnf c.add_bound_lit.new.used) c.loop-equal.lits
-    (bound_lits_from first range c.args.below 1 all c.args.used.now).lits first range c.loop-equal.k
+    (bound_lits_part_from first range c.args.below 1 all c.args.used.now).lits first range c.loop-equal.k
     c.loop-equal.below c.in_ok-below.below c.equal-item.result (drop i all) rest here c.requires.from_1
     some before.within before.inside c.in_ok-below.ensures.lit c.in_ok-below.ensures.made before.lits in
     record {
@@ -45,6 +45,6 @@ loop-equal-preserved c =
       place = omega (arith, before.place);
       within = next.0;
       inside = next.1;
-      lits = ap (λ (ls : List Literal). ls ++ (bound_lits_from first range c.in_ok-below.below (c.loop-equal.k + 1) rest c.add_bound_lit.new.used).lits) c.in_ok-push.ensures.ok ∙ next.2;
+      lits = ap (λ (ls : List Literal). ls ++ (bound_lits_part_from first range c.in_ok-below.below (c.loop-equal.k + 1) rest c.add_bound_lit.new.used).lits) c.in_ok-push.ensures.ok ∙ next.2;
       made = next.3 ∙ before.made;
     }

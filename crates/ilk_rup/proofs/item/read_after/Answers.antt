@@ -2,7 +2,7 @@ use Rattle.std.proofs.Common.{◌∷◌, [], List, sym, ◌∙◌, subst}
 use Rattle.ilk_lines.specs.Lines.{Bytes}
 use Rattle.ilk_rup.specs.declared.item.ItemKind.{ItemKind}
 use Rattle.ilk_rup.specs.declared.item.ItemKind.TheVariants.{Malformed}
-use Rattle.ilk_rup.specs.Items.{IsItemRead, AreFirstItemLiteralsRead}
+use Rattle.ilk_rup.specs.Items.{IsItemRead, AreItemLiteralsRead}
 use Rattle.ilk_rup.proofs.Items.{kept-alone, kept-read, plain-read}
 use Rattle.ilk_rup.proofs.item.read_after.Goals as goal
 
@@ -27,5 +27,5 @@ returns-in-Some-clause-read c =
     let set = c.read_literals-in-Some.new.set.lits in
     let left = c.read_literals-in-Some.new.words in
     let P : ItemKind → Type 0 = λ i. IsItemRead c.args.vars (word ∷ c.args.words.now) set left i in
-    let R : List Bytes → Type 0 = λ ws. AreFirstItemLiteralsRead c.args.vars ws set left c.read_literals-in-Some.result in
+    let R : List Bytes → Type 0 = λ ws. AreItemLiteralsRead c.args.vars ws set left c.read_literals-in-Some.result in
     subst P (sym c.kept_item.ensures) (kept-read c.args.vars word c.args.words.now set left c.read_literals-in-Some.result (sym c.is_keep.ensures ∙ c.if-not-is_keep.false) (subst R (sym c.in-Some.ensures.word) c.read_literals-in-Some.ensures.read))

@@ -16,12 +16,12 @@ words-init c =
     let P : List Literal → Type 0 = λ s. IsSetUnlessTautology [] s false in
     record { vars = refl; read = ([], before-start c.args.vars (c.args.first.now ∷ c.args.words.now), subst P (sym c.requires.empty) are-none) }
 
-pub returns-then-is_end-clause-read : goal.returns-then-is_end-clause-read
-returns-then-is_end-clause-read c =
+pub returns-then-is_item_end_word-clause-read : goal.returns-then-is_item_end_word-clause-read
+returns-then-is_item_end_word-clause-read c =
     let v = c.words.invariant.read in
     let whole = c.args.first.now ∷ c.args.words.now in
     let word = c.words.word.now in
-    let e = read-end c.args.vars whole c.words.words word v.0 v.1 (sym c.is_end.ensures ∙ c.if-is_end.true) in
+    let e = read-end c.args.vars whole c.words.words word v.0 v.1 (sym c.is_item_end_word.ensures ∙ c.if-is_item_end_word.true) in
     let long = ap length v.1.whole in
     let split = length-append v.1.front (word ∷ c.words.words) in
     (e.0, v.0, e.1, e.2, v.2, omega (arith, long, split))
@@ -29,13 +29,13 @@ returns-then-is_end-clause-read c =
 pub returns-in-None-clause-read : goal.returns-in-None-clause-read
 returns-in-None-clause-read c =
     let v = c.words.invariant.read in
-    read-bad c.args.vars (c.args.first.now ∷ c.args.words.now) c.words.words c.words.word.now v.0 v.1 (sym c.is_end.ensures ∙ c.if-is_end.false) (sym c.literal_of.ensures ∙ c.in-None.is)
+    read-bad c.args.vars (c.args.first.now ∷ c.args.words.now) c.words.words c.words.word.now v.0 v.1 (sym c.is_item_end_word.ensures ∙ c.if-is_item_end_word.false) (sym c.literal_of.ensures ∙ c.in-None.is)
 
 pub returns-in-None-next-clause-read : goal.returns-in-None-next-clause-read
 returns-in-None-next-clause-read c =
     let v = c.words.invariant.read in
     let P : List Bytes → Type 0 = λ rest. Before c.args.vars (c.args.first.now ∷ c.args.words.now) (c.words.word.now ∷ rest) v.0 in
-    read-cut c.args.vars (c.args.first.now ∷ c.args.words.now) c.words.word.now v.0 (subst P c.in-None-next.ensures.none v.1) (sym c.is_end.ensures ∙ c.if-is_end.false)
+    read-cut c.args.vars (c.args.first.now ∷ c.args.words.now) c.words.word.now v.0 (subst P c.in-None-next.ensures.none v.1) (sym c.is_item_end_word.ensures ∙ c.if-is_item_end_word.false)
 
 pub words-preserved : goal.words-preserved
 words-preserved c =
@@ -49,7 +49,7 @@ words-preserved c =
       vars = c.put.ensures.vars ∙ c.words.invariant.vars;
       read = (
         v.0 ++ l ∷ [],
-        subst W c.in-Some-next.ensures.word (before-next n whole c.words.words c.words.word.now v.0 l v.1 (sym c.is_end.ensures ∙ c.if-is_end.false) (sym c.literal_of.ensures ∙ c.in-Some.is)),
+        subst W c.in-Some-next.ensures.word (before-next n whole c.words.words c.words.word.now v.0 l v.1 (sym c.is_item_end_word.ensures ∙ c.if-is_item_end_word.false) (sym c.literal_of.ensures ∙ c.in-Some.is)),
         subst B (sym c.either-both.ensures) (are-more v.0 c.words.set.lits c.put.new.set.lits l c.words.both c.put.result v.2 c.put.ensures.put),
       );
     }

@@ -1,11 +1,11 @@
 use Rattle.std.proofs.Common.{ℕ, cond, eqb, sum_by}
-use Rattle.ilk_solver.specs.Tree.{IsTree, leaves_of}
+use Rattle.ilk_solver.specs.Tree.{IsWinnerTree, leaves_of}
 use Rattle.ilk_solver.specs.Order.{LosesNoUnset}
 use Rattle.ilk_solver.proofs.order.drop_set_from_top.Given as goal
 
 abbrev pub invariant-tops : goal.invariant-tops
 invariant-tops l = record {
-  tree : IsTree l.weights l.tree;
+  tree : IsWinnerTree l.weights l.tree;
   kept : LosesNoUnset l.trail.entries l.weights l.initial.tree l.tree;
 }
 

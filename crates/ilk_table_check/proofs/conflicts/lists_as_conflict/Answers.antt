@@ -4,4 +4,4 @@ use Rattle.ilk_table_check.proofs.conflicts.lists_as_conflict.Goals as goal
 
 pub returns : goal.returns
 returns c =
-    c.conflict_flag_or_false.ensures ∙ lists_as_conflict-flagged c.args._plant.now c.args.listed.now c.args.i c.args.j c.requires.listed c.requires.first c.requires.second
+    c.listed_conflict_flag_or_false.ensures ∙ lists_as_conflict-flagged c.args._plant.now c.args.listed.now c.args.i c.args.j c.requires.listed c.requires.first c.requires.second

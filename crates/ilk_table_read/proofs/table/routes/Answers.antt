@@ -3,7 +3,7 @@ use Rattle.std.proofs.lemmas.List.{length-append}
 use Rattle.serde_json.specs.View.{view}
 use Rattle.ilk_base.proofs.Results.{try_map_numbered-more}
 use Rattle.ilk_net_read.proofs.InOrder.{entries-left}
-use Rattle.ilk_plant.specs.Limits.{route_within_limits, route_names_valid}
+use Rattle.ilk_plant.specs.Limits.{route_within_limits, are_names_in_route_valid}
 use Rattle.ilk_table_read.specs.Table.{route_draft_from_value}
 use Rattle.ilk_table_read.proofs.table.routes.Goals as goal
 use Rattle.ilk_base.proofs.Tested.{list_all-more}
@@ -19,6 +19,6 @@ loop-i-preserved c = record {
       c.in_ok-route.ensures.exact)
       ∙ c.loop-i.invariant.rest);
   count = omega (arith, simp length-append at (ap length c.in_ok-push.ensures.ok));
-  named = rw c.in_ok-push.ensures.ok (list_all-more route_names_valid c.loop-i.routes c.in_ok-route.route c.loop-i.invariant.named c.in_ok-route.ensures.named);
+  named = rw c.in_ok-push.ensures.ok (list_all-more are_names_in_route_valid c.loop-i.routes c.in_ok-route.route c.loop-i.invariant.named c.in_ok-route.ensures.named);
   limits = rw c.in_ok-push.ensures.ok (list_all-more route_within_limits c.loop-i.routes c.in_ok-route.route c.loop-i.invariant.limits c.in_ok-route.ensures.limits);
 }

@@ -2,7 +2,7 @@ use Rattle.std.proofs.Common.{◌≡◌, true, drop, map}
 use Rattle.std.specs.List.{list_all, flat_map}
 use Rattle.ilk_cnf.specs.Part.{with_part}
 use Rattle.ilk_ir.specs.Form.{tree_of}
-use Rattle.ilk_unroll.specs.Goal.{must_hold_below}
+use Rattle.ilk_unroll.specs.Goal.{demands_form_holds_below_copy}
 use Rattle.ilk_unroll.specs.Query.{demands_part}
 use Rattle.ilk_unroll.specs.Tables.{are_copies_within_vars, is_valid_in_each}
 use Rattle.ilk_unroll.proofs.demands.demand_each_below.Given as goal
@@ -15,9 +15,9 @@ invariant-loop-form l =
       made :
           with_part l.cnf
           (demands_part l.tables
-          (flat_map (λ t. must_hold_below t l.count) (map tree_of (drop l.form-index l.forms)))
+          (flat_map (λ t. demands_form_holds_below_copy t l.count) (map tree_of (drop l.form-index l.forms)))
           l.cnf.vars)
           ≡ with_part l.fn.cnf
-          (demands_part l.tables (flat_map (λ t. must_hold_below t l.count) (map tree_of l.forms))
+          (demands_part l.tables (flat_map (λ t. demands_form_holds_below_copy t l.count) (map tree_of l.forms))
           l.fn.cnf.vars);
     }

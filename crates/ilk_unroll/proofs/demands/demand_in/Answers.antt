@@ -3,7 +3,7 @@ use Rattle.ilk_cnf.specs.Part.{with_part}
 use Rattle.ilk_ir.specs.Form.{tree_of}
 use Rattle.ilk_forms.specs.declared.copy.VarValueAndBoundLits.{VarValueAndBoundLits}
 use Rattle.ilk_forms.specs.Demand.{some_lit_or_form_part}
-use Rattle.ilk_unroll.specs.Goal.{must_hold_in}
+use Rattle.ilk_unroll.specs.Goal.{demand_form_holds_in_copy}
 use Rattle.ilk_unroll.proofs.CopiesLaw.{within-at, valid-at, are_copies_within_vars-more}
 use Rattle.ilk_unroll.proofs.DemandsLaw.{one-made, table-is}
 use Rattle.ilk_unroll.proofs.demands.demand_in.Goals as goal
@@ -20,7 +20,7 @@ returns-clause-made c =
     let t = tree_of c.args.form.now in
     let f = c.args.cnf.now in
     let at : slice_get tables c.args.copy ≡ Some c.at.result.now = ap (λ (i : ℕ). slice_get tables i) (sym c.from.ensures) ∙ c.at.ensures in
-    one-made tables (must_hold_in c.args.copy t) f c.demand_some_lit_or_form.new.cnf
+    one-made tables (demand_form_holds_in_copy c.args.copy t) f c.demand_some_lit_or_form.new.cnf
     (c.in_ok-demand_some_lit_or_form.ensures.made ∙ ap (λ (table : List VarValueAndBoundLits). with_part f (some_lit_or_form_part table [] t f.vars)) (sym (table-is tables c.args.copy c.at.result.now at)))
 
 pub returns-clause-within : goal.returns-clause-within

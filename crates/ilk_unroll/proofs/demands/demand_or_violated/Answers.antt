@@ -7,7 +7,7 @@ use Rattle.ilk_ir.specs.declared.form.Form.{Form}
 use Rattle.ilk_forms.specs.declared.copy.VarValueAndBoundLits.{VarValueAndBoundLits}
 use Rattle.ilk_forms.specs.Leaf.{ranges_of}
 use Rattle.ilk_forms.specs.Violated.{form_fails_part}
-use Rattle.ilk_unroll.specs.Goal.{must_fail_in}
+use Rattle.ilk_unroll.specs.Goal.{demand_form_fails_in_copy}
 use Rattle.ilk_unroll.proofs.CopiesLaw.{within-at, valid-at}
 use Rattle.ilk_unroll.proofs.DemandsLaw.{one-made, table-is}
 use Rattle.ilk_unroll.proofs.demands.demand_or_violated.Goals as goal
@@ -39,7 +39,7 @@ returns c =
     let t = all_of (more (negation first) (trees_of c.args.forms.now)) in
     let f = c.args.cnf.now in
     let at : slice_get tables c.args.copy ≡ Some c.at-table.result.now = ap (λ (i : ℕ). slice_get tables i) (sym c.from.ensures) ∙ c.at-table.ensures in
-    one-made tables (must_fail_in c.args.copy t) f c.demand_form_or_some_fail.new.cnf
+    one-made tables (demand_form_fails_in_copy c.args.copy t) f c.demand_form_or_some_fail.new.cnf
     (c.in_ok-demand_form_or_some_fail.ensures.made
     ∙ ap
     (λ (fs : List Form). with_part f

@@ -8,7 +8,7 @@ pub loop-preserved : goal.loop-preserved
 loop-preserved c =
     let w = copy_var_count c.args.ranges.now in
     let i = c.loop.counter in
-    let taken = c.in_ok-reserve_copy.ensures.taken in
+    let taken = c.in_ok-reserve_copy_vars.ensures.taken in
     let more : (i + 1) * w ≡ i * w + w = one-more i w in
     record {
       vars = omega (arith, more, ap (λ (f : Formula). f.vars) taken, c.loop.invariant.vars);

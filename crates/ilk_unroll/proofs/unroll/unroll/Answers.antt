@@ -18,7 +18,7 @@ use Rattle.ilk_unroll.proofs.unroll.unroll.Goals.{In_ok-tables}
 
 pub add_copies-requires-clause-width : goal.add_copies-requires-clause-width
 add_copies-requires-clause-width c =
-    let taken = ap (λ (f : Formula). f.vars) c.in_ok-reserve_copy.ensures.taken in
+    let taken = ap (λ (f : Formula). f.vars) c.in_ok-reserve_copy_vars.ensures.taken in
     omega (arith, taken, c.vars-before.ensures.count, c.vars-all.ensures.count)
 
 pub add_copies-requires-clause-there : goal.add_copies-requires-clause-there
@@ -26,7 +26,7 @@ add_copies-requires-clause-there c =
     let w = copy_var_count c.args.system.now.ranges in
     let empty = ap (λ (f : Formula). f.vars) c.requires.empty in
     let later = ap (λ (f : Formula). f.vars) c.in_ok-take_copies.ensures in
-    let first = ap (λ (f : Formula). f.vars) c.in_ok-reserve_copy.ensures.taken in
+    let first = ap (λ (f : Formula). f.vars) c.in_ok-reserve_copy_vars.ensures.taken in
     let more : (c.args.steps + 1) * w ≡ c.args.steps * w + w = one-more c.args.steps w in
     omega (arith, more, first, later, empty)
 
@@ -38,8 +38,8 @@ seen c = c.in_ok-tables.ensures.tables ∙ ap (λ (k : ℕ). (copies_part c.args
 
 made : (c : In_ok-tables) → c.add_copies.new.cnf ≡ with_part no_formula (copies_part c.args.system.now.ranges (suc c.args.steps) 0).part
 made c = copies_made c.args.system.now.ranges c.args.steps (c.args.steps + 1) c.args.cnf.now
-    c.take_copies.new.cnf c.reserve_copy.new.cnf c.add_copies.new.cnf c.requires.empty
-    c.in_ok-take_copies.ensures c.in_ok-reserve_copy.ensures.taken (many c) c.in_ok-tables.ensures.made
+    c.take_copies.new.cnf c.reserve_copy_vars.new.cnf c.add_copies.new.cnf c.requires.empty
+    c.in_ok-take_copies.ensures c.in_ok-reserve_copy_vars.ensures.taken (many c) c.in_ok-tables.ensures.made
 
 fit : (c : In_ok-tables) → ranges_fit c.args.system.now.ranges ≡ true
 fit c = ranges_fit-bytes c.args.system.now.ranges c.as_slice.result.now c.as_slice.ensures c.bytes_of-ranges.ensures.bytes

@@ -5,7 +5,7 @@ use Rattle.ilk_cnf.specs.Formula.{is_lit_over}
 use Rattle.ilk_trail.specs.declared.entry.Entry.{Entry}
 use Rattle.ilk_trail.specs.Trail.{TrailList, level_of, value_of_literal}
 use Rattle.ilk_trail.specs.Laws.{lits_of}
-use Rattle.ilk_arena.specs.Arena.{ArenaLists, number_of_clause, other_watch_of}
+use Rattle.ilk_arena.specs.Arena.{ArenaContent, number_of_clause, other_watch_of}
 use Rattle.ilk_watches.specs.Reasons.{clause_forces_lit}
 use Rattle.ilk_watches.proofs.Values.{value-none, value-tells}
 use Rattle.ilk_watches.specs.Propagated.{ExtendsByPropagation}
@@ -19,7 +19,7 @@ value-requires c =
     let es = c.args.trail.now.entries in
     let m = c.other_watch-other.result in
     let k = c.arena.ensures.clauses in
-    let o = other-facts a c.args.c c.args.f m k c.requires.stands (ap (λ (x : ArenaLists). other_watch_of x c.args.c c.args.f) (sym c.arena.ensures.arena) ∙ c.other_watch-other.ensures) in
+    let o = other-facts a c.args.c c.args.f m k c.requires.stands (ap (λ (x : ArenaContent). other_watch_of x c.args.c c.args.f) (sym c.arena.ensures.arena) ∙ c.other_watch-other.ensures) in
     ap (λ (n : ℕ). is_lit_over n m) c.requires.vars ∙ other-within a c.args.c c.args.f m k o
 
 pub assign-requires-clause-within : goal.assign-requires-clause-within
@@ -28,7 +28,7 @@ assign-requires-clause-within c =
     let es = c.args.trail.now.entries in
     let m = c.other_watch-other.result in
     let k = c.arena.ensures.clauses in
-    let o = other-facts a c.args.c c.args.f m k c.requires.stands (ap (λ (x : ArenaLists). other_watch_of x c.args.c c.args.f) (sym c.arena.ensures.arena) ∙ c.other_watch-other.ensures) in
+    let o = other-facts a c.args.c c.args.f m k c.requires.stands (ap (λ (x : ArenaContent). other_watch_of x c.args.c c.args.f) (sym c.arena.ensures.arena) ∙ c.other_watch-other.ensures) in
     ap (λ (n : ℕ). is_lit_over n m) c.requires.vars ∙ other-within a c.args.c c.args.f m k o
 
 pub assign-requires-clause-unset : goal.assign-requires-clause-unset
@@ -40,7 +40,7 @@ returns-in-Some-true-clause-visited c =
     let es = c.args.trail.now.entries in
     let m = c.other_watch-other.result in
     let k = c.arena.ensures.clauses in
-    let o = other-facts a c.args.c c.args.f m k c.requires.stands (ap (λ (x : ArenaLists). other_watch_of x c.args.c c.args.f) (sym c.arena.ensures.arena) ∙ c.other_watch-other.ensures) in
+    let o = other-facts a c.args.c c.args.f m k c.requires.stands (ap (λ (x : ArenaContent). other_watch_of x c.args.c c.args.f) (sym c.arena.ensures.arena) ∙ c.other_watch-other.ensures) in
     let v : value_of_literal es m ≡ Some true = cc (c.in-Some-true.ensures, c.in-Some-true.field-0-test) in
     other-true a a es es c.args.c c.args.f m o refl ((value-tells es m c.level.ensures.is_trail.once).stands ∙ ap (λ (x : Option Bool). is_some_and x (λ b. b)) v)
 
@@ -56,7 +56,7 @@ returns-else-replace_watch-clause-visited c =
     let es = c.args.trail.now.entries in
     let m = c.other_watch-other.result in
     let k = c.arena.ensures.clauses in
-    let o = other-facts a c.args.c c.args.f m k c.requires.stands (ap (λ (x : ArenaLists). other_watch_of x c.args.c c.args.f) (sym c.arena.ensures.arena) ∙ c.other_watch-other.ensures) in
+    let o = other-facts a c.args.c c.args.f m k c.requires.stands (ap (λ (x : ArenaContent). other_watch_of x c.args.c c.args.f) (sym c.arena.ensures.arena) ∙ c.other_watch-other.ensures) in
     let v : value_of_literal es m ≡ Some false = cc (c.in-Some-false.ensures, c.in-Some-false.field-0-test) in
     let r = c.if-replace_watch.ensures.replaced in
     (r.0, conflict-of a c.args.c (lits_of es) m k o.known r.1 ((value-tells es m c.level.ensures.is_trail.once).denied ∙ ap (λ (x : Option Bool). is_some_and x not) v))
@@ -73,7 +73,7 @@ returns-else-replace_watch-2-clause-visited c =
     let es = c.args.trail.now.entries in
     let m = c.other_watch-other.result in
     let k = c.arena.ensures.clauses in
-    let o = other-facts a c.args.c c.args.f m k c.requires.stands (ap (λ (x : ArenaLists). other_watch_of x c.args.c c.args.f) (sym c.arena.ensures.arena) ∙ c.other_watch-other.ensures) in
+    let o = other-facts a c.args.c c.args.f m k c.requires.stands (ap (λ (x : ArenaContent). other_watch_of x c.args.c c.args.f) (sym c.arena.ensures.arena) ∙ c.other_watch-other.ensures) in
     let r = c.if-replace_watch-2.ensures.replaced in
     let e : Entry = record { lit = m; level = level_of es; reason = Some (c.number.result - 1) } in
     other-true a c.replace_watch-in-None.new.clauses es c.assign.new.self.entries c.args.c c.args.f m o r.0 (ap (λ (t : TrailList). has_lit m (lits_of t.entries)) c.assign.ensures ∙ pushed-true es e)
@@ -84,11 +84,11 @@ returns-else-replace_watch-2-clause-propagated c =
     let es = c.args.trail.now.entries in
     let m = c.other_watch-other.result in
     let k = c.arena.ensures.clauses in
-    let o = other-facts a c.args.c c.args.f m k c.requires.stands (ap (λ (x : ArenaLists). other_watch_of x c.args.c c.args.f) (sym c.arena.ensures.arena) ∙ c.other_watch-other.ensures) in
+    let o = other-facts a c.args.c c.args.f m k c.requires.stands (ap (λ (x : ArenaContent). other_watch_of x c.args.c c.args.f) (sym c.arena.ensures.arena) ∙ c.other_watch-other.ensures) in
     let r = c.if-replace_watch-2.ensures.replaced in
     let b = c.replace_watch-in-None.new.clauses in
     let n : c.number.result ≡ number_of_clause a c.args.c = c.number.ensures
-    ∙ ap (λ (x : ArenaLists). number_of_clause x c.args.c) c.arena-else-replace_watch-2.ensures.arena
+    ∙ ap (λ (x : ArenaContent). number_of_clause x c.args.c) c.arena-else-replace_watch-2.ensures.arena
     ∙ number-same a b c.args.c c.replace_watch-in-None.ensures.clauses.references in
     let forced : clause_forces_lit a.clauses (lits_of es) m (c.number.result - 1) ≡ true = ap (λ (i : ℕ). clause_forces_lit a.clauses (lits_of es) m (i - 1)) n ∙ reason-of a c.args.c (lits_of es) m k o.known o.has r.1 in
     let P : TrailList → Type 0 = λ t. ExtendsByPropagation a.clauses es t.entries in

@@ -4,7 +4,7 @@ use Rattle.std.proofs.lemmas.List.{length-map}
 use Rattle.ilk_base.proofs.Lists.{all-written}
 use Rattle.ilk_cnf.specs.Formula.{is_clause_over}
 use Rattle.ilk_cnf.proofs.Literals.{is_clause_over-more}
-use Rattle.ilk_arena.specs.Arena.{ArenaLists, with_clause_added}
+use Rattle.ilk_arena.specs.Arena.{ArenaContent, with_clause_added}
 use Rattle.ilk_arena.specs.declared.place.TheConstants.{WORD_VALUE_LIMIT}
 use Rattle.ilk_arena.proofs.Law.{arena-law}
 use Rattle.ilk_arena.proofs.Readings.{vars-are, spare-are, count-fits}
@@ -116,7 +116,7 @@ invariant_of-self c = (grown (goal.at.invariant_of-self c).After-set_both_heads)
 pub returns-clause-added : goal.returns-clause-added
 returns-clause-added c =
     let g = grown (goal.at.returns-clause-added c).After-set_both_heads in
-    let spare = ap (λ (x : ArenaLists). x.spare) g.lists in
+    let spare = ap (λ (x : ArenaContent). x.spare) g.lists in
     g.lists ∙ ap (with_clause_added c.args.self.now c.args.clause.now c.len-reference.result) (sym spare)
 
 pub returns-clause-fresh : goal.returns-clause-fresh
@@ -129,7 +129,7 @@ pub returns-clause-room : goal.returns-clause-room
 returns-clause-room c =
     let s = c.self.inside in
     let g = grown (goal.at.returns-clause-room c).After-set_both_heads in
-    let new = ap (λ (x : ArenaLists). x.spare) g.lists in
+    let new = ap (λ (x : ArenaContent). x.spare) g.lists in
     let old = spare-are s.vars _ s.words.items s.heads.items c.args.self.now c.self.view_is in
     let size = simp (length-append, length-map) at (ap length c.push_clause_words.ensures.items) in
     omega (arith, new, old, size, c.push_clause_words.ensures.capacity, c.push_clause_words.new.words.ok.0, s.words.ok.0)

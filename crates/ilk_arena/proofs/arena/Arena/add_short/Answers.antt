@@ -4,7 +4,7 @@ use Rattle.ilk_cnf.specs.Formula.{is_clause_over}
 use Rattle.ilk_cnf.proofs.Literals.{is_clause_over-more}
 use Rattle.ilk_arena.specs.Arena.{place, with_clause_added}
 use Rattle.ilk_arena.specs.declared.place.TheConstants.{WORD_VALUE_LIMIT}
-use Rattle.ilk_arena.specs.Linked.{lists_of, references_in, HoldsArena}
+use Rattle.ilk_arena.specs.Linked.{lists_of, references_in_block, IsArenaInvariant}
 use Rattle.ilk_arena.proofs.Law.{arena-law}
 use Rattle.ilk_arena.proofs.Appending.{block}
 use Rattle.ilk_arena.proofs.Readings.{vars-are, spare-is, spare-are, count-fits}
@@ -58,8 +58,8 @@ returns-clause-added c = let s = c.self.inside in let within = ap (λ (n : ℕ).
     )) in
     let n : c.len-reference.result ≡ length s.words.items = omega (arith, c.len-reference.ensures, s.words.ok.0) in
     let us = c.push_clause_words.new.words.items in
-    let Q : List ℕ → Type 0 = λ ws. lists_of s.vars V ws s.heads.items (references_in ws) ≡ with_clause_added c.args.self.now ls (length s.words.items) V in
-    subst Q (sym ew) g.lists ∙ ap (λ (r : ℕ). with_clause_added c.args.self.now ls r V) (sym n) ∙ ap (λ (v : ℕ). with_clause_added c.args.self.now ls c.len-reference.result v) (sym (spare-is s.vars V us s.heads.items (references_in us)))
+    let Q : List ℕ → Type 0 = λ ws. lists_of s.vars V ws s.heads.items (references_in_block ws) ≡ with_clause_added c.args.self.now ls (length s.words.items) V in
+    subst Q (sym ew) g.lists ∙ ap (λ (r : ℕ). with_clause_added c.args.self.now ls r V) (sym n) ∙ ap (λ (v : ℕ). with_clause_added c.args.self.now ls c.len-reference.result v) (sym (spare-is s.vars V us s.heads.items (references_in_block us)))
 
 pub returns-clause-fresh : goal.returns-clause-fresh
 returns-clause-fresh c = let s = c.self.inside in
@@ -82,7 +82,7 @@ returns-clause-room c = let s = c.self.inside in let within = ap (λ (n : ℕ). 
     )) in
     let n : c.len-reference.result ≡ length s.words.items = omega (arith, c.len-reference.ensures, s.words.ok.0) in
     let us = c.push_clause_words.new.words.items in
-    let new = spare-is s.vars V us s.heads.items (references_in us) in
+    let new = spare-is s.vars V us s.heads.items (references_in_block us) in
     let old = spare-are s.vars _ s.words.items s.heads.items c.args.self.now c.self.view_is in
     let size = ap (λ (ws : List ℕ). length ws) ew ∙ length-append s.words.items (block (length (map place ls)) 0 0 1 0 (s.count + 1) (map place ls)) in
     omega (arith, new, old, size, length-map ls place, c.push_clause_words.ensures.capacity, c.push_clause_words.new.words.ok.0, s.words.ok.0)
@@ -103,5 +103,5 @@ returns-clause-arena c = let s = c.self.inside in let within = ap (λ (n : ℕ).
     )) in
     let n : c.len-reference.result ≡ length s.words.items = omega (arith, c.len-reference.ensures, s.words.ok.0) in
     let us = c.push_clause_words.new.words.items in
-    let Q : List ℕ → Type 0 = λ ws. HoldsArena ws s.heads.items s.vars (s.count + 1) in
-    arena-law s.vars V us s.heads.items (references_in us) (subst Q (sym ew) g.holds).linked
+    let Q : List ℕ → Type 0 = λ ws. IsArenaInvariant ws s.heads.items s.vars (s.count + 1) in
+    arena-law s.vars V us s.heads.items (references_in_block us) (subst Q (sym ew) g.holds).linked

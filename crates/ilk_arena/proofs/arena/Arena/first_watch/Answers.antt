@@ -1,9 +1,9 @@
 use Rattle.std.proofs.Common.{arith, ap, subst, ◌∙◌}
 use Rattle.std.proofs.lemmas.List.{get_or_read}
-use Rattle.ilk_arena.specs.Arena.{ArenaLists, place}
+use Rattle.ilk_arena.specs.Arena.{ArenaContent, place}
 use Rattle.ilk_arena.specs.Chains.{EachLongClauseWatchesTwo}
 use Rattle.ilk_arena.specs.Words.{reference_unless_zero}
-use Rattle.ilk_arena.specs.Linked.{references_in}
+use Rattle.ilk_arena.specs.Linked.{references_in_block}
 use Rattle.ilk_arena.proofs.Law.{arena-law}
 use Rattle.ilk_arena.proofs.Readings.{within, first-seen}
 use Rattle.ilk_arena.proofs.arena.Arena.first_watch.Goals as goal
@@ -23,5 +23,5 @@ returns-clause-first c = let s = c.self.inside in let w = within s.vars _ s.coun
 pub returns-clause-arena : goal.returns-clause-arena
 returns-clause-arena c =
     let s = c.self.inside in
-    let P : ArenaLists → Type 0 = λ a. EachLongClauseWatchesTwo a in
-    subst P c.self.view_is (arena-law s.vars _ s.words.items s.heads.items (references_in s.words.items) c.self.invariant.linked)
+    let P : ArenaContent → Type 0 = λ a. EachLongClauseWatchesTwo a in
+    subst P c.self.view_is (arena-law s.vars _ s.words.items s.heads.items (references_in_block s.words.items) c.self.invariant.linked)

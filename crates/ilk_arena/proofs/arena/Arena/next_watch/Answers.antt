@@ -1,6 +1,6 @@
 use Rattle.std.proofs.Common.{arith, ap, ◌∙◌}
 use Rattle.ilk_arena.specs.Words.{reference_unless_zero}
-use Rattle.ilk_arena.proofs.Readings.{within, watching, reference_after-seen}
+use Rattle.ilk_arena.proofs.Readings.{within, watching, reference_after_in_list-seen}
 use Rattle.ilk_arena.proofs.arena.Arena.next_watch.Goals as goal
 
 pub place-requires : goal.place-requires
@@ -21,4 +21,4 @@ returns c = let s = c.self.inside in
     let i = watching s.vars _ s.words.items s.heads.items c.args.self.now c.args.l c.args.c
     c.self.invariant.linked c.self.view_is c.requires.stands in
     let n = rw (c.deref.ensures.value, c.place.ensures) at c.next_of.ensures in
-    c.reference.ensures ∙ ap reference_unless_zero n ∙ reference_after-seen s.vars s.count s.words.items s.heads.items c.args.self.now c.args.l c.args.c c.self.invariant w i
+    c.reference.ensures ∙ ap reference_unless_zero n ∙ reference_after_in_list-seen s.vars s.count s.words.items s.heads.items c.args.self.now c.args.l c.args.c c.self.invariant w i

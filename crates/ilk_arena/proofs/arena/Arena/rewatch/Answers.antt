@@ -3,7 +3,7 @@ use Rattle.std.specs.List.{slice_get}
 use Rattle.std.proofs.lemmas.List.{get_or_read}
 use Rattle.ilk_base.proofs.Lists.{all-written}
 use Rattle.ilk_arena.specs.Arena.{place, chain_of, literals_of, contains_reference}
-use Rattle.ilk_arena.specs.Linked.{lit_from_place}
+use Rattle.ilk_arena.specs.Linked.{lit_with_place_number}
 use Rattle.ilk_arena.proofs.Law.{arena-law}
 use Rattle.ilk_arena.proofs.Readings.{within}
 use Rattle.ilk_arena.proofs.arena.Arena.rewatch.Goals as goal
@@ -78,8 +78,8 @@ invariant_of-self c = let s = c.self.inside in
     let pe = get_or_read s.words.items (c.args.c + 7 + c.args.to) c.index-watch.result.now r.literal_in
     c.index-watch.ensures 0 in
     let t = c.index-watch.result.now in
-    let is : slice_get (literals_of c.args.self.now c.args.c) c.args.to ≡ Some (lit_from_place t) = r.is ∙ ap (λ (p : ℕ). Some (lit_from_place p)) (sym pe) in
-    let un : contains_reference c.args.c (chain_of c.args.self.now (lit_from_place t)) ≡ false = rw is at c.requires.unwatched in
+    let is : slice_get (literals_of c.args.self.now c.args.c) c.args.to ≡ Some (lit_with_place_number t) = r.is ∙ ap (λ (p : ℕ). Some (lit_with_place_number p)) (sym pe) in
+    let un : contains_reference c.args.c (chain_of c.args.self.now (lit_with_place_number t)) ≡ false = rw is at c.requires.unwatched in
     let m = rewatch-law s.vars _ s.count s.words.items s.heads.items c.args.self.now c.args.before c.args.c c.args.to t c.args.from c.self.invariant c.self.view_is r c.requires.within pe un in
     let v = rw (c.deref_mut.ensures.value, c.deref_mut-2.ensures.value, c.place.ensures) at c.move_watch.ensures.words in
     let h = rw (c.deref_mut.ensures.value, c.deref_mut-2.ensures.value, c.place.ensures) at c.move_watch.ensures.heads in
@@ -101,8 +101,8 @@ returns-clause-moved c = let s = c.self.inside in
     let pe = get_or_read s.words.items (c.args.c + 7 + c.args.to) c.index-watch.result.now r.literal_in
     c.index-watch.ensures 0 in
     let t = c.index-watch.result.now in
-    let is : slice_get (literals_of c.args.self.now c.args.c) c.args.to ≡ Some (lit_from_place t) = r.is ∙ ap (λ (p : ℕ). Some (lit_from_place p)) (sym pe) in
-    let un : contains_reference c.args.c (chain_of c.args.self.now (lit_from_place t)) ≡ false = rw is at c.requires.unwatched in
+    let is : slice_get (literals_of c.args.self.now c.args.c) c.args.to ≡ Some (lit_with_place_number t) = r.is ∙ ap (λ (p : ℕ). Some (lit_with_place_number p)) (sym pe) in
+    let un : contains_reference c.args.c (chain_of c.args.self.now (lit_with_place_number t)) ≡ false = rw is at c.requires.unwatched in
     let m = rewatch-law s.vars _ s.count s.words.items s.heads.items c.args.self.now c.args.before c.args.c c.args.to t c.args.from c.self.invariant c.self.view_is r c.requires.within pe un in
     let v = rw (c.deref_mut.ensures.value, c.deref_mut-2.ensures.value, c.place.ensures) at c.move_watch.ensures.words in
     let h = rw (c.deref_mut.ensures.value, c.deref_mut-2.ensures.value, c.place.ensures) at c.move_watch.ensures.heads in
@@ -124,8 +124,8 @@ returns-clause-arena c = let s = c.self.inside in
     let pe = get_or_read s.words.items (c.args.c + 7 + c.args.to) c.index-watch.result.now r.literal_in
     c.index-watch.ensures 0 in
     let t = c.index-watch.result.now in
-    let is : slice_get (literals_of c.args.self.now c.args.c) c.args.to ≡ Some (lit_from_place t) = r.is ∙ ap (λ (p : ℕ). Some (lit_from_place p)) (sym pe) in
-    let un : contains_reference c.args.c (chain_of c.args.self.now (lit_from_place t)) ≡ false = rw is at c.requires.unwatched in
+    let is : slice_get (literals_of c.args.self.now c.args.c) c.args.to ≡ Some (lit_with_place_number t) = r.is ∙ ap (λ (p : ℕ). Some (lit_with_place_number p)) (sym pe) in
+    let un : contains_reference c.args.c (chain_of c.args.self.now (lit_with_place_number t)) ≡ false = rw is at c.requires.unwatched in
     let m = rewatch-law s.vars _ s.count s.words.items s.heads.items c.args.self.now c.args.before c.args.c c.args.to t c.args.from c.self.invariant c.self.view_is r c.requires.within pe un in
     let v = rw (c.deref_mut.ensures.value, c.deref_mut-2.ensures.value, c.place.ensures) at c.move_watch.ensures.words in
     let h = rw (c.deref_mut.ensures.value, c.deref_mut-2.ensures.value, c.place.ensures) at c.move_watch.ensures.heads in

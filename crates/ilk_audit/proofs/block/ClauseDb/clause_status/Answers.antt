@@ -3,7 +3,7 @@ use Rattle.std.specs.Prelude.{◌⊎◌, slice_get}
 use Rattle.std.specs.Option.{option_map_or}
 use Rattle.ilk_cnf.specs.Formula.{is_clause_over, Formula}
 use Rattle.ilk_audit.specs.Codes.{codes_in}
-use Rattle.ilk_audit.specs.Hinted.{status_of_hinted_clause, clause_status, IsUnitLitSettable}
+use Rattle.ilk_audit.specs.Hinted.{status_of_hinted_clause, clause_status, AnyUnitLitIsSettable}
 use Rattle.ilk_audit.specs.Stored.{split_into_clauses, literals_of}
 use Rattle.ilk_audit.specs.declared.hinted.ClauseStatus.{ClauseStatus}
 use Rattle.ilk_audit.specs.declared.hinted.ClauseStatus.TheVariants.{Missing}
@@ -59,8 +59,8 @@ returns-in-Some-clause-unit c =
     let found : c.found_between.result ≡ status_of_hinted_clause (split_into_clauses b.bounds.items (codes_in b.codes)) c.args.partial.now.set c.args.number =
     c.found_between.ensures ∙ sym (ap (λ o. option_map_or (clause_status c.args.partial.now.set) o Missing) is) in
     let vars = c.requires ∙ ap (λ (f : Formula). f.vars) (sym c.self.view_is) in
-    let P : ClauseStatus → Type 0 = λ h. IsUnitLitSettable c.args.partial.now.vars c.args.partial.now.set h in
-    let Q : ℕ → Type 0 = λ n. IsUnitLitSettable n c.args.partial.now.set (status_of_hinted_clause (split_into_clauses b.bounds.items (codes_in b.codes)) c.args.partial.now.set c.args.number) in
+    let P : ClauseStatus → Type 0 = λ h. AnyUnitLitIsSettable c.args.partial.now.vars c.args.partial.now.set h in
+    let Q : ℕ → Type 0 = λ n. AnyUnitLitIsSettable n c.args.partial.now.set (status_of_hinted_clause (split_into_clauses b.bounds.items (codes_in b.codes)) c.args.partial.now.set c.args.number) in
     subst P (sym found) (subst Q (sym vars) (settable-at b.vars (split_into_clauses b.bounds.items (codes_in b.codes)) c.args.partial.now.set c.args.number c.self.invariant.formula.within))
 
 pub returns-in-None-clause-found : goal.returns-in-None-clause-found

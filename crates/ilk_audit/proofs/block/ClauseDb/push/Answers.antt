@@ -1,10 +1,10 @@
 use Rattle.std.proofs.Common.{◌≡◌, ◌++◌, ◌∷◌, [], true, length, map, ap, sym, ◌∙◌, subst, refl, List, ℕ}
 use Rattle.std.specs.Result.{is_ok}
 use Rattle.ilk_cnf.specs.Code.{code_of}
-use Rattle.ilk_cnf.specs.Formula.{is_clause_over, Formula, with_vars_and_clauses}
+use Rattle.ilk_cnf.specs.Formula.{is_clause_over, Formula, with_var_count_and_clauses}
 use Rattle.ilk_cnf.specs.Literal.{Literal}
 use Rattle.ilk_audit.specs.Codes.{codes_in}
-use Rattle.ilk_audit.specs.Stored.{split_into_clauses, BoundsSplitCodesIntoClauses}
+use Rattle.ilk_audit.specs.Stored.{split_into_clauses, CodesSplitIntoValidClauses}
 use Rattle.ilk_audit.proofs.Blocks.{block-push}
 use Rattle.ilk_audit.proofs.block.ClauseDb.push.Goals as goal
 
@@ -22,7 +22,7 @@ invariant_of-self-2 c =
     codes c.push_lit_codes_within_capacity.ensures.fit
     (ap (λ (f : Formula). is_clause_over f.vars c.args.clause.now) c.self.view_is ∙ c.requires.within)
     c.requires.differ in
-    let P : List ℕ → Type 0 = λ xs. BoundsSplitCodesIntoClauses b.vars c.push_lit_codes_within_capacity.new.self xs in
+    let P : List ℕ → Type 0 = λ xs. CodesSplitIntoValidClauses b.vars c.push_lit_codes_within_capacity.new.self xs in
     subst P (sym items) pushed.0
 
 pub returns-clause-ok : goal.returns-clause-ok
@@ -41,4 +41,4 @@ returns-clause-ok c =
     c.requires.differ in
     ap (λ (xs : List ℕ). let f : Formula = record { vars = b.vars; clauses = split_into_clauses xs (codes_in c.push_lit_codes_within_capacity.new.self) } in f) items
     ∙ ap (λ (cs : List (List Literal)). let f : Formula = record { vars = b.vars; clauses = cs } in f) pushed.1
-    ∙ ap (λ (f : Formula). with_vars_and_clauses f f.vars (c.args.clause.now ∷ [])) c.self.view_is
+    ∙ ap (λ (f : Formula). with_var_count_and_clauses f f.vars (c.args.clause.now ∷ [])) c.self.view_is

@@ -3,7 +3,7 @@ use Rattle.std.specs.Prelude.{codes}
 use Rattle.ilk_lines.specs.Lines.{Bytes}
 use Rattle.ilk_lines.specs.Written.{text_of}
 use Rattle.ilk_log.specs.StepText.{step_text}
-use Rattle.ilk_log.specs.TextLeft.{remaining_line_text, text_from_lits_on}
+use Rattle.ilk_log.specs.TextLeft.{remaining_line_text, lits_hints_and_line_end}
 use Rattle.ilk_log.specs.declared.steps_left.Place.{Place}
 use Rattle.ilk_log.proofs.LogTexts.{line_next}
 use Rattle.ilk_log.proofs.steps_left.StepsLeft.next_piece.Goals as goal
@@ -16,4 +16,4 @@ returns-then-self-len-clause-bytes c =
     sym c.self.view_is
     ∙ ap (λ (p : Place). remaining_line_text p s.step ++ text_of (map step_text (drop s.next s.steps))) c.in-Between.is
     ∙ line_next s.steps s.next step c.begin_step.new.step (c.at_mut.ensures.value ∙ ap Some (sym c.begin_step.ensures))
-    ∙ ap (λ (t : Bytes). t ++ (text_from_lits_on step ++ text_of (map step_text (drop (s.next + 1) (set s.steps s.next c.begin_step.new.step))))) (sym token)
+    ∙ ap (λ (t : Bytes). t ++ (lits_hints_and_line_end step ++ text_of (map step_text (drop (s.next + 1) (set s.steps s.next c.begin_step.new.step))))) (sym token)

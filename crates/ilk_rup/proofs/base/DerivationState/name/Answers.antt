@@ -14,7 +14,7 @@ use Rattle.ilk_trail.specs.Trail.{TrailList}
 use Rattle.ilk_trail.proofs.Entries.{entry-within}
 use Rattle.ilk_rup.specs.Alike.{AreEquivalent}
 use Rattle.ilk_rup.specs.LitSet.{LitSetList}
-use Rattle.ilk_rup.specs.Needs.{HintsDeriveClauseOfLiterals, IsFalseBySetAndEntries, IsValidClauseOfLiterals, AreUnitHintsByVar}
+use Rattle.ilk_rup.specs.Needs.{HintsDeriveClauseOfLiterals, IsFalseBySetAndEntries, IsClauseOfExactlyLiterals, AreUnitHintsByVar}
 use Rattle.ilk_rup.specs.Standing.{IsBaseInvariant}
 use Rattle.ilk_rup.specs.declared.base.DerivationState.{DerivationState}
 use Rattle.ilk_rup.specs.declared.explain.Explainer.{Explainer}
@@ -78,7 +78,7 @@ returns-clause-loose c =
     let H : List Literal → Type 0 = λ ls. HintsDeriveClauseOfLiterals k.clauses.clauses ls hints in
     let lits : c.put.new.self.lits ≡ l ∷ [] = ap (λ (s : LitSetList). s.lits) c.put.ensures ∙ ap (λ (s : LitSetList). s.lits ++ c.at-l.result ∷ []) c.clear.ensures ∙ ap (λ (z : Literal). z ∷ []) (sym x.2) in
     let within : is_lit_over f.vars l ≡ true = ap (λ (n : ℕ). is_lit_over n l) (sym h.trail_vars) ∙ entry-within t y.named x.0 trail x.1 in
-    let of : IsValidClauseOfLiterals f.vars (l ∷ []) (l ∷ []) = record { within = and_from (is_lit_over f.vars l) true within refl; differ = refl; fewer = λ n z. z; more = λ n z. z } in
+    let of : IsClauseOfExactlyLiterals f.vars (l ∷ []) (l ∷ []) = record { within = and_from (is_lit_over f.vars l) true within refl; differ = refl; fewer = λ n z. z; more = λ n z. z } in
     let derived = step-derived f.vars k.clauses.clauses (l ∷ []) (l ∷ []) hints (subst H lits c.in_ok-hints.ensures.hints) of in
     let low = is_lit_over-parts f.vars l within in
     let added = subst A alone c.in_ok-add.ensures.clauses in

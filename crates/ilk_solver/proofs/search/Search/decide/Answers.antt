@@ -5,9 +5,9 @@ use Rattle.ilk_log.specs.Propagation.{is_saturated}
 use Rattle.ilk_trail.specs.Trail.{with_decision}
 use Rattle.ilk_trail.specs.Laws.{is_set, lits_of}
 use Rattle.ilk_watches.specs.Chained.{formula_of}
-use Rattle.ilk_solver.specs.View.{ViewLists}
+use Rattle.ilk_solver.specs.View.{TrailAndWeights}
 use Rattle.ilk_solver.specs.Search.{SearchLists, all_clauses, with_trail}
-use Rattle.ilk_solver.specs.Held.{HoldsSearch, search_from_clauses}
+use Rattle.ilk_solver.specs.Held.{HoldsSearch, search_with_log_and_view}
 use Rattle.ilk_solver.proofs.Searches.{formula-same, held-with_decision}
 use Rattle.ilk_solver.proofs.search.Search.decide.Goals as goal
 
@@ -35,7 +35,7 @@ invariant_of-self c =
     let s = c.self.inside in
     let new = c.decide.new.self in
     let b = c.decide.new.clauses in
-    let P : ViewLists → Type 0 = λ v. HoldsSearch (formula_of s.clauses) s.given s.log v in
+    let P : TrailAndWeights → Type 0 = λ v. HoldsSearch (formula_of s.clauses) s.given s.log v in
     let F : Formula → Type 0 = λ f. HoldsSearch f s.given s.log new in
     let set = lits_of s.view.trail.entries in
     let known = ap (λ (x : SearchLists). is_saturated (all_clauses x) (lits_of x.view.trail.entries)) c.self.view_is ∙ c.requires.closed in
@@ -53,6 +53,6 @@ returns c =
     let s = c.self.inside in
     let new = c.decide.new.self in
     let b = c.decide.new.clauses in
-    ap (λ (f : Formula). search_from_clauses f s.given s.log new) (formula-same s.clauses b c.decide.ensures.same)
-    ∙ ap (λ (v : ViewLists). search_from_clauses (formula_of s.clauses) s.given s.log v) c.decide.ensures.entries
+    ap (λ (f : Formula). search_with_log_and_view f s.given s.log new) (formula-same s.clauses b c.decide.ensures.same)
+    ∙ ap (λ (v : TrailAndWeights). search_with_log_and_view (formula_of s.clauses) s.given s.log v) c.decide.ensures.entries
     ∙ ap (λ (x : SearchLists). with_trail x (with_decision x.view.trail.entries c.args.l)) c.self.view_is

@@ -7,8 +7,8 @@ use Rattle.ilk_trail.specs.Laws.{lits_of}
 use Rattle.ilk_watches.specs.Reasons.{is_conflict}
 use Rattle.ilk_watches.specs.Chained.{formula_of}
 use Rattle.ilk_watches.specs.Propagated.{ExtendsByPropagation}
-use Rattle.ilk_solver.specs.View.{ViewLists}
-use Rattle.ilk_solver.specs.Held.{HoldsSearch, search_from_clauses}
+use Rattle.ilk_solver.specs.View.{TrailAndWeights}
+use Rattle.ilk_solver.specs.Held.{HoldsSearch, search_with_log_and_view}
 use Rattle.ilk_solver.specs.Search.{SearchLists, all_clauses, with_trail}
 use Rattle.ilk_solver.proofs.Searches.{formula-same, held-propagated}
 use Rattle.ilk_solver.proofs.search.Search.propagate.Goals as goal
@@ -19,7 +19,7 @@ invariant_of-self c =
     let new = c.propagate.new.self in
     let b = c.propagate.new.clauses in
     let held = held-propagated (formula_of s.clauses) s.given s.log s.view new.trail.entries c.self.invariant.search c.propagate.ensures.propagated in
-    let P : ViewLists → Type 0 = λ v. HoldsSearch (formula_of s.clauses) s.given s.log v in
+    let P : TrailAndWeights → Type 0 = λ v. HoldsSearch (formula_of s.clauses) s.given s.log v in
     let F : Formula → Type 0 = λ f. HoldsSearch f s.given s.log new in
     record {
       search = subst F (sym (formula-same s.clauses b c.propagate.ensures.same)) (subst P (sym c.propagate.ensures.entries) held);
@@ -47,8 +47,8 @@ returns-clause-same c =
     let s = c.self.inside in
     let new = c.propagate.new.self in
     let b = c.propagate.new.clauses in
-    ap (λ (f : Formula). search_from_clauses f s.given s.log new) (formula-same s.clauses b c.propagate.ensures.same)
-    ∙ ap (λ (v : ViewLists). search_from_clauses (formula_of s.clauses) s.given s.log v) c.propagate.ensures.entries
+    ap (λ (f : Formula). search_with_log_and_view f s.given s.log new) (formula-same s.clauses b c.propagate.ensures.same)
+    ∙ ap (λ (v : TrailAndWeights). search_with_log_and_view (formula_of s.clauses) s.given s.log v) c.propagate.ensures.entries
     ∙ ap (λ (x : SearchLists). with_trail x new.trail.entries) c.self.view_is
 
 pub returns-clause-propagated : goal.returns-clause-propagated

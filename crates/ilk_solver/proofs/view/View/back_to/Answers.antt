@@ -1,7 +1,7 @@
 use Rattle.std.proofs.Common.{◌≡◌, ◌++◌, ℕ, List, length, take, drop, sym, ◌∙◌, subst, arith}
 use Rattle.ilk_base.proofs.Lists.{all-written}
 use Rattle.ilk_solver.specs.Order.{TreeHasAllUnsetVars}
-use Rattle.ilk_solver.specs.View.{ViewLists}
+use Rattle.ilk_solver.specs.View.{TrailAndWeights}
 use Rattle.ilk_solver.proofs.Orders.{holds-back}
 use Rattle.ilk_solver.proofs.view.View.back_to.Goals as goal
 
@@ -9,7 +9,7 @@ pub invariant_of-self : goal.invariant_of-self
 invariant_of-self c =
     let s = c.self.inside in
     let now = c.back_to.new.self in
-    let view : ViewLists = record { trail = s.trail; weights = s.weights.items } in
+    let view : TrailAndWeights = record { trail = s.trail; weights = s.weights.items } in
     let put = c.put_back_above.new.tree in
     let first : length put ≡ s.tree.len = omega (arith, c.put_back_above.auto.tree, c.deref_mut.ensures.len) in
     let one : take s.tree.len (put ++ drop (length put) s.tree.items) ≡ put = all-written s.tree.len put s.tree.items first in

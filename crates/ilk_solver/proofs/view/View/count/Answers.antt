@@ -1,7 +1,7 @@
 use Rattle.std.proofs.Common.{◌≡◌, ◌++◌, ℕ, List, length, take, drop, ap, sym, ◌∙◌, subst, arith}
 use Rattle.ilk_base.proofs.Lists.{all-written}
 use Rattle.ilk_solver.specs.Order.{TreeHasAllUnsetVars}
-use Rattle.ilk_solver.specs.View.{ViewLists}
+use Rattle.ilk_solver.specs.View.{TrailAndWeights}
 use Rattle.ilk_solver.proofs.Orders.{holds-counted}
 use Rattle.ilk_solver.proofs.view.View.count.Goals as goal
 
@@ -20,7 +20,7 @@ invariant_of-self c =
     let won = rw (c.deref.ensures.value ∙ all) at c.drop_set_from_top.ensures.tree in
     let keeps = rw (c.deref.ensures.value ∙ all, c.deref_mut-3.ensures.value ∙ one) at c.drop_set_from_top.ensures.kept in
     let many : length weights ≡ length s.weights.items = c.count_in.auto.weights ∙ ap (λ (ls : List ℕ). length ls) c.deref_mut.ensures.value in
-    let view : ViewLists = record { trail = s.trail; weights = s.weights.items } in
+    let view : TrailAndWeights = record { trail = s.trail; weights = s.weights.items } in
     let P : List ℕ → Type 0 = λ ws. TreeHasAllUnsetVars (record { trail = s.trail; weights = ws }) t in
     let Q : List ℕ → Type 0 = TreeHasAllUnsetVars (record { trail = s.trail; weights = take s.weights.len (weights ++ drop (length weights) s.weights.items) }) in
     subst Q (sym (all-written s.tree.len t (take s.tree.len (risen ++ drop (length risen) s.tree.items)) n))

@@ -4,7 +4,7 @@ use Rattle.ilk_solver.specs.Assigned.{AllSet}
 use Rattle.ilk_solver.specs.Heaviest.{IsHeaviest}
 use Rattle.ilk_solver.specs.Tree.{variable_at_top}
 use Rattle.ilk_solver.specs.Word.{variable_of}
-use Rattle.ilk_solver.specs.View.{ViewLists}
+use Rattle.ilk_solver.specs.View.{TrailAndWeights}
 use Rattle.ilk_solver.proofs.Orders.{top-heaviest, top-none}
 use Rattle.ilk_solver.proofs.view.View.heaviest.Goals as goal
 
@@ -20,7 +20,7 @@ returns-clause-some c =
     let tree = c.self.inside.tree.items in
     let inside : 1 < length tree = (let s = c.self.invariant.won.size in omega (arith, s)) in
     let top : c.variable-top.result ≡ variable_at_top tree = c.variable-top.ensures ∙ ap variable_of (get_or_read tree 1 c.index.result.now inside c.index.ensures 0) in
-    let P : ViewLists → Type 0 = λ v. IsHeaviest v c.variable-top.result in
-    let view : ViewLists = record { trail = c.self.inside.trail; weights = c.self.inside.weights.items } in
+    let P : TrailAndWeights → Type 0 = λ v. IsHeaviest v c.variable-top.result in
+    let view : TrailAndWeights = record { trail = c.self.inside.trail; weights = c.self.inside.weights.items } in
     let Q : ℕ → Type 0 = IsHeaviest view in
     subst P c.self.view_is (subst Q (sym top) (top-heaviest view tree c.self.invariant (omega (arith, top, c.if-top-eq0.false))))

@@ -1,6 +1,0 @@
-use Rattle.std.proofs.Common.{drop}
-use Rattle.ilk_cnf.proofs.Distinct.{Reading}
-use Rattle.ilk_cnf.proofs.clause.Clause.from_lits.Given as goal
-
-abbrev pub invariant-loop-i : goal.invariant-loop-i
-invariant-loop-i l = Reading l.lits l.clause (drop l.i l.lits)
