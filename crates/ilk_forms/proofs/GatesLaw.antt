@@ -21,19 +21,15 @@ use Rattle.ilk_cnf.proofs.SameLiterals.{lit-is}
 use Rattle.ilk_cnf.proofs.Gates.{is_true-negated_lit, satisfies-and_gate_clauses, and_gate_clauses-in, opposites-in, all_true-opposites, new-in}
 use Rattle.ilk_cnf.proofs.Extending.{one_more_if, no_more_if, only_from_if, all_true-left}
 use Rattle.ilk_forms.specs.declared.gates.AndGate.{AndGate}
-use Rattle.ilk_forms.specs.Gates.{bool_equals, with_sign, gates_part, gate_value, gate_values, GatesHold, same_lits, least_var, shared_lit, and_lits, new_gate, LitWithGates, lit_or_new_gate, combined_lit}
+use Rattle.ilk_forms.specs.Gates.{bool_equals, with_sign, gates_part, gate_value, gate_values, GatesHold, gates_within, same_lits, least_var, shared_lit, and_lits, new_gate, LitWithGates, lit_or_new_gate, combined_lit}
 
--- Whether the gates are new after the first `n` variables: each has the next variable, and literals
--- of earlier ones.
+-- Returns whether the gates are new after the first `n` variables: each has the next variable, and
+-- literals of earlier ones.
 abbrev pub gates_fit : ℕ → List AndGate → Bool
 gates_fit n [] = true
 gates_fit n (g ∷ gates) = (g.lit.var == n + 1) && (is_clause_over n g.lits && gates_fit (n + 1) gates)
 
--- Whether the gates are over the variables 1 to `n`.
-abbrev pub gates_within : ℕ → List AndGate → Bool
-gates_within n gates = list_all (λ g. is_lit_over n g.lit && is_clause_over n g.lits) gates
-
--- Whether all values are true (`all`), or at least one is (otherwise).
+-- Returns whether all values are true (`all`), or at least one is (otherwise).
 abbrev pub gate_truth : Bool → List Bool → Bool
 gate_truth all qs = cond all (list_all (λ q. q) qs) (list_any (λ q. q) qs)
 
@@ -123,7 +119,7 @@ pub gate_values-length : (gs : List AndGate) (a : List Bool) → length (gate_va
 gate_values-length [] a = refl
 gate_values-length (g ∷ gs) a = ap suc (gate_values-length gs (a ++ gate_value a g ∷ []))
 
-pub gate-law : (a : List Bool) (g : AndGate) (n : ℕ) → length a ≡ n → g.lit.var ≡ n + 1 → is_clause_over n g.lits ≡ true → ExtensionsAreExactly a (n + 1) (and_gate_clauses g.lit g.lits) (EqualsGivenValues (gate_value a g ∷ []))
+gate-law : (a : List Bool) (g : AndGate) (n : ℕ) → length a ≡ n → g.lit.var ≡ n + 1 → is_clause_over n g.lits ≡ true → ExtensionsAreExactly a (n + 1) (and_gate_clauses g.lit g.lits) (EqualsGivenValues (gate_value a g ∷ []))
 gate-law a g n size new inside =
     let long : length a + 1 ≡ n + 1 = omega (arith, size) in
     only_from_if a (n + 1) (and_gate_clauses g.lit g.lits) (gate_value a g ∷ [])
@@ -207,7 +203,7 @@ has_lit-passes p ms all l has =
     let k = list_any-at (same_lit l) ms has in
     ap p (lit-is l k.1 k.3) ∙ list_all-slice_get p ms k.0 k.1 all k.2
 
-pub same_lits-all : (p : Literal → Bool) (ls ms : List Literal) → same_lits ls ms ≡ true → list_all p ls ≡ list_all p ms
+same_lits-all : (p : Literal → Bool) (ls ms : List Literal) → same_lits ls ms ≡ true → list_all p ls ≡ list_all p ms
 same_lits-all p ls ms h =
     let parts = and_parts _ _ h in
     both_ways (list_all p ls) (list_all p ms)
@@ -225,13 +221,13 @@ shared_lit-at known ls l e = by_case (find (λ g. (g.least == least_var ls) && s
         let k = find-at (λ g. (g.least == least_var ls) && same_lits ls g.lits) known g found in
         (k.0, g, k.1, same_Some g.lit l e, (and_parts _ _ k.2).1)
 
-pub shared_lit-says : (b : List Bool) (known : List AndGate) (ls : List Literal) (l : Literal) → GatesHold b known → shared_lit known ls ≡ Some l → is_true b l ≡ list_all (is_true b) ls
+shared_lit-says : (b : List Bool) (known : List AndGate) (ls : List Literal) (l : Literal) → GatesHold b known → shared_lit known ls ≡ Some l → is_true b l ≡ list_all (is_true b) ls
 shared_lit-says b known ls l holds e =
     let k = shared_lit-at known ls l e in
     let g = k.1 in
     sym (ap (is_true b) k.3) ∙ GatesHold-at known b k.0 g holds k.2 ∙ sym (same_lits-all (is_true b) ls g.lits k.4)
 
-pub shared_lit-in : (n : ℕ) (known : List AndGate) (ls : List Literal) (l : Literal) → gates_within n known ≡ true → shared_lit known ls ≡ Some l → is_lit_over n l ≡ true
+shared_lit-in : (n : ℕ) (known : List AndGate) (ls : List Literal) (l : Literal) → gates_within n known ≡ true → shared_lit known ls ≡ Some l → is_lit_over n l ≡ true
 shared_lit-in n known ls l within e =
     let k = shared_lit-at known ls l e in
     let g = k.1 in
@@ -263,7 +259,7 @@ combined_lit-means b known all (l ∷ m ∷ ls) n holds new =
     lit_or_new_gate-means b all (l ∷ m ∷ ls) n (shared_lit known (and_lits all (l ∷ m ∷ ls))) (λ k. shared_lit-says b known (and_lits all (l ∷ m ∷ ls)) k holds) new
 
 -- New gates fit, and the one literal is over the variables afterwards.
-abbrev pub LitFits : ℕ → LitWithGates → Type 0
+abbrev LitFits : ℕ → LitWithGates → Type 0
 LitFits n g = (gates_fit n g.gates ≡ true) × (is_lit_over (n + length g.gates) g.lit ≡ true)
 
 lit_or_new_gate-fits : (all : Bool) (ls : List Literal) (n : ℕ) (o : Option Literal) → ((l : Literal) → o ≡ Some l → is_lit_over n l ≡ true) → is_clause_over n ls ≡ true → LitFits n (lit_or_new_gate all ls n o)
@@ -271,8 +267,14 @@ lit_or_new_gate-fits all ls n (Some l) given inside = (refl, signed-in all (n + 
 lit_or_new_gate-fits all ls n None given inside =
     (and_from _ _ (eq-eqb (n + 1) (n + 1) refl) (and_from _ _ (and_lits-in all n ls inside) refl), signed-in all (n + 1) (new_gate all ls n).lit (new-in n all))
 
-pub combined_lit-fits : (known : List AndGate) (all : Bool) (ls : List Literal) (n : ℕ) → gates_within n known ≡ true → is_clause_over n ls ≡ true → LitFits n (combined_lit known all ls n)
-combined_lit-fits known all [] n within inside = lit_or_new_gate-fits all [] n (shared_lit known (and_lits all [])) (λ l. shared_lit-in n known (and_lits all []) l within) inside
-combined_lit-fits known all (l ∷ []) n within inside = (refl, is_lit_over-more n (n + 0) l (omega arith) (and_parts (is_lit_over n l) true inside).0)
-combined_lit-fits known all (l ∷ m ∷ ls) n within inside =
+combined_lit-both : (known : List AndGate) (all : Bool) (ls : List Literal) (n : ℕ) → gates_within n known ≡ true → is_clause_over n ls ≡ true → LitFits n (combined_lit known all ls n)
+combined_lit-both known all [] n within inside = lit_or_new_gate-fits all [] n (shared_lit known (and_lits all [])) (λ l. shared_lit-in n known (and_lits all []) l within) inside
+combined_lit-both known all (l ∷ []) n within inside = (refl, is_lit_over-more n (n + 0) l (omega arith) (and_parts (is_lit_over n l) true inside).0)
+combined_lit-both known all (l ∷ m ∷ ls) n within inside =
     lit_or_new_gate-fits all (l ∷ m ∷ ls) n (shared_lit known (and_lits all (l ∷ m ∷ ls))) (λ k. shared_lit-in n known (and_lits all (l ∷ m ∷ ls)) k within) inside
+
+pub combined_lit-fits : (known : List AndGate) (all : Bool) (ls : List Literal) (n : ℕ) → gates_within n known ≡ true → is_clause_over n ls ≡ true → gates_fit n (combined_lit known all ls n).gates ≡ true
+combined_lit-fits known all ls n within inside = (combined_lit-both known all ls n within inside).0
+
+pub combined_lit-in : (known : List AndGate) (all : Bool) (ls : List Literal) (n : ℕ) → gates_within n known ≡ true → is_clause_over n ls ≡ true → is_lit_over (n + length (combined_lit known all ls n).gates) (combined_lit known all ls n).lit ≡ true
+combined_lit-in known all ls n within inside = (combined_lit-both known all ls n within inside).1

@@ -38,8 +38,8 @@ loop-gate-preserved c =
     let split = ap (λ (hs : List AndGate). shared_lit hs ls) (drop_at gs i g c.loop-gate-test.true c.gate-item.is) in
     let other : ((g.least == least_var ls) && same_lits ls g.lits) ≡ false =
     elim c.else-gate-least.branch [
-      | else-gate-least-via-then-gate-least+else-same_lits w ↦ (let differ : same_lits ls g.lits ≡ false = ap (same_lits ls) (sym w.as_slice.ensures) ∙ sym w.same_lits.ensures ∙ w.if-same_lits.false in and_right (g.least == least_var ls) (same_lits ls g.lits) differ)
-      | else-gate-least-via-else-gate-least w ↦ (let differ = ne_eqb g.least (least_var ls) (λ e. w.if-gate-least.false (e ∙ sym c.least_var-least.ensures)) in and_left (g.least == least_var ls) (same_lits ls g.lits) differ)
+      | else-gate-least-via-then-gate-least+else-same_lits w ↦ and_right (g.least == least_var ls) (same_lits ls g.lits) (ap (same_lits ls) (sym w.as_slice.ensures) ∙ sym w.same_lits.ensures ∙ w.if-same_lits.false)
+      | else-gate-least-via-else-gate-least w ↦ and_left (g.least == least_var ls) (same_lits ls g.lits) (ne_eqb g.least (least_var ls) (λ e. w.if-gate-least.false (e ∙ sym c.least_var-least.ensures)))
     ] in
     sym (passed g (drop (i + 1) gs) ls other) ∙ sym split ∙ c.loop-gate.invariant
 
