@@ -5,6 +5,7 @@ pub mod CopyFew
 pub mod CopyWidth
 pub mod BoundForms
 pub mod BoundLaw
+pub mod GatesLaw
 pub mod Reading
 pub mod GatheredFits
 pub mod GatheredLaw
