@@ -14,7 +14,7 @@ use Rattle.ilk_forms.specs.declared.gates.AndGate.{AndGate}
 use Rattle.ilk_forms.specs.Leaf.{value_lit, has_lits_within_vars, ranges_of}
 use Rattle.ilk_forms.specs.Bound.{or_of_values_bound_lit}
 use Rattle.ilk_forms.specs.Size.{tree_size, trees_size}
-use Rattle.ilk_forms.specs.Gates.{bool_equals, with_sign, gates_part, gates_within, LitWithGates, and_lits, new_gate, lit_or_new_gate, shared_lit, combined_lit}
+use Rattle.ilk_forms.specs.Gates.{bool_equals, gates_part, gates_within, LitWithGates, and_lits, new_gate, lit_or_new_gate, shared_lit, combined_lit}
 use Rattle.ilk_forms.specs.Gathered.{LitsWithGates, no_lits, one_lit, optional_lit_or, append_lits, as_lits, combine_lits_into_one, keep_lits_if_same_gate, is_negated_gate, form_to_and_or_lits, forms_to_and_or_lits}
 use Rattle.ilk_forms.proofs.BoundLaw.{any-in}
 use Rattle.ilk_forms.proofs.Reading.{has_lits_within_vars-more, value_lit-in}

@@ -1,4 +1,4 @@
-use Rattle.std.proofs.Common.{◌≡◌, ℕ, ◌+◌, Bool, true, false, List, [], ◌∷◌, ◌++◌, length, cond, refl, sym, ap, ◌∙◌, append_assoc, arith}
+use Rattle.std.proofs.Common.{◌≡◌, ℕ, ◌+◌, Bool, true, false, List, [], ◌++◌, length, cond, sym, ap, ◌∙◌, append_assoc, arith}
 use Rattle.std.proofs.lemmas.List.{append-nil}
 use Rattle.std.proofs.lemmas.Bool.{and_parts}
 use Rattle.ilk_cnf.specs.Literal.{Literal}
@@ -26,21 +26,7 @@ pub combine-late : (known : List AndGate) (n : ℕ) (all : Bool) (ls : List Lite
 combine-late known n all ls =
     ap (λ (ks : List AndGate). combined_lit ks all ls (n + 0)) (append-nil known) ∙ ap (combined_lit known all ls) (omega arith)
 
-pub merge-late-lits :
-    (known : List AndGate) (n : ℕ) (outer inner : Bool) (g : LitsWithGates) →
-    (keep_lits_if_same_gate (known ++ g.gates) (n + length g.gates) outer inner (record { gates = []; lits = g.lits })).lits ≡ (keep_lits_if_same_gate known n outer inner g).lits
-merge-late-lits known n outer inner g = by_case (bool_equals outer inner)
-  where
-    late : LitsWithGates
-    late = record { gates = []; lits = g.lits }
-
-    by_case : (b : Bool) →
-        (cond {A = LitsWithGates} b late (as_lits true (combine_lits_into_one (known ++ g.gates) (n + length g.gates) inner late))).lits
-        ≡ (cond {A = LitsWithGates} b g (as_lits true (combine_lits_into_one known n inner g))).lits
-    by_case true = refl
-    by_case false = ap (λ (s : LitWithGates). s.lit ∷ []) (combine-late (known ++ g.gates) (n + length g.gates) inner g.lits)
-
-pub merge-late-gates :
+merge-late-gates :
     (known : List AndGate) (n : ℕ) (outer inner : Bool) (g : LitsWithGates) →
     g.gates ++ (keep_lits_if_same_gate (known ++ g.gates) (n + length g.gates) outer inner (record { gates = []; lits = g.lits })).gates ≡ (keep_lits_if_same_gate known n outer inner g).gates
 merge-late-gates known n outer inner g = by_case (bool_equals outer inner)
@@ -54,8 +40,49 @@ merge-late-gates known n outer inner g = by_case (bool_equals outer inner)
     by_case true = append-nil g.gates
     by_case false = ap (λ (s : LitWithGates). g.gates ++ s.gates) (combine-late (known ++ g.gates) (n + length g.gates) inner g.lits)
 
-pub lits-in : (n : ℕ) (f h : Formula) (g : LitsWithGates) (ls : List Literal) → Fits f.vars g → h ≡ with_part f (gates_part g.gates f.vars) → ls ≡ g.lits → is_clause_over h.vars ls ≡ true
-lits-in n f h g ls fits made is = ap (λ (k : Formula). is_clause_over k.vars ls) made ∙ ap (is_clause_over (f.vars + length g.gates)) is ∙ fits.lits
+later-gates :
+    (known known' : List AndGate) (f h : Formula) (outer inner : Bool) (g : LitsWithGates) (ls : List Literal) →
+    known' ≡ known ++ g.gates → h ≡ with_part f (gates_part g.gates f.vars) → ls ≡ g.lits →
+    g.gates ++ (keep_lits_if_same_gate known' h.vars outer inner (record { gates = []; lits = ls })).gates ≡ (keep_lits_if_same_gate known f.vars outer inner g).gates
+later-gates known known' f h outer inner g ls added made is =
+    ap (λ (ks : List AndGate). g.gates ++ (keep_lits_if_same_gate ks h.vars outer inner (record { gates = []; lits = ls })).gates) added
+    ∙ ap (λ (e : Formula). g.gates ++ (keep_lits_if_same_gate (known ++ g.gates) e.vars outer inner (record { gates = []; lits = ls })).gates) made
+    ∙ ap (λ (ms : List Literal). g.gates ++ (keep_lits_if_same_gate (known ++ g.gates) (f.vars + length g.gates) outer inner (record { gates = []; lits = ms })).gates) is
+    ∙ merge-late-gates known f.vars outer inner g
+
+pub join-gates :
+    (known known' : List AndGate) (f h : Formula) (outer inner : Bool) (g : LitsWithGates) (ls : List Literal) (new : List AndGate) →
+    known' ≡ known ++ g.gates → h ≡ with_part f (gates_part g.gates f.vars) → ls ≡ g.lits →
+    new ≡ known' ++ (keep_lits_if_same_gate known' h.vars outer inner (record { gates = []; lits = ls })).gates →
+    new ≡ known ++ (keep_lits_if_same_gate known f.vars outer inner g).gates
+join-gates known known' f h outer inner g ls new added made is last =
+    last
+    ∙ ap (λ (ks : List AndGate). ks ++ (keep_lits_if_same_gate known' h.vars outer inner (record { gates = []; lits = ls })).gates) added
+    ∙ append_assoc known g.gates (keep_lits_if_same_gate known' h.vars outer inner (record { gates = []; lits = ls })).gates
+    ∙ ap (λ (ks : List AndGate). known ++ ks) (later-gates known known' f h outer inner g ls added made is)
+
+pub join-made :
+    (known known' : List AndGate) (f h k : Formula) (outer inner : Bool) (g : LitsWithGates) (ls : List Literal) →
+    known' ≡ known ++ g.gates → h ≡ with_part f (gates_part g.gates f.vars) → ls ≡ g.lits →
+    k ≡ with_part h (gates_part (keep_lits_if_same_gate known' h.vars outer inner (record { gates = []; lits = ls })).gates h.vars) →
+    k ≡ with_part f (gates_part (keep_lits_if_same_gate known f.vars outer inner g).gates f.vars)
+join-made known known' f h k outer inner g ls added made is last =
+    made-more f h k g.gates (keep_lits_if_same_gate known' h.vars outer inner (record { gates = []; lits = ls })).gates made last
+    ∙ ap (λ (ks : List AndGate). with_part f (gates_part ks f.vars)) (later-gates known known' f h outer inner g ls added made is)
+
+pub marked-made :
+    (known known' : List AndGate) (f h k : Formula) (all : Bool) (g : LitsWithGates) (slice ls : List Literal) →
+    known' ≡ known ++ g.gates → h ≡ with_part f (gates_part g.gates f.vars) → slice ≡ ls → ls ≡ g.lits →
+    k ≡ with_part h (gates_part (combined_lit known' all slice h.vars).gates h.vars) →
+    k ≡ with_part f (gates_part (combine_lits_into_one known f.vars all g).gates f.vars)
+marked-made known known' f h k all g slice ls added made seen is last =
+    made-more f h k g.gates (combined_lit known' all slice h.vars).gates made last
+    ∙ ap (λ (ks : List AndGate). with_part f (gates_part (g.gates ++ (combined_lit ks all slice h.vars).gates) f.vars)) added
+    ∙ ap (λ (e : Formula). with_part f (gates_part (g.gates ++ (combined_lit (known ++ g.gates) all slice e.vars).gates) f.vars)) made
+    ∙ ap (λ (ms : List Literal). with_part f (gates_part (g.gates ++ (combined_lit (known ++ g.gates) all ms (f.vars + length g.gates)).gates) f.vars)) (seen ∙ is)
+
+pub lits-in : (f h : Formula) (g : LitsWithGates) (ls : List Literal) → Fits f.vars g → h ≡ with_part f (gates_part g.gates f.vars) → ls ≡ g.lits → is_clause_over h.vars ls ≡ true
+lits-in f h g ls fits made is = ap (λ (k : Formula). is_clause_over k.vars ls) made ∙ ap (is_clause_over (f.vars + length g.gates)) is ∙ fits.lits
 
 pub record Gathering (columns : List VarValueAndBoundLits) (all positive : Bool) (cnf : Formula) (known : List AndGate) (done : List Literal) (rest : Trees) (whole : List Literal) (last : List AndGate) (end : Formula) : Type 0 where
   pub within : has_lits_within_vars cnf.vars columns ≡ true

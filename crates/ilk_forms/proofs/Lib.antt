@@ -8,6 +8,7 @@ pub mod BoundLaw
 pub mod Reading
 pub mod GatheredFits
 pub mod GatheredLaw
+pub mod GatheredSteps
 pub mod TruthsMean
 pub mod DemandLaw
 pub mod Steps

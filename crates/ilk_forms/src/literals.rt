@@ -68,7 +68,9 @@ fn take_in(
     one(alloc, lit)
 }
 
-fn is_gate(form: &Form) -> bool {
+fn is_gate(form: &Form) -> bool
+    ensures { result ≡ is_negated_gate (negation (tree_of form.now)) }
+{
     match form {
         Form::And(_) => true,
         Form::Or(_) => true,
