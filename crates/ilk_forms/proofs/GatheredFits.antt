@@ -37,7 +37,7 @@ known-more known gates n inside fit =
 no_lits-fits : (n : ℕ) → Fits n no_lits
 no_lits-fits n = record { gates = refl; lits = refl }
 
-pub append-fits : (n : ℕ) (g : LitsWithGates) (h : List AndGate → ℕ → LitsWithGates) → Fits n g → Fits (n + length g.gates) (h g.gates (length g.gates)) → Fits n (append_lits g h)
+append-fits : (n : ℕ) (g : LitsWithGates) (h : List AndGate → ℕ → LitsWithGates) → Fits n g → Fits (n + length g.gates) (h g.gates (length g.gates)) → Fits n (append_lits g h)
 append-fits n g h one two =
     let m = length g.gates in
     let later = h g.gates m in
@@ -49,7 +49,7 @@ append-fits n g h one two =
       lits = list_all-append (is_lit_over (n + length (g.gates ++ later.gates))) g.lits later.lits ∙ and_from _ _ first next;
     }
 
-pub combine-fits : (known : List AndGate) (n : ℕ) (all : Bool) (g : LitsWithGates) → gates_within n known ≡ true → Fits n g → OneFits n (combine_lits_into_one known n all g)
+combine-fits : (known : List AndGate) (n : ℕ) (all : Bool) (g : LitsWithGates) → gates_within n known ≡ true → Fits n g → OneFits n (combine_lits_into_one known n all g)
 combine-fits known n all g inside fits =
     let m = n + length g.gates in
     let c = combined_lit (known ++ g.gates) all g.lits m in
@@ -63,7 +63,7 @@ combine-fits known n all g inside fits =
 as_lits-fits : (positive : Bool) (n : ℕ) (g : LitWithGates) → OneFits n g → Fits n (as_lits positive g)
 as_lits-fits positive n g h = record { gates = h.gates; lits = and_from _ _ (signed-in positive (n + length g.gates) g.lit h.lit) refl }
 
-pub merge-fits : (known : List AndGate) (n : ℕ) (outer inner : Bool) (g : LitsWithGates) → gates_within n known ≡ true → Fits n g → Fits n (keep_lits_if_same_gate known n outer inner g)
+merge-fits : (known : List AndGate) (n : ℕ) (outer inner : Bool) (g : LitsWithGates) → gates_within n known ≡ true → Fits n g → Fits n (keep_lits_if_same_gate known n outer inner g)
 merge-fits known n outer inner g inside fits = by_case (bool_equals outer inner)
   where
     by_case : (b : Bool) → Fits n (cond {A = LitsWithGates} b g (as_lits true (combine_lits_into_one known n inner g)))
@@ -119,7 +119,7 @@ pub record Few (k : ℕ) (g : LitsWithGates) : Type 0 where
   pub vars : length g.gates ≤ k
   pub clauses : length (gates_part g.gates 0).clauses + length g.lits ≤ 2 * k
 
-pub clauses-append : (gs hs : List AndGate) → length (gates_part (gs ++ hs) 0).clauses ≡ length (gates_part gs 0).clauses + length (gates_part hs 0).clauses
+clauses-append : (gs hs : List AndGate) → length (gates_part (gs ++ hs) 0).clauses ≡ length (gates_part gs 0).clauses + length (gates_part hs 0).clauses
 clauses-append gs hs =
     ap (λ (p : FormulaPart). length p.clauses) (gates_part-append gs hs 0) ∙ length-append (gates_part gs 0).clauses (gates_part hs 0).clauses
 

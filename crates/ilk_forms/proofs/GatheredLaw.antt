@@ -18,7 +18,7 @@ use Rattle.ilk_forms.proofs.Reading.{Reads}
 use Rattle.ilk_forms.proofs.GatesLaw.{gate_truth, alone, signed-says, GatesHold-append, GatesHold-parts, combined_lit-means}
 use Rattle.ilk_forms.proofs.TruthsMean.{both_or_one, forms_are, gate_truth-append, none_means, all-are, some-are, constant, other_constant, turned}
 
-pub combine-means :
+combine-means :
     (b : List Bool) (known : List AndGate) (n : ℕ) (all : Bool) (g : LitsWithGates) → GatesHold b known →
     GatesHold b (combine_lits_into_one known n all g).gates →
     is_true b (combine_lits_into_one known n all g).lit ≡ gate_truth all (map (is_true b) g.lits)
@@ -32,7 +32,7 @@ combine-hold :
     GatesHold b (combine_lits_into_one known n all g).gates → GatesHold b g.gates
 combine-hold b known n all g new = (GatesHold-parts g.gates (combined_lit (known ++ g.gates) all g.lits (n + length g.gates)).gates b new).0
 
-pub merge-means :
+merge-means :
     (b : List Bool) (known : List AndGate) (n : ℕ) (outer inner truth : Bool) (g : LitsWithGates) → GatesHold b known →
     GatesHold b (keep_lits_if_same_gate known n outer inner g).gates →
     (GatesHold b g.gates → gate_truth inner (map (is_true b) g.lits) ≡ truth) →
@@ -44,7 +44,7 @@ merge-means b known n false true truth g holds new means =
     alone false (is_true b (combine_lits_into_one known n true g).lit) ∙ combine-means b known n true g holds new ∙ means (combine-hold b known n true g new)
 merge-means b known n false false truth g holds new means = means new
 
-pub append-means :
+append-means :
     (b : List Bool) (all : Bool) (g : LitsWithGates) (h : List AndGate → ℕ → LitsWithGates) →
     gate_truth all (map (is_true b) (append_lits g h).lits)
     ≡ both_or_one all (gate_truth all (map (is_true b) g.lits)) (gate_truth all (map (is_true b) (h g.gates (length g.gates)).lits))

@@ -1,4 +1,6 @@
-use Rattle.std.proofs.Common.{◌≡◌, ℕ, ◌+◌, Bool, true, false, List, [], ◌++◌, length, cond, sym, ap, ◌∙◌, append_assoc, arith}
+use Rattle.std.proofs.Common.{◌≡◌, ℕ, ◌+◌, Bool, true, false, List, [], ◌++◌, length, cond, sym, ap, ◌∙◌, append_assoc, arith, Result, Ok, Err}
+use Rattle.std.specs.Result.{OnOk}
+use Rattle.std.proofs.Math.Bool.{beq}
 use Rattle.std.proofs.lemmas.List.{append-nil}
 use Rattle.std.proofs.lemmas.Bool.{and_parts}
 use Rattle.ilk_cnf.specs.Literal.{Literal}
@@ -22,7 +24,7 @@ made-more f h k gs hs first next =
     next ∙ ap (λ (e : Formula). with_part e (gates_part hs e.vars)) first ∙ with_part-and_then f (gates_part gs f.vars) (gates_part hs) ∙ ap (with_part f) (sym (gates_part-append gs hs f.vars))
 
 -- Literals that no new gate precedes.
-pub combine-late : (known : List AndGate) (n : ℕ) (all : Bool) (ls : List Literal) → combine_lits_into_one known n all (record { gates = []; lits = ls }) ≡ combined_lit known all ls n
+combine-late : (known : List AndGate) (n : ℕ) (all : Bool) (ls : List Literal) → combine_lits_into_one known n all (record { gates = []; lits = ls }) ≡ combined_lit known all ls n
 combine-late known n all ls =
     ap (λ (ks : List AndGate). combined_lit ks all ls (n + 0)) (append-nil known) ∙ ap (combined_lit known all ls) (omega arith)
 
@@ -80,6 +82,31 @@ marked-made known known' f h k all g slice ls added made seen is last =
     ∙ ap (λ (ks : List AndGate). with_part f (gates_part (g.gates ++ (combined_lit ks all slice h.vars).gates) f.vars)) added
     ∙ ap (λ (e : Formula). with_part f (gates_part (g.gates ++ (combined_lit (known ++ g.gates) all slice e.vars).gates) f.vars)) made
     ∙ ap (λ (ms : List Literal). with_part f (gates_part (g.gates ++ (combined_lit (known ++ g.gates) all ms (f.vars + length g.gates)).gates) f.vars)) (seen ∙ is)
+
+bool_equals-beq : (p q : Bool) → beq p q ≡ false → bool_equals p q ≡ false
+bool_equals-beq true true h = h
+bool_equals-beq true false h = h
+bool_equals-beq false true h = h
+bool_equals-beq false false h = h
+
+pub taken-made :
+    (known : List AndGate) (f k : Formula) (outer inner : Bool) (slice ls : List Literal) →
+    beq outer inner ≡ false → slice ≡ ls →
+    k ≡ with_part f (gates_part (combined_lit known inner slice f.vars).gates f.vars) →
+    k ≡ with_part f (gates_part (keep_lits_if_same_gate known f.vars outer inner (record { gates = []; lits = ls })).gates f.vars)
+taken-made known f k outer inner slice ls apart seen last =
+    last
+    ∙ ap (λ (ms : List Literal). with_part f (gates_part (combined_lit known inner ms f.vars).gates f.vars)) seen
+    ∙ ap (λ (s : LitWithGates). with_part f (gates_part s.gates f.vars)) (sym (combine-late known f.vars inner ls))
+    ∙ ap (λ (b : Bool). with_part f (gates_part (cond {A = LitsWithGates} b late (as_lits true (combine_lits_into_one known f.vars inner late))).gates f.vars)) (sym (bool_equals-beq outer inner apart))
+  where
+    late : LitsWithGates
+    late = record { gates = []; lits = ls }
+
+-- What holds in any case holds if a call succeeds.
+pub on_ok : {T E P : Type 0} (r : Result T E) → P → OnOk r P
+on_ok (Ok x) p = p
+on_ok (Err e) p = tt
 
 pub lits-in : (f h : Formula) (g : LitsWithGates) (ls : List Literal) → Fits f.vars g → h ≡ with_part f (gates_part g.gates f.vars) → ls ≡ g.lits → is_clause_over h.vars ls ≡ true
 lits-in f h g ls fits made is = ap (λ (k : Formula). is_clause_over k.vars ls) made ∙ ap (is_clause_over (f.vars + length g.gates)) is ∙ fits.lits

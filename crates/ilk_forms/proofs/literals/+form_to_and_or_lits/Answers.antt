@@ -1,17 +1,12 @@
-use Rattle.std.proofs.Common.{◌+◌, ◌++◌, true, false, Result, Ok, Err, ap, drop}
-use Rattle.std.specs.Result.{OnOk}
+use Rattle.std.proofs.Common.{◌+◌, ◌++◌, true, false, ap, drop}
 use Rattle.ilk_base.proofs.Lists.{drop_at}
 use Rattle.ilk_cnf.specs.Part.{with_part}
 use Rattle.ilk_ir.specs.Form.{tree_of, trees_of}
 use Rattle.ilk_forms.specs.Gates.{gates_part}
 use Rattle.ilk_forms.specs.Gathered.{form_to_and_or_lits, forms_to_and_or_lits}
 use Rattle.ilk_forms.proofs.GatheredFits.{form-fits, forms-fits}
-use Rattle.ilk_forms.proofs.GatheredSteps.{lits-in, join-gates, join-made, marked-made, form-step}
+use Rattle.ilk_forms.proofs.GatheredSteps.{lits-in, join-gates, join-made, marked-made, on_ok, form-step}
 use Rattle.ilk_forms.proofs.literals.+form_to_and_or_lits.Goals as goal
-
-on_ok : {T E P : Type 0} (r : Result T E) → P → OnOk r P
-on_ok (Ok x) p = p
-on_ok (Err e) p = tt
 
 pub join-take_in-requires : goal.join-take_in-requires
 join-take_in-requires t c =
