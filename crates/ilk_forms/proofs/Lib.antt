@@ -9,6 +9,7 @@ pub mod GatesLaw
 pub mod Reading
 pub mod GatheredFits
 pub mod GatheredLaw
+pub mod GatheredSteps
 pub mod TruthsMean
 pub mod DemandLaw
 pub mod Steps

@@ -4,7 +4,7 @@ ghost use Rattle.ilk_cnf.specs.Part.{with_part};
 ghost use Rattle.ilk_ir.specs.Form.{tree_of, trees_of};
 ghost use Rattle.ilk_ir.specs.Tree.{negation, tree_valid, each_valid, value_valid};
 ghost use Rattle.ilk_forms.specs.Leaf.{value_lit, has_lits_within_vars, ranges_of};
-ghost use Rattle.ilk_forms.specs.Gates.{with_sign, gates_part};
+ghost use Rattle.ilk_forms.specs.Gates.{with_sign, gates_part, gates_within};
 ghost use Rattle.ilk_forms.specs.Gathered.{is_negated_gate, keep_lits_if_same_gate, combine_lits_into_one, as_lits, form_to_and_or_lits, forms_to_and_or_lits};
 
 use crate::bound::or_of_values_bound_lit;
@@ -68,7 +68,9 @@ fn take_in(
     one(alloc, lit)
 }
 
-fn is_gate(form: &Form) -> bool {
+fn is_gate(form: &Form) -> bool
+    ensures { result ≡ is_negated_gate (negation (tree_of form.now)) }
+{
     match form {
         Form::And(_) => true,
         Form::Or(_) => true,
@@ -99,6 +101,7 @@ pub(crate) fn form_to_and_or_lits(
     form: &Form,
 ) -> Result<Lits, AllocError>
     requires within { IsTrue (has_lits_within_vars cnf.old.vars table.now) }
+    requires gates { IsTrue (gates_within cnf.old.vars gates.old) }
     requires valid { IsTrue (tree_valid (ranges_of table.now) (tree_of form.now)) }
     ensures lits { IfOk result
         (λ lits. lits ≡ (form_to_and_or_lits table.now all positive
@@ -139,6 +142,7 @@ pub(crate) fn negation_to_and_or_lits(
     form: &Form,
 ) -> Result<Lits, AllocError>
     requires within { IsTrue (has_lits_within_vars cnf.old.vars table.now) }
+    requires gates { IsTrue (gates_within cnf.old.vars gates.old) }
     requires valid { IsTrue (tree_valid (ranges_of table.now) (tree_of form.now)) }
     ensures lits { IfOk result
         (λ lits. lits ≡ (form_to_and_or_lits table.now all positive
@@ -171,6 +175,7 @@ fn marked_to_lits(
     form: &Form,
 ) -> Result<Lits, AllocError>
     requires within { IsTrue (has_lits_within_vars cnf.old.vars table.now) }
+    requires gates { IsTrue (gates_within cnf.old.vars gates.old) }
     requires valid { IsTrue (tree_valid (ranges_of table.now) (tree_of form.now)) }
     ensures lits { IfOk result
         (λ lits. lits ≡ (as_lits positive (combine_lits_into_one gates.old cnf.old.vars true
@@ -207,6 +212,7 @@ fn join(
     forms: &[Form],
 ) -> Result<Lits, AllocError>
     requires within { IsTrue (has_lits_within_vars cnf.old.vars table.now) }
+    requires gates { IsTrue (gates_within cnf.old.vars gates.old) }
     requires valid { IsTrue (each_valid (ranges_of table.now) (trees_of forms.now)) }
     ensures lits { IfOk result
         (λ lits. lits
@@ -247,6 +253,7 @@ pub(crate) fn forms_to_and_or_lits(
     forms: &[Form],
 ) -> Result<Lits, AllocError>
     requires within { IsTrue (has_lits_within_vars cnf.old.vars table.now) }
+    requires gates { IsTrue (gates_within cnf.old.vars gates.old) }
     requires valid { IsTrue (each_valid (ranges_of table.now) (trees_of forms.now)) }
     ensures lits { IfOk result
         (λ lits. lits ≡ (forms_to_and_or_lits table.now all positive
