@@ -3,6 +3,7 @@ pub mod CopyLaw
 pub mod CopySays
 pub mod CopyFew
 pub mod CopyWidth
+pub mod CopyMade
 pub mod BoundForms
 pub mod BoundLaw
 pub mod GatesLaw

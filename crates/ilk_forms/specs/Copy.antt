@@ -73,7 +73,7 @@ no_var_lits ranges = map (λ range. record { values = []; bounds = [] }) ranges
 -- The formula part of a copy with these ranges, after the first `n` variables. The variables of the
 -- system are in the order of their ranges, the greatest first, and those of one range in the
 -- system's order. The literals are in the system's order.
-abbrev pub copy_part : List ℕ → ℕ → PartWithAllVarLits
+unfoldable pub copy_part : List ℕ → ℕ → PartWithAllVarLits
 copy_part ranges n = ranges_below_part MAX_RANGES ranges (no_var_lits ranges) n
 
 -- The number of variables of a copy with these ranges: for bits, values and bounds.
@@ -101,7 +101,7 @@ ranges_below_bits (suc r) ranges ws = range_class_bits r ranges ws ++ ranges_bel
 
 -- The truth values of all variables of a copy with these ranges, if the system's variables have the
 -- values `ws`.
-abbrev pub copy_bits : List ℕ → List ℕ → List Bool
+unfoldable pub copy_bits : List ℕ → List ℕ → List Bool
 copy_bits ranges ws = ranges_below_bits MAX_RANGES ranges ws
 
 -- Holds if `b` are the truth values of a copy's variables for some values within `ranges`.
