@@ -53,6 +53,7 @@ fn add_copies(
         ≡ with_var_count_and_clauses cnf.old cnf.old.vars
         (clauses_from_lists (copies_part ranges.now count 0).part.clauses)) }
 {
+    let _ranges = bytes_of(ranges.as_slice());
     let mut tables = RunLits::new(alloc);
     let mut before = cnf.vars();
     for _ in 0..count {
