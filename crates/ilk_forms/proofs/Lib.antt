@@ -10,8 +10,8 @@ pub mod GatheredFits
 pub mod GatheredLaw
 pub mod TruthsMean
 pub mod DemandLaw
-pub mod Steps
+pub mod DemandSteps
 pub mod ViolatedLaw
+pub mod ViolatedSteps
 pub mod Few
 pub mod CopyTable
-pub mod FormViolated

@@ -3,6 +3,7 @@
 use Rattle.std.specs.Prelude.{ℕ, ◌+◌, ◌-◌, ◌^◌, ◌==◌, Bool, List, [], ◌∷◌, ◌++◌, ◌&&◌, ◌≡◌, flat_map, length, map, min, not, Option, Some, None, option_map, if◌then◌else◌}
 use Rattle.std.specs.List.{find, list_all}
 use Rattle.ilk_cnf.specs.Literal.{Literal, negated_lit, has_lit}
+use Rattle.ilk_cnf.specs.Formula.{is_lit_over, is_clause_over}
 use Rattle.ilk_cnf.specs.Part.{FormulaPart, and_gate_clauses}
 use Rattle.ilk_cnf.specs.Truth.{is_true}
 use Rattle.ilk_forms.specs.declared.gates.AndGate.{AndGate}
@@ -83,3 +84,7 @@ lit_or_new_gate all ls n None = record { gates = new_gate all ls n ∷ []; lit =
 abbrev pub combined_lit : List AndGate → Bool → List Literal → ℕ → LitWithGates
 combined_lit known all (l ∷ []) n = record { gates = []; lit = l }
 combined_lit known all ls n = lit_or_new_gate all ls n (shared_lit known (and_lits all ls))
+
+-- Returns whether all literals of the gates are over the variables 1 to `n`.
+abbrev pub gates_within : ℕ → List AndGate → Bool
+gates_within n gates = list_all (λ g. is_lit_over n g.lit && is_clause_over n g.lits) gates
