@@ -4,6 +4,7 @@ use Rattle.std.proofs.lemmas.List.{append-nil}
 use Rattle.std.proofs.lemmas.List.Folds.{list_all-append, list_any-append}
 use Rattle.std.proofs.lemmas.Bool.{and_parts, and_from}
 use Rattle.std.proofs.Math.Bool.{and-true, or-false}
+use Rattle.ilk_base.proofs.Truth.{or-true}
 use Rattle.ilk_base.proofs.Tested.{list_any-map}
 use Rattle.ilk_base.proofs.Lengths.{longer}
 use Rattle.ilk_cnf.specs.Literal.{Literal}
@@ -128,12 +129,8 @@ end : (b : Bool) → (b && true) ≡ (b || false)
 end true = refl
 end false = refl
 
-always : (b : Bool) → true ≡ (b || true)
-always true = refl
-always false = refl
-
 no_clause-law : (a : List Bool) (first : List Literal) (n : ℕ) → length a ≡ n → ExtensionsAreExactly a n [] (PassesAndEqualsGivenValues (is_clause_true a first || true) [])
-no_clause-law a first n size = no_more_if a n [] (is_clause_true a first || true) size (always (is_clause_true a first))
+no_clause-law a first n size = no_more_if a n [] (is_clause_true a first || true) size (sym (or-true (is_clause_true a first)))
 
 clause-law : (a : List Bool) (first : List Literal) (n : ℕ) → length a ≡ n → ExtensionsAreExactly a n (first ∷ []) (PassesAndEqualsGivenValues (is_clause_true a first || false) [])
 clause-law a first n size = no_more_if a n (first ∷ []) (is_clause_true a first || false) size (end (is_clause_true a first))

@@ -1,10 +1,11 @@
 -- At most one of some literals, and exactly one of a few: what the clauses say.
 use Rattle.std.proofs.Common.{◌≡◌, ℕ, ◌+◌, ◌<◌, ◌≤◌, Bool, true, false, not, ◌&&◌, ◌||◌, cond, if◌then◌else◌, List, [], ◌∷◌, ◌++◌, length, map, take, drop, get_or, refl, sym, ap, ◌∙◌, arith, append_assoc, take-append-drop}
-use Rattle.std.proofs.Math.Bool.{beq}
+use Rattle.std.proofs.Math.Bool.{and-true, beq}
 use Rattle.std.proofs.lemmas.List.{map-append, take_more}
 use Rattle.std.proofs.lemmas.List.Folds.{list_all-append}
 use Rattle.std.proofs.lemmas.Bool.{and_parts, and_from}
 use Rattle.ilk_base.proofs.Lists.{drop_at}
+use Rattle.ilk_base.proofs.Truth.{or-true}
 use Rattle.ilk_cnf.specs.Literal.{Literal, negated_lit, positive_lit}
 use Rattle.ilk_cnf.specs.Formula.{Formula, with_var_count_and_clauses, is_lit_over, is_clause_over, are_clauses_over}
 use Rattle.ilk_cnf.specs.Part.{clauses_from_lists}
@@ -17,14 +18,6 @@ use Rattle.ilk_ints.specs.OneOf.{not_with_any_clauses, at_most_one_clauses, disj
 abbrev pub at_most_one_true : List Bool → Bool
 at_most_one_true [] = true
 at_most_one_true (q ∷ qs) = if q then none_true qs else at_most_one_true qs
-
-or_always : (b : Bool) → true ≡ (b || true)
-or_always true = refl
-or_always false = refl
-
-and_always : (b : Bool) → b ≡ (b && true)
-and_always true = refl
-and_always false = refl
 
 none_true-append : (ps qs : List Bool) → none_true (ps ++ qs) ≡ (none_true ps && none_true qs)
 none_true-append [] qs = refl
@@ -54,7 +47,7 @@ at_most_one-none (false ∷ qs) = at_most_one-none qs
 
 exactly_one-split : (qs : List Bool) → exactly_one_true qs ≡ (at_most_one_true qs && some_true qs)
 exactly_one-split [] = refl
-exactly_one-split (true ∷ qs) = and_always (none_true qs)
+exactly_one-split (true ∷ qs) = sym (and-true (none_true qs))
 exactly_one-split (false ∷ qs) = exactly_one-split qs
 
 exactly_one_true-last : (qs : List Bool) (q : Bool) → exactly_one_true (qs ++ q ∷ []) ≡ exactly_one_true (q ∷ qs)
@@ -78,7 +71,7 @@ some_true-map a [] = refl
 some_true-map a (l ∷ ls) = ap (λ (o : Bool). is_true a l || o) (some_true-map a ls)
 
 not_with_any-say : (a : List Bool) (before : List Literal) (l : Literal) → satisfies a (not_with_any_clauses before l) ≡ (not (is_true a l) || none_true (map (is_true a) before))
-not_with_any-say a [] l = or_always (not (is_true a l))
+not_with_any-say a [] l = sym (or-true (not (is_true a l)))
 not_with_any-say a (m ∷ before) l =
     let one = is_true-negated_lit a m in
     let two = is_true-negated_lit a l in
@@ -93,7 +86,7 @@ not_with_any-say a (m ∷ before) l =
 
 at_most_one-say : (ls before : List Literal) (a : List Bool) → satisfies a (at_most_one_clauses before ls)
     ≡ (at_most_one_true (map (is_true a) ls) && (none_true (map (is_true a) before) || none_true (map (is_true a) ls)))
-at_most_one-say [] before a = or_always (none_true (map (is_true a) before))
+at_most_one-say [] before a = sym (or-true (none_true (map (is_true a) before)))
 at_most_one-say (l ∷ ls) before a =
     let p = is_true a l in
     let bs = map (is_true a) before in
