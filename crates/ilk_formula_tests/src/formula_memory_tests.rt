@@ -71,6 +71,30 @@ fn clauses(rt: HostRuntime) -> Result<(), Fail> {
     Ok(())
 }
 
+// Demands exactly one of five literals, of which four are joined. Returns the number of clauses
+// that this makes.
+fn joined(alloc: Global) -> Result<u64, AllocError> {
+    let mut cnf = formula(alloc)?;
+    let _ = cnf.fresh()?;
+    let _ = cnf.fresh()?;
+    let mut clause = Clause::new(alloc);
+    clause.push(Lit::new(1, true))?;
+    clause.push(Lit::new(2, true))?;
+    clause.push(Lit::new(3, true))?;
+    clause.push(Lit::new(4, true))?;
+    clause.push(Lit::new(5, true))?;
+    one_of(alloc, &mut cnf, &clause)?;
+    Ok(cnf.clauses())
+}
+
+// The new literal follows from each of the four (4 clauses), and one of the four from it (1). No
+// two of the four are true (6). Exactly one of the fifth and the new literal is true (2).
+#[test]
+fn one_of_five(rt: HostRuntime) -> Result<(), Fail> {
+    assert_eq!(rt; joined(rt.alloc())?, 13);
+    Ok(())
+}
+
 // Adds a copy of variables with 1, 2, 3, 5 and 8 values. Returns the number of variables that its
 // literals speak of.
 fn copied(alloc: Global) -> Result<u64, AllocError> {
