@@ -95,59 +95,71 @@ impl QueryKind {
 /// A command with its options.
 #[derive(Drop)]
 pub enum Command {
+    /// Reads a configuration, which `columns` checks.
+    Conf {
+        columns: ColumnRuleMode,
+        command: ConfCommand,
+    },
+    /// Reads nothing, and generates a line of `stations` stations.
+    Stations {
+        stations: u32,
+        command: StationsCommand,
+    },
+}
+
+/// A command on a configuration.
+#[derive(Drop)]
+pub enum ConfCommand {
+    /// Reads the configuration alone.
+    Plain(ConfCommandWithoutExtra),
+    /// Also reads the file `file`, the extra input.
+    WithExtra { file: Text, command: ExtraCommand },
+}
+
+/// A command on a configuration alone.
+#[derive(Drop)]
+pub enum ConfCommandWithoutExtra {
     /// Print every rule that the configuration violates.
-    Check {
-        columns: ColumnRuleMode,
-    },
-    /// Decide whether the plant is safe, by runs of up to `depth` events; its searches learn at
-    /// most `conflicts` clauses in total. The certificate goes to the file `cert`.
+    Check,
+    /// Decide whether the plant is safe, by runs of up to `depth` events and searches of at most
+    /// `conflicts` conflicts in total. The certificate is written to the file `cert`.
     Verify {
-        columns: ColumnRuleMode,
         depth: u32,
         conflicts: u64,
         cert: Text,
     },
-    /// Check the certificate in the file `cert`.
-    Audit {
-        columns: ColumnRuleMode,
-        cert: Text,
-    },
-    /// Replay the run in the file `run`.
-    Replay {
-        columns: ColumnRuleMode,
-        run: Text,
-    },
-    /// Print the configuration of a line of `stations` stations.
-    Make {
-        stations: u32,
-    },
-    /// Decide whether the plant of a line of `stations` stations is safe, as `Verify` does.
-    Demo {
-        stations: u32,
-        depth: u32,
-        conflicts: u64,
-        cert: Text,
-    },
-    /// Print the configuration's network with a generated table of its routes.
-    Table {
-        columns: ColumnRuleMode,
-    },
-    /// Print the formula of the query of kind `query` for runs of `number` events.
+    /// Print the configuration's network with the routes that it has.
+    Table,
+    /// Print the formula of the query of this kind for runs of `number` events.
     Export {
-        columns: ColumnRuleMode,
         query: QueryKind,
         number: u32,
     },
-    /// Check another solver's refutation, in the file `cert`, of the formula that `Export` prints.
-    Rup {
-        columns: ColumnRuleMode,
-        query: QueryKind,
-        number: u32,
+}
+
+/// A command on a configuration and an extra input.
+#[derive(Clone, Copy, PartialEq, Eq, Debug)]
+pub enum ExtraCommand {
+    /// Check the certificate.
+    Audit,
+    /// Replay the run.
+    Replay,
+    /// Check another solver's refutation of the formula of the query of this kind for runs of
+    /// `number` events.
+    Rup { query: QueryKind, number: u32 },
+    /// Run the scenario until it terminates.
+    Drive,
+}
+
+/// A command on a generated line.
+#[derive(Drop)]
+pub enum StationsCommand {
+    /// Print its configuration.
+    Make,
+    /// Decide whether its plant is safe, as `Verify` does.
+    Demo {
+        depth: u32,
+        conflicts: u64,
         cert: Text,
-    },
-    /// Simulate the scenario in the file `run`.
-    Drive {
-        columns: ColumnRuleMode,
-        run: Text,
     },
 }
