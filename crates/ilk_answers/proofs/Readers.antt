@@ -9,7 +9,8 @@ use Rattle.ilk_answers.specs.Reader.{ReaderHasReadExtraInput, ReaderWasFedBytes,
 use Rattle.ilk_answers.specs.declared.reader.ExtraInputReader.{ExtraInputReader}
 use Rattle.ilk_answers.specs.declared.reader.ExtraInputReader.TheVariants.{Certificate, Run, Refutation, Scenario}
 
-pub audit_fed : (before after : CertAudit) (piece : List ℕ) → after.plant.now ≡ before.plant.now → ((bytes : List ℕ) → HasAuditedBytes before bytes → HasAuditedBytes after (bytes ++ piece)) → ReaderWasFedBytes (Certificate before) (Certificate after) piece
+pub audit_fed : (before after : CertAudit) (piece : List ℕ) → after.plant.now ≡ before.plant.now → ((bytes : List ℕ) → HasAuditedBytes before bytes → HasAuditedBytes after (bytes ++ piece)) → ReaderWasFedBytes (Certificate before)
+    (Certificate after) piece
 audit_fed before after piece same fed command p read h = (h.0, same ∙ h.1, fed read h.2)
 
 -- A reader is within the limits of its command.

@@ -142,8 +142,8 @@ AnswersOnPlantOrRefuses command (Err refusals) extra made = made ≡ all_or_firs
 AnswersOnPlantOrRefuses command (Ok p) extra made = AnswersOnPlantIfExtraExposed command p extra made
 
 -- Holds if a reply answers these inputs: the command that the arguments give, the configuration and
--- the extra input. If a configuration is read but not exposed, any reply will do. Without a command,
--- it has to be the usage error.
+-- the extra input. If a configuration is read but not exposed, any reply will do. Without a
+-- command, it has to be the usage error.
 abbrev pub IsAnswerTo : Option Command → Option (List ℕ) → Option (List ℕ) → Reply → Type 0
 IsAnswerTo None conf extra made = made ≡ reply Usage []
 IsAnswerTo (Some (Conf columns command)) conf extra made =

@@ -96,7 +96,8 @@ pub record ReplyHasStrictGuarantees (asked : Option Command) (conf extra : Optio
   -- If `check` refuses only by C4, C5, C6 and C8, the plant is safe for runs of any length.
   pub deviations : asked ≡ Some (Conf Strict (Plain Check)) → made.status ≡ Refused → LinesHaveBeginnings harmless_refusal_beginnings made.report → IfSome conf HasSafePlantDespiteColumns
   -- If no rule is broken, `verify` reports `safe k=1` or spent conflicts.
-  pub verify : (depth conflicts : ℕ) (cert : List ℕ) → asked ≡ Some (Conf Strict (Plain (Verify depth conflicts cert))) → (bytes : List ℕ) (p : PlantLists) → conf ≡ Some bytes → IsStrictlyCleanWithPlant bytes p → SaysSafeAtOneOrSpent p depth conflicts made
+  pub verify : (depth conflicts : ℕ) (cert : List ℕ) → asked ≡ Some (Conf Strict (Plain (Verify depth conflicts cert))) → (bytes : List ℕ) (p : PlantLists) → conf ≡ Some bytes → IsStrictlyCleanWithPlant bytes p →
+      SaysSafeAtOneOrSpent p depth conflicts made
   -- If `table` returns `Good`, its table breaks no rule but C7. With strict columns it breaks none,
   -- and its plant is safe for runs of any length.
   pub table : (columns : ColumnRuleMode) → asked ≡ Some (Conf columns (Plain Table)) → made.status ≡ Good → IfSome conf (λ bytes. ReplyHasTableOfConf columns bytes made)

@@ -27,7 +27,8 @@ pub fn answer_without_extra(
 ) -> Result<Reply, AllocError>
     requires { IsTrue (within_plain_option_limits command.now) }
     ensures reply { IfOk result (AnswersConfCommandWithoutExtra command.now plant.now) }
-    ensures planned { IfOk result (HasAllowedStatusAndCertificate (may_certify (ConfCommand.Plain command.now))) }
+    ensures planned { IfOk result
+        (HasAllowedStatusAndCertificate (may_certify (ConfCommand.Plain command.now))) }
 {
     match command {
         ConfCommandWithoutExtra::Check => {
@@ -81,7 +82,8 @@ pub fn answer_without_conf(
     requires stations { IsTrue (within_station_limits stations) }
     requires options { IsTrue (within_demo_option_limits command.now) }
     ensures reply { IfOk result (AnswersWithoutConf stations command.now) }
-    ensures planned { IfOk result (HasAllowedStatusAndCertificate (may_certify_stations command.now)) }
+    ensures planned { IfOk result
+        (HasAllowedStatusAndCertificate (may_certify_stations command.now)) }
 {
     match command {
         StationsCommand::Make => stations_conf_reply(alloc, stations),

@@ -28,7 +28,8 @@ pub fn refuse(
     command: &ConfCommand,
     refusals: &Refusals,
 ) -> Result<Reply, AllocError>
-    ensures reply { IfOk result (λ made. made ≡ all_or_first_refusal_reply command.now refusals.now) }
+    ensures reply { IfOk result (λ made. made ≡
+        all_or_first_refusal_reply command.now refusals.now) }
     ensures planned { IfOk result (HasAllowedStatusAndCertificate false) }
 {
     match command {

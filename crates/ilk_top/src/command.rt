@@ -63,7 +63,8 @@ fn command_reply<C: Source, D: Source>(
     ensures strict { IfOk result
         (ReplyHasStrictGuarantees (Some command.now) (C.left conf.old) (D.left extra.old)) }
     ensures planned { IfOk result (HasAllowedStatusAndCertificate (plan_of command.now).certifies) }
-    ensures handled { SourcesReadAndFaultsCounted C.left C.faults D.left D.faults (plan_of command.now)
+    ensures handled { SourcesReadAndFaultsCounted C.left C.faults D.left D.faults
+        (plan_of command.now)
         (result ≡ Err NoReply.ReadFault) (is_ok result) conf.old conf.new extra.old extra.new }
 {
     match command {

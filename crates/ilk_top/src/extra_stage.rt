@@ -34,7 +34,8 @@ fn reply_to_extra<D: Source>(
         AnswersForSomeExtraInput (ConfCommand.WithExtra file command) (Ok plant.now)
         (D.left extra.old) made) }
     ensures planned { IfOk result (HasAllowedStatusAndCertificate false) }
-    ensures handled { SourceReadAndFaultCounted D.left D.faults (Some true) (Some (extra_limit command))
+    ensures handled { SourceReadAndFaultCounted D.left D.faults (Some true)
+        (Some (extra_limit command))
         (result ≡ Err NoReply.ReadFault) (is_ok result) extra.old extra.new }
 {
     let limit = command.limit();
@@ -58,9 +59,11 @@ pub(crate) fn read_extra_and_reply<D: Source>(
     extra: &mut D,
 ) -> Result<Reply, NoReply>
     requires { IsTrue (within_conf_option_limits command.now) }
-    ensures reply { IfOk result (AnswersForSomeExtraInput command.now (Ok plant.now) (D.left extra.old)) }
+    ensures reply { IfOk result (AnswersForSomeExtraInput command.now (Ok plant.now)
+        (D.left extra.old)) }
     ensures planned { IfOk result (HasAllowedStatusAndCertificate (may_certify command.now)) }
-    ensures handled { SourceReadAndFaultCounted D.left D.faults (Some true) (limit_if_extra command.now)
+    ensures handled { SourceReadAndFaultCounted D.left D.faults (Some true)
+        (limit_if_extra command.now)
         (result ≡ Err NoReply.ReadFault) (is_ok result) extra.old extra.new }
 {
     match command {

@@ -43,7 +43,8 @@ pub fn run<C: Source, D: Source, O: Sink, L: Sink>(
     // If `check` returns `Good`, the configuration breaks no rule. Runs of any length from the
     // initial state keep the invariant.
     ensures strict_check { let asked = parsed_command (map string_bytes words.now.items) in
-        asked ≡ Some (Command.Conf ColumnRuleMode.Strict (ConfCommand.Plain ConfCommandWithoutExtra.Check)) →
+        asked ≡ Some (Command.Conf ColumnRuleMode.Strict
+        (ConfCommand.Plain ConfCommandWithoutExtra.Check)) →
         result ≡ Status.Good →
         IfSome (C.left conf.old) IsCleanAndKeepsInvariant }
 
@@ -52,7 +53,8 @@ pub fn run<C: Source, D: Source, O: Sink, L: Sink>(
     // after a write fault, since a cut report may have lost a line.
     ensures strict_deviations { let asked = parsed_command (map string_bytes words.now.items) in
         (before report : List ℕ) →
-        asked ≡ Some (Command.Conf ColumnRuleMode.Strict (ConfCommand.Plain ConfCommandWithoutExtra.Check)) →
+        asked ≡ Some (Command.Conf ColumnRuleMode.Strict
+        (ConfCommand.Plain ConfCommandWithoutExtra.Check)) →
         result ≡ Status.Refused → O.written out.old ≡ Some before →
         O.written out.new ≡ Some (before ++ report) →
         LinesHaveBeginnings harmless_refusal_beginnings report →

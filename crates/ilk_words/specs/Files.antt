@@ -15,8 +15,8 @@ abbrev pub cert_of_plain : ConfCommandWithoutExtra → Option (List ℕ)
 cert_of_plain (Verify depth conflicts cert) = Some cert
 cert_of_plain _ = None
 
--- The files that a command on a configuration names: `verify` writes a certificate; `audit` and `rup`
--- read a proof; `replay` and `drive` read a run or scenario.
+-- The files that a command on a configuration names: `verify` writes a certificate; `audit` and
+-- `rup` read a proof; `replay` and `drive` read a run or scenario.
 abbrev pub files_of_conf_command : ConfCommand → FileNames
 files_of_conf_command (Plain command) = record { extra = None; cert = cert_of_plain command }
 files_of_conf_command (WithExtra file command) = record { extra = Some file; cert = None }
@@ -26,6 +26,7 @@ abbrev pub cert_with_stations : StationsCommand → Option (List ℕ)
 cert_with_stations Make = None
 cert_with_stations (Demo depth conflicts cert) = Some cert
 
+-- The files that a command names.
 abbrev pub files_of_command : Command → FileNames
 files_of_command (Conf columns command) = files_of_conf_command command
 files_of_command (Stations stations command) = record { extra = None; cert = cert_with_stations command }

@@ -44,8 +44,8 @@ abbrev pub within_demo_option_limits : StationsCommand → Bool
 within_demo_option_limits Make = true
 within_demo_option_limits (Demo depth conflicts cert) = within_search_limits depth conflicts
 
--- Returns whether a command's numbers are within the limits of its options, as do the four before
--- for a part of the command.
+-- Returns whether all numbers of a command are within their limits. The four definitions before say
+-- so of a part of a command.
 abbrev pub within_option_limits : Command → Bool
 within_option_limits (Conf columns command) = within_conf_option_limits command
 within_option_limits (Stations stations command) = within_station_limits stations && within_demo_option_limits command

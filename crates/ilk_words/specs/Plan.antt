@@ -13,11 +13,11 @@ use Rattle.ilk_words.specs.declared.lengths.TheConstants.{MAX_CERTIFICATE_BYTES,
 use Rattle.ilk_words.specs.declared.plan.CheckedRuleStages.{CheckedRuleStages}
 use Rattle.ilk_words.specs.declared.plan.CheckedRuleStages.TheVariants.{All, Network}
 
--- The inputs, checks and outputs of a command.
+-- What a command reads, checks and writes.
 pub record CommandPlan : Type 0 where
-  -- The rules checked on the configuration, or `None` if no configuration is read.
+  -- The rules checked on the configuration, or `None` if none is read.
   pub stages : Option CheckedRuleStages
-  -- The maximum number of bytes of the extra input, or `None` if there is none.
+  -- The maximum number of bytes of a second input, or `None` if there is none.
   pub extra : Option ℕ
   -- Whether a certificate may be written.
   pub certifies : Bool
@@ -49,6 +49,7 @@ abbrev pub may_certify_stations : StationsCommand → Bool
 may_certify_stations Make = false
 may_certify_stations (Demo depth conflicts cert) = true
 
+-- What each command reads, checks and writes.
 abbrev pub plan_of : Command → CommandPlan
 plan_of (Conf columns command) = record {
   stages = Some (stages_of columns command);

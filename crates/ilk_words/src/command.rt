@@ -95,12 +95,12 @@ impl QueryKind {
 /// A command with its options.
 #[derive(Drop)]
 pub enum Command {
-    /// Reads a configuration, which `columns` checks.
+    /// Reads a configuration. `columns` says whether its column rules are checked.
     Conf {
         columns: ColumnRuleMode,
         command: ConfCommand,
     },
-    /// Reads nothing, and generates a line of `stations` stations.
+    /// Reads nothing. The plant is a generated line of `stations` stations.
     Stations {
         stations: u32,
         command: StationsCommand,
@@ -110,53 +110,52 @@ pub enum Command {
 /// A command on a configuration.
 #[derive(Drop)]
 pub enum ConfCommand {
-    /// Reads the configuration alone.
+    /// Reads only the configuration.
     Plain(ConfCommandWithoutExtra),
     /// Also reads the file `file`, the extra input.
     WithExtra { file: Text, command: ExtraCommand },
 }
 
-/// A command on a configuration alone.
+/// A command that reads only a configuration.
 #[derive(Drop)]
 pub enum ConfCommandWithoutExtra {
     /// Print every rule that the configuration violates.
     Check,
-    /// Decide whether the plant is safe, by runs of up to `depth` events and searches of at most
-    /// `conflicts` conflicts in total. The certificate is written to the file `cert`.
+    /// Decide whether the plant is safe, by runs of up to `depth` events; its searches learn at
+    /// most `conflicts` clauses in total. The certificate goes to the file `cert`.
     Verify {
         depth: u32,
         conflicts: u64,
         cert: Text,
     },
-    /// Print the configuration's network with the routes that it has.
+    /// Print the configuration's network with a generated table of its routes.
     Table,
-    /// Print the formula of the query of this kind for runs of `number` events.
+    /// Print the formula of the query of kind `query` for runs of `number` events.
     Export {
         query: QueryKind,
         number: u32,
     },
 }
 
-/// A command on a configuration and an extra input.
+/// A command that reads a configuration and an extra input.
 #[derive(Clone, Copy, PartialEq, Eq, Debug)]
 pub enum ExtraCommand {
     /// Check the certificate.
     Audit,
     /// Replay the run.
     Replay,
-    /// Check another solver's refutation of the formula of the query of this kind for runs of
-    /// `number` events.
+    /// Check another solver's refutation of the formula that `Export` prints.
     Rup { query: QueryKind, number: u32 },
-    /// Run the scenario until it terminates.
+    /// Simulate the scenario.
     Drive,
 }
 
 /// A command on a generated line.
 #[derive(Drop)]
 pub enum StationsCommand {
-    /// Print its configuration.
+    /// Print the configuration of the line.
     Make,
-    /// Decide whether its plant is safe, as `Verify` does.
+    /// Decide whether the plant of the line is safe, as `Verify` does.
     Demo {
         depth: u32,
         conflicts: u64,

@@ -5,8 +5,9 @@
 //! returns the rules that a command checks, and `ExtraCommand::limit` the limit of its extra input.
 //!
 //! Definitions in `specs/`: `Commands` has the table of commands, `Options` that of options, and
-//! `Line` the resulting line for `clap`. `Plan` has the table of plans, and `Files` the named
-//! files. `limits` names the limits of numbers, `lengths` those of inputs.
+//! `Line` the command line for `clap`. `Words` says what arguments mean. `Plan` has the table of
+//! plans, and `Files` the named files. `limits` names the limits of numbers, `lengths` those of
+//! inputs.
 #![tactic(auto)]
 
 mod command;
