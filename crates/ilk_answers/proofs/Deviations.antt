@@ -20,7 +20,8 @@ use Rattle.ilk_table_read.specs.Table.{net_and_table_drafts}
 use Rattle.ilk_strict.proofs.Strict.{strict_from_rules}
 use Rattle.ilk_forever.proofs.StrictForever.{strict-forever}
 use Rattle.ilk_words.specs.declared.command.ColumnRuleMode.TheVariants.{Strict, Free}
-use Rattle.ilk_words.specs.declared.command.Command.TheVariants.{Check}
+use Rattle.ilk_words.specs.declared.command.ConfCommand.TheVariants.{Plain}
+use Rattle.ilk_words.specs.declared.command.ConfCommandWithoutExtra.TheVariants.{Check}
 use Rattle.ilk_words.specs.declared.lengths.TheConstants.{MAX_CONFIGURATION_BYTES}
 use Rattle.ilk_words.specs.declared.plan.CheckedRuleStages.TheVariants.{All}
 use Rattle.ilk_answers.specs.Answer.{AnswersOnPlantOrRefuses, refusal_lines_of_broken_rules, refusals_from_form_fault, refusals_or_value, plant_or_refusals_of_conf, plant_of_drafts, refusals_if_any_broken_rules}
@@ -163,7 +164,7 @@ safe-refused conf refusals is sound first rest = of_length (nat_lt MAX_CONFIGURA
 
 pub deviations-safe :
     (conf : List ℕ) (found : Result PlantLists Refusals) (extra : Option (List ℕ)) (made : Reply) →
-    found ≡ plant_or_refusals_of_conf (All Strict) conf → FreeColumnPlantIsValid conf → AnswersOnPlantOrRefuses (Check Strict) found extra made →
+    found ≡ plant_or_refusals_of_conf (All Strict) conf → FreeColumnPlantIsValid conf → AnswersOnPlantOrRefuses (Plain Check) found extra made →
     made.status ≡ IsRefused → lines_have_beginnings harmless_refusal_beginnings made.report ≡ true → HasSafePlantDespiteColumns conf
 deviations-safe conf (Ok p) extra made known sound told refused lines =
     let good : Good ≡ IsRefused = ap (λ (r : Reply). r.status) (sym told) ∙ refused in absurd (cc)

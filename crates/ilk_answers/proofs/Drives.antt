@@ -11,8 +11,8 @@ use Rattle.ilk_drive.specs.declared.outcome.Rest.{Rest}
 use Rattle.ilk_drive.specs.declared.outcome.Rest.TheVariants as rest
 use Rattle.ilk_drive.specs.declared.scene.Scene.{Scene}
 use Rattle.ilk_drive.specs.declared.scene.Scene.TheVariants as scene
-use Rattle.ilk_words.specs.declared.command.ColumnRuleMode.TheVariants.{Strict}
-use Rattle.ilk_words.specs.declared.command.Command.TheVariants.{Drive}
+use Rattle.ilk_words.specs.declared.command.ConfCommand.TheVariants.{WithExtra}
+use Rattle.ilk_words.specs.declared.command.ExtraCommand.TheVariants.{Drive}
 use Rattle.ilk_words.specs.declared.lengths.TheConstants.{MAX_SCENARIO_BYTES}
 use Rattle.ilk_answers.specs.Answer.{AnswersOnPlantIfExtraExposed, AnswersOrRefusesTooLong}
 use Rattle.ilk_answers.specs.Drives.{AnswersParsedScenario, drive_end_status}
@@ -30,10 +30,10 @@ scene-safe p (scene.Bad line) made plant none is e =
 scene-safe p (scene.Scene commands) made plant none is e =
     safe-status is.0.rest (drive-safe p plant (strict_from_list p none) commands is.0 is.1) (ap (λ (r : Reply). r.status) (sym is.2) ∙ e)
 
-within-safe : (b : Bool) (p : PlantLists) (run text : List ℕ) (made : Reply) → IsPlant p → column_rules_broken p ≡ [] → AnswersOrRefusesTooLong b (Drive Strict run) p text made → made.status ≢ Unsafe
-within-safe false p run text made plant none is e =
+within-safe : (b : Bool) (p : PlantLists) (text : List ℕ) (made : Reply) → IsPlant p → column_rules_broken p ≡ [] → AnswersOrRefusesTooLong b Drive p text made → made.status ≢ Unsafe
+within-safe false p text made plant none is e =
     let refused : IsRefused ≡ Unsafe = ap (λ (r : Reply). r.status) (sym is) ∙ e in absurd (cc)
-within-safe true p run text made plant none is e = scene-safe p (scene_from_text p text) made plant none is e
+within-safe true p text made plant none is e = scene-safe p (scene_from_text p text) made plant none is e
 
-pub drive-right : (p : PlantLists) (run text : List ℕ) (made : Reply) → IsPlant p → column_rules_broken p ≡ [] → AnswersOnPlantIfExtraExposed (Some MAX_SCENARIO_BYTES) (Drive Strict run) p (Some text) made → made.status ≢ Unsafe
-drive-right p run text made plant none is = within-safe (nat_le (length text) MAX_SCENARIO_BYTES) p run text made plant none is
+pub drive-right : (p : PlantLists) (run text : List ℕ) (made : Reply) → IsPlant p → column_rules_broken p ≡ [] → AnswersOnPlantIfExtraExposed (WithExtra run Drive) p (Some text) made → made.status ≢ Unsafe
+drive-right p run text made plant none is = within-safe (nat_le (length text) MAX_SCENARIO_BYTES) p text made plant none is

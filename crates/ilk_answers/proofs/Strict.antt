@@ -1,5 +1,5 @@
 -- With strict columns, the answers mean what `ReplyHasStrictGuarantees` says.
-use Rattle.std.proofs.Common.{◌≡◌, inl, inr, ℕ, ◌<◌, Bool, true, false, ◌&&◌, if◌then◌else◌, Option, Some, None, IfOk, IfSome, Result, Ok, Err, List, [], ◌++◌, append-nil, length, nat_le, nat_lt, refl, sym, ap, ◌∙◌, subst}
+use Rattle.std.proofs.Common.{◌≡◌, inl, inr, ℕ, ◌<◌, Bool, true, false, ◌&&◌, if◌then◌else◌, Option, Some, None, IfOk, IfSome, Result, Ok, Err, List, [], ◌++◌, append-nil, length, nat_le, nat_lt, refl, sym, ap, ap₂, ◌∙◌, subst}
 use Rattle.std.specs.Prelude.{◌≢◌}
 use Rattle.std.proofs.lemmas.Bool.{leb-true}
 use Rattle.std.proofs.lemmas.Option.{same_Some}
@@ -20,16 +20,18 @@ use Rattle.ilk_engine.specs.CertificateOf.{IsCertificateTextOfVerdict}
 use Rattle.ilk_engine.specs.declared.verdict.Verdict.TheVariants.{Safe}
 use Rattle.ilk_forever.proofs.StrictForever.{clean-forever}
 use Rattle.ilk_engine.proofs.Strict.{clean-verdict}
-use Rattle.ilk_words.specs.Limits.{within_option_limits}
-use Rattle.ilk_words.specs.Plan.{plan_of}
+use Rattle.ilk_words.specs.Limits.{within_conf_option_limits}
+use Rattle.ilk_words.specs.Plan.{stages_of}
 use Rattle.ilk_words.specs.declared.command.ColumnRuleMode.{ColumnRuleMode}
 use Rattle.ilk_words.specs.declared.command.ColumnRuleMode.TheVariants.{Strict}
-use Rattle.ilk_words.specs.declared.command.Command.{Command}
-use Rattle.ilk_words.specs.declared.command.Command.TheVariants.{Check, Verify, Table, Drive}
+use Rattle.ilk_words.specs.declared.command.Command.TheVariants.{Conf}
+use Rattle.ilk_words.specs.declared.command.ConfCommand.{ConfCommand}
+use Rattle.ilk_words.specs.declared.command.ConfCommand.TheVariants.{Plain, WithExtra}
+use Rattle.ilk_words.specs.declared.command.ExtraCommand.TheVariants.{Drive}
+use Rattle.ilk_words.specs.declared.command.ConfCommandWithoutExtra.TheVariants.{Check, Verify, Table}
 use Rattle.ilk_words.specs.declared.lengths.TheConstants.{MAX_CONFIGURATION_BYTES}
 use Rattle.ilk_words.specs.declared.limits.TheConstants.{MAX_DEPTH, MAX_TOTAL_CONFLICTS}
-use Rattle.ilk_words.specs.declared.plan.CheckedRuleStages.{CheckedRuleStages}
-use Rattle.ilk_words.specs.declared.plan.CheckedRuleStages.TheVariants.{All, Network}
+use Rattle.ilk_words.specs.declared.plan.CheckedRuleStages.TheVariants.{All}
 use Rattle.ilk_answers.specs.Answer.{AnswersOnPlantOrRefuses, IsAnswerTo, refusals_from_form_fault, plant_or_refusals_of_conf, plant_of_drafts, refusals_if_any_broken_rules}
 use Rattle.ilk_answers.specs.Besides.{AnswersForSomeExtraInput}
 use Rattle.ilk_answers.specs.Stages.{broken_column_rules_if_strict, first_nonempty_broken, first_broken_stage_rules}
@@ -61,7 +63,7 @@ clean-columns conf p clean = of_length (nat_lt MAX_CONFIGURATION_BYTES (length c
     of_length false e = of_drafts (net_and_table_drafts conf) e
 
 check-safe : (conf : List ℕ) (found : Result PlantLists Refusals) (extra : Option (List ℕ)) (made : Reply) →
-    found ≡ plant_or_refusals_of_conf (All Strict) conf → IfOk found IsAcyclicFromSoundDrafts → AnswersOnPlantOrRefuses (Check Strict) found extra made →
+    found ≡ plant_or_refusals_of_conf (All Strict) conf → IfOk found IsAcyclicFromSoundDrafts → AnswersOnPlantOrRefuses (Plain Check) found extra made →
     made.status ≡ Good → IsCleanAndKeepsInvariant conf
 check-safe conf (Err refusals) extra made known sound told good =
     let refused : IsRefused ≡ Good = ap (λ (r : Reply). r.status) (sym told) ∙ good in absurd (cc)
@@ -86,14 +88,14 @@ first-true : (a b c : Bool) → (a && b && c) ≡ true → a ≡ true
 first-true true b c e = refl
 first-true false b c e = absurd (cc)
 
-some-depth : (depth conflicts : ℕ) (cert : List ℕ) → within_option_limits (Verify Strict depth conflicts cert) ≡ true → 0 < depth
+some-depth : (depth conflicts : ℕ) (cert : List ℕ) → within_conf_option_limits (Plain (Verify depth conflicts cert)) ≡ true → 0 < depth
 some-depth depth conflicts cert limits = leb-true 1 depth (first-true (nat_le 1 depth) (nat_le depth MAX_DEPTH) (nat_le conflicts MAX_TOTAL_CONFLICTS) limits)
 
 verify-safe :
     (found : Result PlantLists Refusals) (conf : List ℕ) (depth conflicts : ℕ) (cert : List ℕ)
     (extra : Option (List ℕ)) (made : Reply) (p : PlantLists) → found ≡ Ok p →
-    IfOk found IsAcyclicFromSoundDrafts → within_option_limits (Verify Strict depth conflicts cert) ≡ true →
-    AnswersOnPlantOrRefuses (Verify Strict depth conflicts cert) found extra made → IsStrictlyCleanWithPlant conf p →
+    IfOk found IsAcyclicFromSoundDrafts → within_conf_option_limits (Plain (Verify depth conflicts cert)) ≡ true →
+    AnswersOnPlantOrRefuses (Plain (Verify depth conflicts cert)) found extra made → IsStrictlyCleanWithPlant conf p →
     SaysSafeAtOneOrSpent p depth conflicts made
 verify-safe (Err refusals) conf depth conflicts cert extra made p is sound limits told clean = absurd (cc)
 verify-safe (Ok q) conf depth conflicts cert extra made p is sound limits told clean =
@@ -102,7 +104,7 @@ verify-safe (Ok q) conf depth conflicts cert extra made p is sound limits told c
     tells-at_one p depth conflicts made (subst IsPlant same sound.plant) (clean-columns conf p clean) (some-depth depth conflicts cert limits) (subst (λ r. AnswersWithRightVerdict r depth conflicts made) same tells)
 
 drive-safe : (conf : List ℕ) (found : Result PlantLists Refusals) (run text : List ℕ) (made : Reply) → found ≡ plant_or_refusals_of_conf (All Strict) conf → IfOk found IsAcyclicFromSoundDrafts →
-    AnswersOnPlantOrRefuses (Drive Strict run) found (Some text) made → made.status ≢ Unsafe
+    AnswersOnPlantOrRefuses (WithExtra run Drive) found (Some text) made → made.status ≢ Unsafe
 drive-safe conf (Err refusals) run text made known sound told e =
     let refused : IsRefused ≡ Unsafe = ap (λ (r : Reply). r.status) (sym told) ∙ e in absurd (cc)
 drive-safe conf (Ok p) run text made known sound told e =
@@ -112,66 +114,76 @@ sound-at : (found : Result PlantLists Refusals) → IfOk found IsAcyclicFromSoun
 sound-at (Err refusals) sound p is = absurd (cc)
 sound-at (Ok q) sound p is = let same : q ≡ p = cc in subst IsAcyclicFromSoundDrafts same sound
 
-module _ (command : Command) (stages : CheckedRuleStages) (planned : (plan_of command).stages ≡ Some stages)
-    (found : Result PlantLists Refusals) (sound : IfOk found IsAcyclicFromSoundDrafts) (extra : Option (List ℕ)) (made : Reply)
+module _ (columns : ColumnRuleMode) (command : ConfCommand) (found : Result PlantLists Refusals)
+    (sound : IfOk found IsAcyclicFromSoundDrafts) (extra : Option (List ℕ)) (made : Reply)
     (some : AnswersForSomeExtraInput command found extra made) where
-  asked-by : (c : List ℕ) (asked : Command) (s : CheckedRuleStages) → command ≡ asked → (plan_of asked).stages ≡ Some s → found ≡ plant_or_refusals_of_conf stages c → found ≡ plant_or_refusals_of_conf s c
-  asked-by c asked s is by known =
-      let same : Some stages ≡ Some s = sym planned ∙ ap (λ k. (plan_of k).stages) is ∙ by in
-      known ∙ ap (λ o. plant_or_refusals_of_conf o c) (same_Some stages s same)
+  asked-by : (c : List ℕ) (wanted : ColumnRuleMode) (asked : ConfCommand) → Conf columns command ≡ Conf wanted asked → found ≡ plant_or_refusals_of_conf (stages_of columns command) c → found ≡ plant_or_refusals_of_conf (stages_of wanted asked) c
+  asked-by c wanted asked is known =
+      let same : columns ≡ wanted = cc in
+      let too : command ≡ asked = cc in
+      known ∙ ap₂ (λ x k. plant_or_refusals_of_conf (stages_of x k) c) same too
 
-  told-as : (asked : Command) → command ≡ asked → AnswersOnPlantOrRefuses asked found (Some some.text) made
-  told-as asked is = subst (λ k. AnswersOnPlantOrRefuses k found (Some some.text) made) is some.answer
+  told-as : (wanted : ColumnRuleMode) (asked : ConfCommand) → Conf columns command ≡ Conf wanted asked → AnswersOnPlantOrRefuses asked found (Some some.text) made
+  told-as wanted asked is =
+      let too : command ≡ asked = cc in subst (λ k. AnswersOnPlantOrRefuses k found (Some some.text) made) too some.answer
 
-  check-right : (conf : Option (List ℕ)) → IfSome conf (λ c. found ≡ plant_or_refusals_of_conf stages c) → command ≡ Check Strict → made.status ≡ Good → IfSome conf IsCleanAndKeepsInvariant
+  limits-as : (wanted : ColumnRuleMode) (asked : ConfCommand) → Conf columns command ≡ Conf wanted asked → within_conf_option_limits command ≡ true → within_conf_option_limits asked ≡ true
+  limits-as wanted asked is limits =
+      let too : command ≡ asked = cc in subst (λ k. within_conf_option_limits k ≡ true) too limits
+
+  check-right : (conf : Option (List ℕ)) → IfSome conf (λ c. found ≡ plant_or_refusals_of_conf (stages_of columns command) c) → Conf columns command ≡ Conf Strict (Plain Check) → made.status ≡ Good → IfSome conf IsCleanAndKeepsInvariant
   check-right None known is good = tt
   check-right (Some c) known is good =
-      check-safe c found (Some some.text) made (asked-by c (Check Strict) (All Strict) is refl known) sound (told-as (Check Strict) is) good
+      check-safe c found (Some some.text) made (asked-by c Strict (Plain Check) is known) sound (told-as Strict (Plain Check) is) good
 
-  deviations-right : (conf : Option (List ℕ)) → IfSome conf (λ c. found ≡ plant_or_refusals_of_conf stages c) →
-      IfSome conf FreeColumnPlantIsValid → command ≡ Check Strict → made.status ≡ IsRefused →
+  deviations-right : (conf : Option (List ℕ)) → IfSome conf (λ c. found ≡ plant_or_refusals_of_conf (stages_of columns command) c) →
+      IfSome conf FreeColumnPlantIsValid → Conf columns command ≡ Conf Strict (Plain Check) → made.status ≡ IsRefused →
       lines_have_beginnings harmless_refusal_beginnings made.report ≡ true → IfSome conf HasSafePlantDespiteColumns
   deviations-right None known plant is refused lines = tt
   deviations-right (Some c) known plant is refused lines =
-      deviations-safe c found (Some some.text) made (asked-by c (Check Strict) (All Strict) is refl known) plant (told-as (Check Strict) is) refused lines
+      deviations-safe c found (Some some.text) made (asked-by c Strict (Plain Check) is known) plant (told-as Strict (Plain Check) is) refused lines
 
-  verify-right : (conf : Option (List ℕ)) → within_option_limits command ≡ true →
-      IfSome conf (λ c. found ≡ plant_or_refusals_of_conf stages c) → (depth conflicts : ℕ) (cert : List ℕ) →
-      command ≡ Verify Strict depth conflicts cert → (bytes : List ℕ) (p : PlantLists) → conf ≡ Some bytes →
-      IsStrictlyCleanWithPlant bytes p → SaysSafeAtOneOrSpent p depth conflicts made
+  verify-right : (conf : Option (List ℕ)) → within_conf_option_limits command ≡ true →
+      IfSome conf (λ c. found ≡ plant_or_refusals_of_conf (stages_of columns command) c) → (depth conflicts : ℕ) (cert : List ℕ) →
+      Conf columns command ≡ Conf Strict (Plain (Verify depth conflicts cert)) → (bytes : List ℕ) (p : PlantLists) →
+      conf ≡ Some bytes → IsStrictlyCleanWithPlant bytes p → SaysSafeAtOneOrSpent p depth conflicts made
   verify-right None limits known depth conflicts cert is bytes p at clean = absurd (cc)
   verify-right (Some c) limits known depth conflicts cert is bytes p at clean =
-      let here : found ≡ Ok p = asked-by c (Verify Strict depth conflicts cert) (All Strict) is refl known ∙ ap (plant_or_refusals_of_conf (All Strict)) (same_Some c bytes at) ∙ clean in
-      verify-safe found bytes depth conflicts cert (Some some.text) made p here sound (subst (λ k. within_option_limits k ≡ true) is limits) (told-as (Verify Strict depth conflicts cert) is) clean
+      let asked : ConfCommand = Plain (Verify depth conflicts cert) in
+      let here : found ≡ Ok p = asked-by c Strict asked is known ∙ ap (plant_or_refusals_of_conf (All Strict)) (same_Some c bytes at) ∙ clean in
+      verify-safe found bytes depth conflicts cert (Some some.text) made p here sound (limits-as Strict asked is limits) (told-as Strict asked is) clean
 
-  routes-right : (conf : Option (List ℕ)) → IfSome conf (λ c. found ≡ plant_or_refusals_of_conf stages c) → (columns : ColumnRuleMode) → command ≡ Table columns → made.status ≡ Good → IfSome conf (λ c. ReplyHasTableOfConf columns c made)
-  routes-right None known columns is good = tt
-  routes-right (Some c) known columns is good =
-      table-right columns c found (Some some.text) made (asked-by c (Table columns) (Network columns) is refl known) (sound-at found sound) (told-as (Table columns) is) good
+  routes-right : (conf : Option (List ℕ)) → IfSome conf (λ c. found ≡ plant_or_refusals_of_conf (stages_of columns command) c) → (wanted : ColumnRuleMode) → Conf columns command ≡ Conf wanted (Plain Table) → made.status ≡ Good →
+      IfSome conf (λ c. ReplyHasTableOfConf wanted c made)
+  routes-right None known wanted is good = tt
+  routes-right (Some c) known wanted is good =
+      table-right wanted c found (Some some.text) made (asked-by c wanted (Plain Table) is known) (sound-at found sound) (told-as wanted (Plain Table) is) good
 
-  scene-right : (conf : Option (List ℕ)) → IfSome conf (λ c. found ≡ plant_or_refusals_of_conf stages c) → (run bytes : List ℕ) → command ≡ Drive Strict run → conf ≡ Some bytes → DriveReportsNoHazard run bytes extra made
+  scene-right : (conf : Option (List ℕ)) → IfSome conf (λ c. found ≡ plant_or_refusals_of_conf (stages_of columns command) c) → (run bytes : List ℕ) → Conf columns command ≡ Conf Strict (WithExtra run Drive) → conf ≡ Some bytes →
+      DriveReportsNoHazard run bytes extra made
   scene-right None known run bytes is at = absurd (cc)
   scene-right (Some c) known run bytes is at =
-      let here : found ≡ plant_or_refusals_of_conf (All Strict) c = asked-by c (Drive Strict run) (All Strict) is refl known in
-      let told : AnswersOnPlantOrRefuses (Drive Strict run) found (Some some.text) made = told-as (Drive Strict run) is in
+      let asked : ConfCommand = WithExtra run Drive in
+      let here : found ≡ plant_or_refusals_of_conf (All Strict) c = asked-by c Strict asked is known in
+      let told : AnswersOnPlantOrRefuses asked found (Some some.text) made = told-as Strict asked is in
       record {
         scenario = some.text;
         whole = some.whole;
-        answer = subst (λ b. IsAnswerTo (Some (Drive Strict run)) (Some b) (Some some.text) made) (same_Some c bytes at) (subst (λ f. AnswersOnPlantOrRefuses (Drive Strict run) f (Some some.text) made) here told);
+        answer = subst (λ b. IsAnswerTo (Some (Conf Strict asked)) (Some b) (Some some.text) made) (same_Some c bytes at) (subst (λ f. AnswersOnPlantOrRefuses asked f (Some some.text) made) here told);
         safe = drive-safe c found run some.text made here sound told;
       }
 
 pub strictly-right :
-    {E : Type 0} (command : Command) (stages : CheckedRuleStages) (conf extra : Option (List ℕ))
-    (found : Result PlantLists Refusals) (made : Result Reply E) →
-    (plan_of command).stages ≡ Some stages → within_option_limits command ≡ true →
-    IfSome conf (λ c. found ≡ plant_or_refusals_of_conf stages c) → IfSome conf FreeColumnPlantIsValid → IfOk found IsAcyclicFromSoundDrafts →
-    IfOk made (AnswersForSomeExtraInput command found extra) → IfOk made (ReplyHasStrictGuarantees (Some command) conf extra)
-strictly-right command stages conf extra found (Err e) planned limits known plant sound some = tt
-strictly-right command stages conf extra found (Ok made) planned limits known plant sound some = record {
-  check = λ asked good. check-right command stages planned found sound extra made some conf known (same_Some command (Check Strict) asked) good;
-  deviations = λ asked refused lines. deviations-right command stages planned found sound extra made some conf known plant (same_Some command (Check Strict) asked) refused lines.each;
-  verify = λ depth conflicts cert asked. verify-right command stages planned found sound extra made some conf limits known depth conflicts cert (same_Some command (Verify Strict depth conflicts cert) asked);
-  table = λ columns asked good. routes-right command stages planned found sound extra made some conf known columns (same_Some command (Table columns) asked) good;
-  drive = λ run bytes asked. scene-right command stages planned found sound extra made some conf known run bytes (same_Some command (Drive Strict run) asked);
+    {E : Type 0} (columns : ColumnRuleMode) (command : ConfCommand) (conf extra : Option (List ℕ))
+    (found : Result PlantLists Refusals) (made : Result Reply E) → within_conf_option_limits command ≡ true →
+    IfSome conf (λ c. found ≡ plant_or_refusals_of_conf (stages_of columns command) c) → IfSome conf FreeColumnPlantIsValid →
+    IfOk found IsAcyclicFromSoundDrafts → IfOk made (AnswersForSomeExtraInput command found extra) →
+    IfOk made (ReplyHasStrictGuarantees (Some (Conf columns command)) conf extra)
+strictly-right columns command conf extra found (Err e) limits known plant sound some = tt
+strictly-right columns command conf extra found (Ok made) limits known plant sound some = record {
+  check = λ asked good. check-right columns command found sound extra made some conf known (same_Some (Conf columns command) (Conf Strict (Plain Check)) asked) good;
+  deviations = λ asked refused lines. deviations-right columns command found sound extra made some conf known plant (same_Some (Conf columns command) (Conf Strict (Plain Check)) asked) refused lines.each;
+  verify = λ depth conflicts cert asked. verify-right columns command found sound extra made some conf limits known depth conflicts cert (same_Some (Conf columns command) (Conf Strict (Plain (Verify depth conflicts cert))) asked);
+  table = λ wanted asked good. routes-right columns command found sound extra made some conf known wanted (same_Some (Conf columns command) (Conf wanted (Plain Table)) asked) good;
+  drive = λ run bytes asked. scene-right columns command found sound extra made some conf known run bytes (same_Some (Conf columns command) (Conf Strict (WithExtra run Drive)) asked);
 }

@@ -24,7 +24,8 @@ use Rattle.ilk_tablegen.specs.declared.walks.Walks.TheVariants.{Routes, TooLong,
 use Rattle.ilk_forever.proofs.StrictForever.{clean-forever}
 use Rattle.ilk_words.specs.declared.command.ColumnRuleMode.{ColumnRuleMode}
 use Rattle.ilk_words.specs.declared.command.ColumnRuleMode.TheVariants.{Strict}
-use Rattle.ilk_words.specs.declared.command.Command.TheVariants.{Table}
+use Rattle.ilk_words.specs.declared.command.ConfCommand.TheVariants.{Plain}
+use Rattle.ilk_words.specs.declared.command.ConfCommandWithoutExtra.TheVariants.{Table}
 use Rattle.ilk_words.specs.declared.lengths.TheConstants.{MAX_CONFIGURATION_BYTES}
 use Rattle.ilk_words.specs.declared.plan.CheckedRuleStages.TheVariants.{Network}
 use Rattle.ilk_answers.specs.Answer.{AnswersOnPlantOrRefuses, refusals_from_form_fault, plant_or_refusals_of_conf, plant_of_drafts, refusals_if_any_broken_rules}
@@ -72,7 +73,7 @@ pub table-right :
     (columns : ColumnRuleMode) (conf : List ℕ) (found : Result PlantLists Refusals) (extra : Option (List ℕ))
     (made : Reply) →
     found ≡ plant_or_refusals_of_conf (Network columns) conf → (sound : (p : PlantLists) → found ≡ Ok p → IsAcyclicFromSoundDrafts p) →
-    AnswersOnPlantOrRefuses (Table columns) found extra made → made.status ≡ Good → ReplyHasTableOfConf columns conf made
+    AnswersOnPlantOrRefuses (Plain Table) found extra made → made.status ≡ Good → ReplyHasTableOfConf columns conf made
 table-right columns conf (Err refusals) extra made known sound told good =
     let refused : IsRefused ≡ Good = ap (λ (r : Reply). r.status) (sym told) ∙ good in absurd (cc)
 table-right columns conf (Ok p) extra made known sound told good = of_length (nat_lt MAX_CONFIGURATION_BYTES (length conf)) (sym known)

@@ -19,11 +19,18 @@ use Rattle.ilk_replay.specs.declared.seen.Seen.{Seen}
 use Rattle.ilk_replay.specs.declared.seen.Seen.TheVariants.{NotARun, NoHazard, Hazard}
 use Rattle.ilk_replay.specs.declared.told.Tale.{Tale}
 use Rattle.ilk_replay.specs.declared.told.Tale.TheVariants.{Told as IsTold, Bad}
-use Rattle.ilk_words.specs.Plan.{plan_of}
+use Rattle.ilk_words.specs.Plan.{CommandPlan, extra_limit, plan_of, stages_of}
 use Rattle.ilk_words.specs.declared.command.Command.{Command}
-use Rattle.ilk_words.specs.declared.command.Command.TheVariants.{Check, Verify, Audit, Replay, Make, Demo, Table, Export, Rup, Drive}
+use Rattle.ilk_words.specs.declared.command.Command.TheVariants.{Conf, Stations}
+use Rattle.ilk_words.specs.declared.command.ConfCommand.{ConfCommand}
+use Rattle.ilk_words.specs.declared.command.ConfCommand.TheVariants.{Plain, WithExtra}
+use Rattle.ilk_words.specs.declared.command.ExtraCommand.{ExtraCommand}
+use Rattle.ilk_words.specs.declared.command.ExtraCommand.TheVariants.{Audit, Replay, Rup, Drive}
+use Rattle.ilk_words.specs.declared.command.ConfCommandWithoutExtra.{ConfCommandWithoutExtra}
+use Rattle.ilk_words.specs.declared.command.ConfCommandWithoutExtra.TheVariants.{Check, Verify, Table, Export}
+use Rattle.ilk_words.specs.declared.command.StationsCommand.{StationsCommand}
+use Rattle.ilk_words.specs.declared.command.StationsCommand.TheVariants.{Make, Demo}
 use Rattle.ilk_words.specs.declared.lengths.TheConstants.{MAX_CONFIGURATION_BYTES}
-use Rattle.ilk_words.specs.declared.plan.CommandPlan.{CommandPlan}
 use Rattle.ilk_words.specs.declared.plan.CheckedRuleStages.{CheckedRuleStages}
 use Rattle.ilk_answers.specs.Audits.{AnswersAudit}
 use Rattle.ilk_answers.specs.Drives.{AnswersScenarioText}
@@ -81,8 +88,8 @@ abbrev pub refusal_lines_of_broken_rules : List Broken → List ℕ
 refusal_lines_of_broken_rules found = flat_map (λ b. refusal_line (RuleRefusal b)) found
 
 -- The reply to a refused configuration: `check` lists all refusals, every other command the first.
-abbrev pub all_or_first_refusal_reply : Command → Refusals → Reply
-all_or_first_refusal_reply (Check columns) refusals = reply IsRefused (refusal_line refusals.first ++ refusal_lines_of_broken_rules refusals.rest)
+abbrev pub all_or_first_refusal_reply : ConfCommand → Refusals → Reply
+all_or_first_refusal_reply (Plain Check) refusals = reply IsRefused (refusal_line refusals.first ++ refusal_lines_of_broken_rules refusals.rest)
 all_or_first_refusal_reply _ refusals = refused refusals.first
 
 -- The reply to the outcome of a replay. Its status is `Good` only if the run ends in a hazard.
@@ -96,60 +103,52 @@ abbrev pub replay_or_bad_line_reply : PlantLists → Tale → Reply
 replay_or_bad_line_reply p (Bad line) = reply Rejected (first_bad_line_message line)
 replay_or_bad_line_reply p (IsTold run) = replay_outcome_reply p (replay_result p run.first run.events)
 
--- Holds if a reply answers a command on plant `p` and the bytes `extra`, which some commands
--- ignore. `make` and `demo` have no answer here.
-abbrev pub AnswersPlantAndExtra : Command → PlantLists → List ℕ → Reply → Type 0
-AnswersPlantAndExtra (Check columns) p extra made = made ≡ reply Good clean_line
-AnswersPlantAndExtra (Verify columns depth conflicts cert) p extra made = AnswersWithRightVerdict p depth conflicts made
-AnswersPlantAndExtra (Audit columns cert) p extra made = AnswersAudit p extra made
-AnswersPlantAndExtra (Replay columns run) p extra made = made ≡ replay_or_bad_line_reply p (run_from_text p extra)
-AnswersPlantAndExtra (Make stations) p extra made = ⊥
-AnswersPlantAndExtra (Demo stations depth conflicts cert) p extra made = ⊥
-AnswersPlantAndExtra (Table columns) p extra made = AnswersTableOrWhyNone p made
-AnswersPlantAndExtra (Export columns kind number) p extra made = ReplyHasQueryFormulaText p (query_from_kind_and_length kind number) made
-AnswersPlantAndExtra (Rup columns kind number cert) p extra made = AnswersRefutationText p kind number extra made
-AnswersPlantAndExtra (Drive columns run) p extra made = AnswersScenarioText p extra made
+-- Holds if a reply answers a command on plant `p`.
+abbrev pub AnswersConfCommandWithoutExtra : ConfCommandWithoutExtra → PlantLists → Reply → Type 0
+AnswersConfCommandWithoutExtra Check p made = made ≡ reply Good clean_line
+AnswersConfCommandWithoutExtra (Verify depth conflicts cert) p made = AnswersWithRightVerdict p depth conflicts made
+AnswersConfCommandWithoutExtra Table p made = AnswersTableOrWhyNone p made
+AnswersConfCommandWithoutExtra (Export kind number) p made = ReplyHasQueryFormulaText p (query_from_kind_and_length kind number) made
 
--- Holds if a reply answers `make` or `demo`, which read no configuration. Other commands have no
--- answer here.
-abbrev pub AnswersWithoutConf : Command → Reply → Type 0
-AnswersWithoutConf (Make stations) made = made ≡ stations_conf_reply stations
-AnswersWithoutConf (Demo stations depth conflicts cert) made = AnswersDemoWithRightVerdict stations depth conflicts made
-AnswersWithoutConf _ made = ⊥
+-- Holds if a reply answers a command on plant `p` and the bytes `extra`.
+abbrev pub AnswersExtraCommand : ExtraCommand → PlantLists → List ℕ → Reply → Type 0
+AnswersExtraCommand Audit p extra made = AnswersAudit p extra made
+AnswersExtraCommand Replay p extra made = made ≡ replay_or_bad_line_reply p (run_from_text p extra)
+AnswersExtraCommand (Rup kind number) p extra made = AnswersRefutationText p kind number extra made
+AnswersExtraCommand Drive p extra made = AnswersScenarioText p extra made
+
+-- Holds if a reply answers `make` or `demo` on a generated line of `stations` stations.
+abbrev pub AnswersWithoutConf : ℕ → StationsCommand → Reply → Type 0
+AnswersWithoutConf stations Make made = made ≡ stations_conf_reply stations
+AnswersWithoutConf stations (Demo depth conflicts cert) made = AnswersDemoWithRightVerdict stations depth conflicts made
 
 -- Holds if a reply answers a command on plant `p` and an extra input. If the first argument is
 -- false, the input is too long, and the reply has to refuse it by F1.
-abbrev pub AnswersOrRefusesTooLong : Bool → Command → PlantLists → List ℕ → Reply → Type 0
+abbrev pub AnswersOrRefusesTooLong : Bool → ExtraCommand → PlantLists → List ℕ → Reply → Type 0
 AnswersOrRefusesTooLong false command p extra made = made ≡ refused (FormRefusal (rule_fault_at_place F1 Extra))
-AnswersOrRefusesTooLong true command p extra made = AnswersPlantAndExtra command p extra made
+AnswersOrRefusesTooLong true command p extra made = AnswersExtraCommand command p extra made
 
--- Holds if a reply answers a command on plant `p` and the extra input. `Some limit` is the most
--- bytes of that input; `None` if the command reads none. If an input is read but not exposed, any
--- reply will do.
-abbrev pub AnswersOnPlantIfExtraExposed : Option ℕ → Command → PlantLists → Option (List ℕ) → Reply → Type 0
-AnswersOnPlantIfExtraExposed None command p extra made = AnswersPlantAndExtra command p [] made
-AnswersOnPlantIfExtraExposed (Some limit) command p extra made =
-    IfSome extra (λ x. AnswersOrRefusesTooLong (nat_le (length x) limit) command p x made)
+-- Holds if a reply answers a command on plant `p` and the extra input, if the command reads one. If
+-- an input is read but not exposed, any reply will do.
+abbrev pub AnswersOnPlantIfExtraExposed : ConfCommand → PlantLists → Option (List ℕ) → Reply → Type 0
+AnswersOnPlantIfExtraExposed (Plain command) p extra made = AnswersConfCommandWithoutExtra command p made
+AnswersOnPlantIfExtraExposed (WithExtra file command) p extra made =
+    IfSome extra (λ x. AnswersOrRefusesTooLong (nat_le (length x) (extra_limit command)) command p x made)
 
 -- Holds if a reply answers a command on a plant and the extra input. If there are refusals instead
 -- of a plant, it has to refuse by them.
-abbrev pub AnswersOnPlantOrRefuses : Command → Result PlantLists Refusals → Option (List ℕ) → Reply → Type 0
+abbrev pub AnswersOnPlantOrRefuses : ConfCommand → Result PlantLists Refusals → Option (List ℕ) → Reply → Type 0
 AnswersOnPlantOrRefuses command (Err refusals) extra made = made ≡ all_or_first_refusal_reply command refusals
-AnswersOnPlantOrRefuses command (Ok p) extra made = AnswersOnPlantIfExtraExposed (plan_of command).extra command p extra made
-
--- Holds if a reply answers a command on a configuration whose rules are checked in these stages;
--- `None` if the command reads none. If the configuration is read but not exposed, any reply will
--- do.
-abbrev pub AnswersIfConfExposed : Option CheckedRuleStages → Command → Option (List ℕ) → Option (List ℕ) → Reply → Type 0
-AnswersIfConfExposed None command conf extra made = AnswersWithoutConf command made
-AnswersIfConfExposed (Some stages) command conf extra made =
-    IfSome conf (λ bytes. AnswersOnPlantOrRefuses command (plant_or_refusals_of_conf stages bytes) extra made)
+AnswersOnPlantOrRefuses command (Ok p) extra made = AnswersOnPlantIfExtraExposed command p extra made
 
 -- Holds if a reply answers these inputs: the command that the arguments give, the configuration and
--- the extra input. Without a command, it has to be the usage error.
+-- the extra input. If a configuration is read but not exposed, any reply will do. Without a
+-- command, it has to be the usage error.
 abbrev pub IsAnswerTo : Option Command → Option (List ℕ) → Option (List ℕ) → Reply → Type 0
 IsAnswerTo None conf extra made = made ≡ reply Usage []
-IsAnswerTo (Some command) conf extra made = AnswersIfConfExposed (plan_of command).stages command conf extra made
+IsAnswerTo (Some (Conf columns command)) conf extra made =
+    IfSome conf (λ bytes. AnswersOnPlantOrRefuses command (plant_or_refusals_of_conf (stages_of columns command) bytes) extra made)
+IsAnswerTo (Some (Stations stations command)) conf extra made = AnswersWithoutConf stations command made
 
 -- The plan of a command; without a command nothing is read and no certificate is written.
 abbrev pub command_plan_or_empty : Option Command → CommandPlan

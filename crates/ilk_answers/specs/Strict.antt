@@ -10,7 +10,10 @@ use Rattle.ilk_engine.specs.declared.verdict.Verdict.TheVariants.{Safe}
 use Rattle.ilk_words.specs.declared.command.ColumnRuleMode.TheVariants.{Strict, Free}
 use Rattle.ilk_words.specs.declared.command.Command.{Command}
 use Rattle.ilk_words.specs.declared.command.ColumnRuleMode.{ColumnRuleMode}
-use Rattle.ilk_words.specs.declared.command.Command.TheVariants.{Check, Verify, Table, Drive}
+use Rattle.ilk_words.specs.declared.command.Command.TheVariants.{Conf}
+use Rattle.ilk_words.specs.declared.command.ConfCommand.TheVariants.{Plain, WithExtra}
+use Rattle.ilk_words.specs.declared.command.ExtraCommand.TheVariants.{Drive}
+use Rattle.ilk_words.specs.declared.command.ConfCommandWithoutExtra.TheVariants.{Check, Verify, Table}
 use Rattle.ilk_words.specs.declared.plan.CheckedRuleStages.TheVariants.{All}
 use Rattle.ilk_plant.specs.declared.draft.NetDraft.{NetDraft}
 use Rattle.ilk_plant.specs.declared.draft.TableDraft.{TableDraft}
@@ -74,7 +77,7 @@ SaysSafeAtOneOrSpent p depth conflicts made = ReplyCertifiesSafeAtOne p depth co
 pub record DriveReportsNoHazard (run conf : List ℕ) (extra : Option (List ℕ)) (made : Reply) : Type 0 where
   pub scenario : List ℕ
   pub whole : IfSome extra (λ bytes. scenario ≡ bytes)
-  pub answer : IsAnswerTo (Some (Drive Strict run)) (Some conf) (Some scenario) made
+  pub answer : IsAnswerTo (Some (Conf Strict (WithExtra run Drive))) (Some conf) (Some scenario) made
   pub safe : made.status ≢ Unsafe
 
 -- Holds if the configuration breaks no rule of the form (F), and a reply has the valid table of its
@@ -89,13 +92,14 @@ pub record ReplyHasTableOfConf (columns : ColumnRuleMode) (conf : List ℕ) (mad
 -- `extra` are `None` if the bytes of that input aren't exposed to contracts.
 pub record ReplyHasStrictGuarantees (asked : Option Command) (conf extra : Option (List ℕ)) (made : Reply) : Type 0 where
   -- If `check` returns `Good`, the plant is safe for runs of any length.
-  pub check : asked ≡ Some (Check Strict) → made.status ≡ Good → IfSome conf IsCleanAndKeepsInvariant
+  pub check : asked ≡ Some (Conf Strict (Plain Check)) → made.status ≡ Good → IfSome conf IsCleanAndKeepsInvariant
   -- If `check` refuses only by C4, C5, C6 and C8, the plant is safe for runs of any length.
-  pub deviations : asked ≡ Some (Check Strict) → made.status ≡ Refused → LinesHaveBeginnings harmless_refusal_beginnings made.report → IfSome conf HasSafePlantDespiteColumns
+  pub deviations : asked ≡ Some (Conf Strict (Plain Check)) → made.status ≡ Refused → LinesHaveBeginnings harmless_refusal_beginnings made.report → IfSome conf HasSafePlantDespiteColumns
   -- If no rule is broken, `verify` reports `safe k=1` or spent conflicts.
-  pub verify : (depth conflicts : ℕ) (cert : List ℕ) → asked ≡ Some (Verify Strict depth conflicts cert) → (bytes : List ℕ) (p : PlantLists) → conf ≡ Some bytes → IsStrictlyCleanWithPlant bytes p → SaysSafeAtOneOrSpent p depth conflicts made
+  pub verify : (depth conflicts : ℕ) (cert : List ℕ) → asked ≡ Some (Conf Strict (Plain (Verify depth conflicts cert))) → (bytes : List ℕ) (p : PlantLists) → conf ≡ Some bytes → IsStrictlyCleanWithPlant bytes p →
+      SaysSafeAtOneOrSpent p depth conflicts made
   -- If `table` returns `Good`, its table breaks no rule but C7. With strict columns it breaks none,
   -- and its plant is safe for runs of any length.
-  pub table : (columns : ColumnRuleMode) → asked ≡ Some (Table columns) → made.status ≡ Good → IfSome conf (λ bytes. ReplyHasTableOfConf columns bytes made)
+  pub table : (columns : ColumnRuleMode) → asked ≡ Some (Conf columns (Plain Table)) → made.status ≡ Good → IfSome conf (λ bytes. ReplyHasTableOfConf columns bytes made)
   -- `drive` reports no hazard.
-  pub drive : (run bytes : List ℕ) → asked ≡ Some (Drive Strict run) → conf ≡ Some bytes → DriveReportsNoHazard run bytes extra made
+  pub drive : (run bytes : List ℕ) → asked ≡ Some (Conf Strict (WithExtra run Drive)) → conf ≡ Some bytes → DriveReportsNoHazard run bytes extra made

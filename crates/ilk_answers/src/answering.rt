@@ -1,9 +1,10 @@
-ghost use Rattle.std.specs.Prelude.{◌≡◌, ◌^◌, ◌<◌, ℕ, List, [], None, true, false, IfOk, IsTrue, is_some, length};
-ghost use Rattle.ilk_answers.specs.Answer.{AnswersPlantAndExtra, AnswersWithoutConf};
-ghost use Rattle.ilk_answers.specs.Reader.{ReaderHasReadExtraInput, is_audit};
+ghost use Rattle.std.specs.Prelude.{◌^◌, ◌<◌, ℕ, List, false, IfOk, IsTrue, length};
+ghost use Rattle.ilk_answers.specs.Answer.{AnswersConfCommandWithoutExtra, AnswersExtraCommand, AnswersWithoutConf};
+ghost use Rattle.ilk_answers.specs.Reader.{ReaderHasReadExtraInput, has_query_within_limits};
 ghost use Rattle.ilk_answers.specs.Reply.{HasAllowedStatusAndCertificate};
-ghost use Rattle.ilk_words.specs.Limits.{within_option_limits};
-ghost use Rattle.ilk_words.specs.Plan.{plan_of};
+ghost use Rattle.ilk_words.specs.Limits.{within_demo_option_limits, within_plain_option_limits, within_station_limits};
+ghost use Rattle.ilk_words.specs.Plan.{may_certify, may_certify_stations};
+ghost use Rattle.ilk_words.specs.declared.command.ExtraCommand.{ExtraCommand};
 
 use crate::audit::audit_reply;
 use crate::drive::drive_reply;
@@ -15,93 +16,81 @@ use crate::table::table_reply;
 use crate::verify::verify_reply;
 use crate::{ExtraInputReader, Reply, Status};
 use ilk_plant::Plant;
-use ilk_words::Command;
+use ilk_words::{ConfCommand, ConfCommandWithoutExtra, StationsCommand};
 use std::alloc::{AllocError, Global};
 
-fn text_reply(
+/// Returns the reply of `command` on `plant`, for a command that reads only a configuration.
+pub fn answer_without_extra(
     alloc: Global,
-    command: &Command,
+    command: &ConfCommandWithoutExtra,
     plant: &Plant,
-    text: &[u8],
 ) -> Result<Reply, AllocError>
-    requires options { IsTrue (within_option_limits command.now) }
-    requires over { is_some (plan_of command.now).stages ≡ true }
-    requires text { is_audit command.now ≡ false }
-    ensures reply { IfOk result (AnswersPlantAndExtra command.now plant.now text.now) }
-    ensures planned { IfOk result (HasAllowedStatusAndCertificate (plan_of command.now)) }
+    requires { IsTrue (within_plain_option_limits command.now) }
+    ensures reply { IfOk result (AnswersConfCommandWithoutExtra command.now plant.now) }
+    ensures planned { IfOk result
+        (HasAllowedStatusAndCertificate (may_certify (ConfCommand.Plain command.now))) }
 {
     match command {
-        Command::Check { .. } => {
+        ConfCommandWithoutExtra::Check => {
             let line = String::from_str(alloc, "clean\n")?;
             Ok(Reply::with_report(alloc, Status::Good, line))
         }
-        Command::Verify {
+        ConfCommandWithoutExtra::Verify {
             depth,
             conflicts,
             ..
         } => verify_reply(alloc, plant, *depth, *conflicts),
-        Command::Replay { .. } => replay_reply(alloc, plant, text),
-        Command::Table { .. } => table_reply(alloc, plant),
-        Command::Export { query, number, .. } => export_reply(alloc, plant, *query, *number),
-        Command::Rup { query, number, .. } => query_rup_reply(alloc, plant, *query, *number, text),
-        Command::Drive { .. } => drive_reply(alloc, plant, text),
-        Command::Audit { .. } | Command::Make { .. } | Command::Demo { .. } => unreachable!(),
+        ConfCommandWithoutExtra::Table => table_reply(alloc, plant),
+        ConfCommandWithoutExtra::Export { query, number } => export_reply(
+            alloc, plant, *query, *number,
+        ),
     }
 }
 
-/// Returns the reply of `command` on `plant`, for a command that reads only a configuration.
-#[tactic(auto, using(crate::proofs::Readers::reads_no_certificate))]
-pub fn answer_without_extra(
-    alloc: Global,
-    command: &Command,
-    plant: &Plant,
-) -> Result<Reply, AllocError>
-    requires options { IsTrue (within_option_limits command.now) }
-    requires over { is_some (plan_of command.now).stages ≡ true }
-    requires no_more { (plan_of command.now).extra ≡ None }
-    ensures reply { IfOk result (AnswersPlantAndExtra command.now plant.now []) }
-    ensures planned { IfOk result (HasAllowedStatusAndCertificate (plan_of command.now)) }
-{
-    text_reply(alloc, command, plant, &[])
-}
-
-/// Returns the reply of a command on `plant` and on the bytes that `reader` was fed.
+/// Returns the reply on `plant` and on the bytes that `reader` was fed, for the command for which
+/// `reader` was made.
 pub fn answer(
     alloc: Global,
-    command: &Command,
     plant: &Plant,
     reader: ExtraInputReader<'_>,
 ) -> Result<Reply, AllocError>
-    requires options { IsTrue (within_option_limits command.now) }
-    requires over { is_some (plan_of command.now).stages ≡ true }
-    requires read { (bytes : List ℕ) × ReaderHasReadExtraInput command.now plant.now reader bytes }
+    requires { IsTrue (has_query_within_limits reader) }
     ensures reply { IfOk result
-        (λ made. (bytes : List ℕ) →
-        ReaderHasReadExtraInput command.now plant.now reader.entry bytes →
-        length bytes < 2 ^ 40 → AnswersPlantAndExtra command.now plant.now bytes made) }
-    ensures planned { IfOk result (HasAllowedStatusAndCertificate (plan_of command.now)) }
+        (λ made. (command : ExtraCommand) (bytes : List ℕ) →
+        ReaderHasReadExtraInput command plant.now reader.entry bytes →
+        length bytes < 2 ^ 40 → AnswersExtraCommand command plant.now bytes made) }
+    ensures planned { IfOk result (HasAllowedStatusAndCertificate false) }
 {
     match reader {
-        ExtraInputReader::Text(text) => text_reply(alloc, command, plant, text.as_slice()),
         ExtraInputReader::Certificate(audit) => audit_reply(alloc, plant, audit),
+        ExtraInputReader::Run(text) => replay_reply(alloc, plant, text.as_slice()),
+        ExtraInputReader::Refutation {
+            query,
+            number,
+            text,
+        } => query_rup_reply(alloc, plant, query, number, text.as_slice()),
+        ExtraInputReader::Scenario(text) => drive_reply(alloc, plant, text.as_slice()),
     }
 }
 
-/// Returns the reply of `make` or `demo`, which read no configuration.
-pub fn answer_without_conf(alloc: Global, command: &Command) -> Result<Reply, AllocError>
-    requires options { IsTrue (within_option_limits command.now) }
-    requires alone { (plan_of command.now).stages ≡ None }
-    ensures reply { IfOk result (AnswersWithoutConf command.now) }
-    ensures planned { IfOk result (HasAllowedStatusAndCertificate (plan_of command.now)) }
+/// Returns the reply of `make` or `demo`, on a generated line of `stations` stations.
+pub fn answer_without_conf(
+    alloc: Global,
+    stations: u32,
+    command: &StationsCommand,
+) -> Result<Reply, AllocError>
+    requires stations { IsTrue (within_station_limits stations) }
+    requires options { IsTrue (within_demo_option_limits command.now) }
+    ensures reply { IfOk result (AnswersWithoutConf stations command.now) }
+    ensures planned { IfOk result
+        (HasAllowedStatusAndCertificate (may_certify_stations command.now)) }
 {
     match command {
-        Command::Make { stations } => stations_conf_reply(alloc, *stations),
-        Command::Demo {
-            stations,
+        StationsCommand::Make => stations_conf_reply(alloc, stations),
+        StationsCommand::Demo {
             depth,
             conflicts,
             ..
-        } => demo_verdict_reply(alloc, *stations, *depth, *conflicts),
-        _ => unreachable!(),
+        } => demo_verdict_reply(alloc, stations, *depth, *conflicts),
     }
 }

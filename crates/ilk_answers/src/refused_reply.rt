@@ -1,12 +1,11 @@
-ghost use Rattle.std.specs.Prelude.{◌≡◌, ◌++◌, IfOk, string_bytes};
+ghost use Rattle.std.specs.Prelude.{◌≡◌, ◌++◌, false, IfOk, string_bytes};
 ghost use Rattle.ilk_answers.specs.Answer.{refusal_lines_of_broken_rules, all_or_first_refusal_reply};
 ghost use Rattle.ilk_answers.specs.Refusal.{refusal_line};
 ghost use Rattle.ilk_answers.specs.Reply.{HasAllowedStatusAndCertificate};
-ghost use Rattle.ilk_words.specs.Plan.{plan_of};
 
 use crate::refusal_text::refusal_line;
 use crate::{Refusal, Refusals, Reply, Status};
-use ilk_words::Command;
+use ilk_words::{ConfCommand, ConfCommandWithoutExtra};
 use std::alloc::{AllocError, Global};
 
 fn refusal_lines(alloc: Global, refusals: &Refusals) -> Result<String, AllocError>
@@ -24,13 +23,17 @@ fn refusal_lines(alloc: Global, refusals: &Refusals) -> Result<String, AllocErro
 
 /// Returns the reply of `command` to a refused configuration: `check` lists all refusals, every
 /// other command only the first.
-pub fn refuse(alloc: Global, command: &Command, refusals: &Refusals) -> Result<Reply, AllocError>
+pub fn refuse(
+    alloc: Global,
+    command: &ConfCommand,
+    refusals: &Refusals,
+) -> Result<Reply, AllocError>
     ensures reply { IfOk result (λ made. made ≡
         all_or_first_refusal_reply command.now refusals.now) }
-    ensures planned { IfOk result (HasAllowedStatusAndCertificate (plan_of command.now)) }
+    ensures planned { IfOk result (HasAllowedStatusAndCertificate false) }
 {
     match command {
-        Command::Check { .. } => {
+        ConfCommand::Plain(ConfCommandWithoutExtra::Check) => {
             let lines = refusal_lines(alloc, refusals)?;
             Ok(Reply::with_report(alloc, Status::Refused, lines))
         }

@@ -1,7 +1,10 @@
 //! The meaning of command-line arguments, as `clap` documents it.
 use crate::parts::words;
 use ilk_base::Text;
-use ilk_words::{Command, names_of, parse_arguments};
+use ilk_words::{
+    ColumnRuleMode, Command, ConfCommand, ConfCommandWithoutExtra, ExtraCommand, StationsCommand,
+    names_of, parse_arguments,
+};
 use std::alloc::{AllocError, Global};
 use std::test::Fail;
 
@@ -15,9 +18,32 @@ fn shown(alloc: Global, line: &str) -> Result<String, AllocError> {
 
 fn shown_command(alloc: Global, command: Command) -> Result<String, AllocError> {
     match command {
-        Command::Check { columns } => format!(in alloc; "check {columns:?}"),
-        Command::Verify {
-            columns,
+        Command::Conf { columns, command } => match command {
+            ConfCommand::Plain(command) => shown_plain(alloc, columns, command),
+            ConfCommand::WithExtra { file, command } => shown_extra(alloc, columns, file, command),
+        },
+        Command::Stations { stations, command } => match command {
+            StationsCommand::Make => format!(in alloc; "make {stations}"),
+            StationsCommand::Demo {
+                depth,
+                conflicts,
+                cert,
+            } => {
+                let cert = cert.into_string();
+                format!(in alloc; "demo {stations} {depth} {conflicts} '{cert}'")
+            }
+        },
+    }
+}
+
+fn shown_plain(
+    alloc: Global,
+    columns: ColumnRuleMode,
+    command: ConfCommandWithoutExtra,
+) -> Result<String, AllocError> {
+    match command {
+        ConfCommandWithoutExtra::Check => format!(in alloc; "check {columns:?}"),
+        ConfCommandWithoutExtra::Verify {
             depth,
             conflicts,
             cert,
@@ -25,43 +51,27 @@ fn shown_command(alloc: Global, command: Command) -> Result<String, AllocError> 
             let cert = cert.into_string();
             format!(in alloc; "verify {columns:?} {depth} {conflicts} '{cert}'")
         }
-        Command::Audit { columns, cert } => {
-            let cert = cert.into_string();
-            format!(in alloc; "audit {columns:?} '{cert}'")
+        ConfCommandWithoutExtra::Table => format!(in alloc; "table {columns:?}"),
+        ConfCommandWithoutExtra::Export { query, number } => {
+            format!(in alloc; "export {columns:?} {query:?} {number}")
         }
-        Command::Replay { columns, run } => {
-            let run = run.into_string();
-            format!(in alloc; "replay {columns:?} '{run}'")
+    }
+}
+
+fn shown_extra(
+    alloc: Global,
+    columns: ColumnRuleMode,
+    file: Text,
+    command: ExtraCommand,
+) -> Result<String, AllocError> {
+    let file = file.into_string();
+    match command {
+        ExtraCommand::Audit => format!(in alloc; "audit {columns:?} '{file}'"),
+        ExtraCommand::Replay => format!(in alloc; "replay {columns:?} '{file}'"),
+        ExtraCommand::Rup { query, number } => {
+            format!(in alloc; "rup {columns:?} {query:?} {number} '{file}'")
         }
-        Command::Make { stations } => format!(in alloc; "make {stations}"),
-        Command::Demo {
-            stations,
-            depth,
-            conflicts,
-            cert,
-        } => {
-            let cert = cert.into_string();
-            format!(in alloc; "demo {stations} {depth} {conflicts} '{cert}'")
-        }
-        Command::Table { columns } => format!(in alloc; "table {columns:?}"),
-        Command::Export {
-            columns,
-            query,
-            number,
-        } => format!(in alloc; "export {columns:?} {query:?} {number}"),
-        Command::Rup {
-            columns,
-            query,
-            number,
-            cert,
-        } => {
-            let cert = cert.into_string();
-            format!(in alloc; "rup {columns:?} {query:?} {number} '{cert}'")
-        }
-        Command::Drive { columns, run } => {
-            let run = run.into_string();
-            format!(in alloc; "drive {columns:?} '{run}'")
-        }
+        ExtraCommand::Drive => format!(in alloc; "drive {columns:?} '{file}'"),
     }
 }
 

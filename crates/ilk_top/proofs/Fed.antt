@@ -1,12 +1,12 @@
 -- The bytes of a source that a reader was fed by successive calls.
-use Rattle.std.proofs.Common.{◌≡◌, ℕ, ◌+◌, ◌≤◌, IfErr, IfOk, Option, Result, Ok, Err, List, ◌++◌, length, append_assoc, ap, subst, sym, length-append, arith}
+use Rattle.std.proofs.Common.{◌≡◌, ◌∙◌, ℕ, ◌+◌, ◌<◌, ◌≤◌, IfErr, IfOk, Option, Some, None, Result, Ok, Err, List, [], ◌++◌, length, take, append_assoc, append-nil, ap, subst, sym, length-append, arith}
 use Rattle.ilk_answers.specs.Reader.{ReaderHasReadExtraInput, ReaderWasFedBytes}
 use Rattle.ilk_answers.specs.declared.reader.ExtraInputReader.{ExtraInputReader}
 use Rattle.ilk_io.proofs.Taken.{Consumes-then}
 use Rattle.ilk_io.specs.ReadError.{ReadErrorHasCause}
 use Rattle.ilk_io.specs.declared.reading.ReadError.{ReadError}
 use Rattle.ilk_io.specs.declared.reading.ReadError.TheVariants.{TooLong}
-use Rattle.ilk_io.specs.Source.{HasMoreThan, Consumes, ConsumesAtMost}
+use Rattle.ilk_io.specs.Source.{HasMoreThan, IsAllLeft, IsAtEnd, Consumes, ConsumesAtMost}
 use Rattle.ilk_top.specs.Feeding.{FedWholeSourceWithinLimit}
 
 ReaderWasFedBytes-then : (first second third : ExtraInputReader) (front back : List ℕ) → ReaderWasFedBytes first second front → ReaderWasFedBytes second third back → ReaderWasFedBytes first third (front ++ back)
@@ -38,6 +38,26 @@ Fed-then old new after before reader count piece n fed takes within = (
   omega (arith, length-append fed.done piece, fed.counted, within),
   Consumes-then old new after fed.done piece fed.takes takes,
 )
+
+all-left : (old after : Option (List ℕ)) (done : List ℕ) → Consumes old after (done ++ []) → IsAtEnd after → IsAllLeft old done
+all-left old None done takes end = subst (λ o. IsAllLeft o done) (sym takes) tt
+all-left old (Some rest) done takes end =
+    let same : (done ++ []) ++ rest ≡ done = simp (end, append-nil) in
+    subst (λ o. IsAllLeft o done) (sym takes) (sym same)
+
+-- A read that returns 0 ends the source: the reader was fed all of it.
+pub Fed-whole :
+    (old new after : Option (List ℕ)) (before reader : ExtraInputReader) (count limit n : ℕ) (into : List ℕ) →
+    Fed old new before reader count → Consumes new after (take n into) → (n ≡ 0 → 0 < length into → IsAtEnd after) →
+    n ≡ 0 → 0 < length into → count ≤ limit → FedWholeSourceWithinLimit old limit before reader
+Fed-whole old new after before reader count limit n into so_far takes end none wide within =
+    let nothing : Consumes new after [] = subst (λ k. Consumes new after (take k into)) none takes in
+    record {
+      bytes = so_far.done;
+      fed = so_far.fed;
+      whole = all-left old after so_far.done (Consumes-then old new after so_far.done [] so_far.takes nothing) (end none wide);
+      within = omega arith;
+    }
 
 pub kept-whole : {A E : Type 0} (left : Option (List ℕ)) (limit : ℕ) (before after kept : ExtraInputReader) (x : A) (read : Result A E) (result : Result ExtraInputReader E)
     → result ≡ Ok kept → IfOk result (λ k. (k ≡ after) × (read ≡ Ok x)) → IfOk read (λ _. FedWholeSourceWithinLimit left limit before after) → FedWholeSourceWithinLimit left limit before kept

@@ -13,7 +13,10 @@ use Rattle.ilk_answers.specs.declared.status.Status.TheVariants.{Good, Refused}
 use Rattle.ilk_words.specs.declared.command.ColumnRuleMode.{ColumnRuleMode}
 use Rattle.ilk_words.specs.declared.command.ColumnRuleMode.TheVariants.{Strict}
 use Rattle.ilk_words.specs.declared.command.Command.{Command}
-use Rattle.ilk_words.specs.declared.command.Command.TheVariants.{Check, Verify, Table, Drive}
+use Rattle.ilk_words.specs.declared.command.Command.TheVariants.{Conf}
+use Rattle.ilk_words.specs.declared.command.ConfCommand.TheVariants.{Plain, WithExtra}
+use Rattle.ilk_words.specs.declared.command.ExtraCommand.TheVariants.{Drive}
+use Rattle.ilk_words.specs.declared.command.ConfCommandWithoutExtra.TheVariants.{Check, Verify, Table}
 use Rattle.ilk_top.specs.Outside.{WritesAnswer}
 
 module _ {L O : Type 0} (cert_written : L → Option (List ℕ)) (cert_faults : L → ℕ) (out_written : O → Option (List ℕ)) (out_faults : O → ℕ) (status : Status) (cert_old cert_new : L) (out_old out_new : O) where
@@ -28,7 +31,7 @@ module _ {L O : Type 0} (cert_written : L → Option (List ℕ)) (cert_faults : 
   pub check-told : (asked : Option Command) (conf extra : Option (List ℕ)) →
       WritesAnswer (ReplyHasStrictGuarantees asked conf extra) cert_written cert_faults out_written out_faults status cert_old
       cert_new out_old out_new →
-      asked ≡ Some (Check Strict) → status ≡ Good → IfSome conf IsCleanAndKeepsInvariant
+      asked ≡ Some (Conf Strict (Plain Check)) → status ≡ Good → IfSome conf IsCleanAndKeepsInvariant
   check-told asked conf extra told is good =
       let t = told.whole (subst (λ s. is_fault_free_status s ≡ true) (sym good) refl) in t.1.check is (sym t.2 ∙ good)
 
@@ -36,7 +39,7 @@ module _ {L O : Type 0} (cert_written : L → Option (List ℕ)) (cert_faults : 
       WritesAnswer (ReplyHasStrictGuarantees asked conf extra) cert_written cert_faults out_written out_faults status cert_old
       cert_new out_old out_new →
       (allowed : List (List ℕ)) → list_all (has_one_of_beginnings harmless_refusal_beginnings) allowed ≡ true →
-      (before report : List ℕ) → asked ≡ Some (Check Strict) → status ≡ Refused →
+      (before report : List ℕ) → asked ≡ Some (Conf Strict (Plain Check)) → status ≡ Refused →
       out_written out_old ≡ Some before → out_written out_new ≡ Some (before ++ report) →
       LinesHaveBeginnings allowed report → IfSome conf HasSafePlantDespiteColumns
   deviations-told asked conf extra told allowed harmless before report is refused old new lines =
@@ -51,7 +54,7 @@ module _ {L O : Type 0} (cert_written : L → Option (List ℕ)) (cert_faults : 
       WritesAnswer (ReplyHasStrictGuarantees asked conf extra) cert_written cert_faults out_written out_faults status cert_old
       cert_new out_old out_new →
       (depth conflicts : ℕ) (name bytes : List ℕ) (p : PlantLists) →
-      asked ≡ Some (Verify Strict depth conflicts name) → conf ≡ Some bytes → IsStrictlyCleanWithPlant bytes p →
+      asked ≡ Some (Conf Strict (Plain (Verify depth conflicts name))) → conf ≡ Some bytes → IsStrictlyCleanWithPlant bytes p →
       WritesAnswer (SaysSafeAtOneOrSpent p depth conflicts) cert_written cert_faults out_written out_faults status
       cert_old cert_new out_old out_new
   verify-told asked conf extra told depth conflicts name bytes p is at clean =
@@ -60,7 +63,7 @@ module _ {L O : Type 0} (cert_written : L → Option (List ℕ)) (cert_faults : 
   pub table-told : (asked : Option Command) (conf extra : Option (List ℕ)) →
       WritesAnswer (ReplyHasStrictGuarantees asked conf extra) cert_written cert_faults out_written out_faults status cert_old
       cert_new out_old out_new →
-      (columns : ColumnRuleMode) → asked ≡ Some (Table columns) →
+      (columns : ColumnRuleMode) → asked ≡ Some (Conf columns (Plain Table)) →
       WritesAnswer (λ made. made.status ≡ Good → IfSome conf (λ bytes. ReplyHasTableOfConf columns bytes made)) cert_written
       cert_faults out_written out_faults status cert_old cert_new out_old out_new
   table-told asked conf extra told columns is =
@@ -69,7 +72,7 @@ module _ {L O : Type 0} (cert_written : L → Option (List ℕ)) (cert_faults : 
   pub drive-told : (asked : Option Command) (conf extra : Option (List ℕ)) →
       WritesAnswer (ReplyHasStrictGuarantees asked conf extra) cert_written cert_faults out_written out_faults status cert_old
       cert_new out_old out_new →
-      (name bytes : List ℕ) → asked ≡ Some (Drive Strict name) → conf ≡ Some bytes →
+      (name bytes : List ℕ) → asked ≡ Some (Conf Strict (WithExtra name Drive)) → conf ≡ Some bytes →
       WritesAnswer (DriveReportsNoHazard name bytes extra) cert_written cert_faults out_written out_faults status cert_old
       cert_new out_old out_new
   drive-told asked conf extra told name bytes is at =

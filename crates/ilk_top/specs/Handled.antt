@@ -6,7 +6,7 @@ use Rattle.ilk_answers.specs.Answer.{is_extra_reached_if_exposed, max_conf_bytes
 use Rattle.ilk_answers.specs.Status.{had_reply_to_write}
 use Rattle.ilk_answers.specs.declared.status.Status.{Status}
 use Rattle.ilk_answers.specs.declared.status.Status.TheVariants.{ReadFault, WriteFault}
-use Rattle.ilk_words.specs.declared.plan.CommandPlan.{CommandPlan}
+use Rattle.ilk_words.specs.Plan.{CommandPlan}
 use Rattle.ilk_top.specs.Outside.{ReadIfLimitElseUnchanged, FaultsRiseOnlyWith}
 
 -- Holds if a source was read as its plan says. Exactly one call of it failed if `fault` is

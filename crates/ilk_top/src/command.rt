@@ -5,8 +5,8 @@ ghost use Rattle.ilk_answers.specs.Status.{had_reply_to_write, is_fault_free_com
 ghost use Rattle.ilk_answers.specs.Strict.{ReplyHasStrictGuarantees};
 ghost use Rattle.ilk_top.specs.Handled.{SourcesAndSinksHandled, SinksFitStatus, SourcesReadAndFaultsCounted};
 ghost use Rattle.ilk_top.specs.Outside.{WritesAnswer};
-ghost use Rattle.ilk_words.specs.Limits.{within_option_limits};
-ghost use Rattle.ilk_words.specs.Plan.{plan_of};
+ghost use Rattle.ilk_words.specs.Limits.{within_conf_option_limits, within_option_limits};
+ghost use Rattle.ilk_words.specs.Plan.{may_certify, plan_of};
 
 use crate::conf_stage::read_plant_or_refusals;
 use crate::extra_stage::read_extra_and_reply;
@@ -14,27 +14,27 @@ use crate::no_reply::NoReply;
 use crate::writing::write_pending_output;
 use ilk_answers::{Reply, Status, answer_without_conf, refuse};
 use ilk_io::{Sink, Source};
-use ilk_words::{CheckedRuleStages, Command};
+use ilk_words::{ColumnRuleMode, Command, ConfCommand};
 use std::alloc::Global;
 
 fn conf_reply<C: Source, D: Source>(
     alloc: Global,
-    command: &Command,
-    stages: CheckedRuleStages,
+    columns: ColumnRuleMode,
+    command: &ConfCommand,
     conf: &mut C,
     extra: &mut D,
 ) -> Result<Reply, NoReply>
-    requires options { IsTrue (within_option_limits command.now) }
-    requires stages { (plan_of command.now).stages ≡ Some stages }
-    ensures reply { IfOk result
-        (IsAnswerTo (Some command.now) (C.left conf.old) (D.left extra.old)) }
-    ensures strict { IfOk result
-        (ReplyHasStrictGuarantees (Some command.now) (C.left conf.old) (D.left extra.old)) }
-    ensures planned { IfOk result (HasAllowedStatusAndCertificate (plan_of command.now)) }
+    requires { IsTrue (within_conf_option_limits command.now) }
+    ensures reply { IfOk result (IsAnswerTo (Some (Command.Conf columns command.now))
+        (C.left conf.old) (D.left extra.old)) }
+    ensures strict { IfOk result (ReplyHasStrictGuarantees (Some (Command.Conf columns command.now))
+        (C.left conf.old) (D.left extra.old)) }
+    ensures planned { IfOk result (HasAllowedStatusAndCertificate (may_certify command.now)) }
     ensures handled { SourcesReadAndFaultsCounted C.left C.faults D.left D.faults
-        (plan_of command.now)
-        (result ≡ Err NoReply.ReadFault) (is_ok result) conf.old conf.new extra.old extra.new }
+        (plan_of (Command.Conf columns command.now)) (result ≡ Err NoReply.ReadFault)
+        (is_ok result) conf.old conf.new extra.old extra.new }
 {
+    let stages = command.stages(columns);
     match read_plant_or_refusals(alloc, stages, conf)? {
         Ok(plant) => {
             plant.prove_is_plant();
@@ -62,14 +62,16 @@ fn command_reply<C: Source, D: Source>(
         (IsAnswerTo (Some command.now) (C.left conf.old) (D.left extra.old)) }
     ensures strict { IfOk result
         (ReplyHasStrictGuarantees (Some command.now) (C.left conf.old) (D.left extra.old)) }
-    ensures planned { IfOk result (HasAllowedStatusAndCertificate (plan_of command.now)) }
+    ensures planned { IfOk result (HasAllowedStatusAndCertificate (plan_of command.now).certifies) }
     ensures handled { SourcesReadAndFaultsCounted C.left C.faults D.left D.faults
         (plan_of command.now)
         (result ≡ Err NoReply.ReadFault) (is_ok result) conf.old conf.new extra.old extra.new }
 {
-    match command.plan().stages {
-        Some(stages) => conf_reply(alloc, command, stages, conf, extra),
-        None => Ok(answer_without_conf(alloc, command)?),
+    match command {
+        Command::Conf { columns, command } => conf_reply(alloc, *columns, command, conf, extra),
+        Command::Stations { stations, command } => Ok(answer_without_conf(
+            alloc, *stations, command,
+        )?),
     }
 }
 

@@ -1,16 +1,16 @@
-ghost use Rattle.std.specs.Prelude.{◌≡◌, ◌^◌, ◌<◌, true, IfErr, IfOk, IsTrue, Ok, Err, Some, is_ok, is_some};
+ghost use Rattle.std.specs.Prelude.{◌≡◌, ℕ, List, true, false, IfErr, IfOk, IsTrue, Ok, Err, Some, is_ok};
 ghost use Rattle.ilk_answers.specs.Besides.{AnswersForSomeExtraInput};
 ghost use Rattle.ilk_answers.specs.Reply.{HasAllowedStatusAndCertificate};
 ghost use Rattle.ilk_top.specs.Handled.{SourceReadAndFaultCounted};
-ghost use Rattle.ilk_words.specs.Limits.{within_option_limits};
-ghost use Rattle.ilk_words.specs.Plan.{plan_of};
+ghost use Rattle.ilk_words.specs.Limits.{within_conf_option_limits, within_extra_option_limits};
+ghost use Rattle.ilk_words.specs.Plan.{extra_limit, limit_if_extra, may_certify};
 
 use crate::no_reply::NoReply;
 use crate::pieces::feed_whole_source_to_reader;
 use ilk_answers::{ExtraInputReader, Reply, answer, answer_without_extra};
 use ilk_io::{ReadError, Source};
 use ilk_plant::Plant;
-use ilk_words::Command;
+use ilk_words::{ConfCommand, ExtraCommand};
 use std::alloc::Global;
 
 fn unless_failed<T: Drop>(read: Result<(), ReadError>, into: T) -> Result<T, ReadError>
@@ -25,26 +25,24 @@ fn unless_failed<T: Drop>(read: Result<(), ReadError>, into: T) -> Result<T, Rea
 
 fn reply_to_extra<D: Source>(
     alloc: Global,
-    command: &Command,
+    command: ExtraCommand,
     plant: &Plant,
-    limit: u64,
     extra: &mut D,
 ) -> Result<Reply, NoReply>
-    requires options { IsTrue (within_option_limits command.now) }
-    requires over { is_some (plan_of command.now).stages ≡ true }
-    requires limit { (plan_of command.now).extra ≡ Some limit }
-    requires small { limit < 2 ^ 40 }
-    ensures reply { IfOk result (AnswersForSomeExtraInput command.now (Ok plant.now)
-        (D.left extra.old)) }
-    ensures planned { IfOk result (HasAllowedStatusAndCertificate (plan_of command.now)) }
+    requires { IsTrue (within_extra_option_limits command) }
+    ensures reply { IfOk result (λ made. (file : List ℕ) →
+        AnswersForSomeExtraInput (ConfCommand.WithExtra file command) (Ok plant.now)
+        (D.left extra.old) made) }
+    ensures planned { IfOk result (HasAllowedStatusAndCertificate false) }
     ensures handled { SourceReadAndFaultCounted D.left D.faults (Some true)
-        (plan_of command.now).extra
+        (Some (extra_limit command))
         (result ≡ Err NoReply.ReadFault) (is_ok result) extra.old extra.new }
 {
+    let limit = command.limit();
     let mut reader = ExtraInputReader::new(alloc, command, plant)?;
     let read = feed_whole_source_to_reader(extra, limit, &mut reader);
     match unless_failed(read, reader) {
-        Ok(reader) => Ok(answer(alloc, command, plant, reader)?),
+        Ok(reader) => Ok(answer(alloc, plant, reader)?),
         Err(ReadError::TooLong) => Ok(Reply::too_long(alloc)?),
         Err(ReadError::Failed) => Err(NoReply::ReadFault),
         Err(ReadError::OutOfMemory) => Err(NoReply::OutOfMemory),
@@ -56,21 +54,20 @@ fn reply_to_extra<D: Source>(
 /// `ReadFault` at the first call of `extra` that fails.
 pub(crate) fn read_extra_and_reply<D: Source>(
     alloc: Global,
-    command: &Command,
+    command: &ConfCommand,
     plant: &Plant,
     extra: &mut D,
 ) -> Result<Reply, NoReply>
-    requires options { IsTrue (within_option_limits command.now) }
-    requires over { is_some (plan_of command.now).stages ≡ true }
+    requires { IsTrue (within_conf_option_limits command.now) }
     ensures reply { IfOk result (AnswersForSomeExtraInput command.now (Ok plant.now)
         (D.left extra.old)) }
-    ensures planned { IfOk result (HasAllowedStatusAndCertificate (plan_of command.now)) }
+    ensures planned { IfOk result (HasAllowedStatusAndCertificate (may_certify command.now)) }
     ensures handled { SourceReadAndFaultCounted D.left D.faults (Some true)
-        (plan_of command.now).extra
+        (limit_if_extra command.now)
         (result ≡ Err NoReply.ReadFault) (is_ok result) extra.old extra.new }
 {
-    match command.plan().extra {
-        Some(limit) => reply_to_extra(alloc, command, plant, limit, extra),
-        None => Ok(answer_without_extra(alloc, command, plant)?),
+    match command {
+        ConfCommand::Plain(command) => Ok(answer_without_extra(alloc, command, plant)?),
+        ConfCommand::WithExtra { command, .. } => reply_to_extra(alloc, *command, plant, extra),
     }
 }

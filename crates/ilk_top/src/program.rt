@@ -10,7 +10,9 @@ ghost use Rattle.ilk_words.specs.Words.{parsed_command};
 use crate::command::perform;
 use ilk_answers::Status;
 use ilk_io::{Sink, Source};
-use ilk_words::{ColumnRuleMode, Command, parse_arguments};
+use ilk_words::{
+    ColumnRuleMode, Command, ConfCommand, ConfCommandWithoutExtra, ExtraCommand, parse_arguments,
+};
 use std::alloc::Global;
 
 /// Executes the command that the arguments `words` give, the program's name first, and returns its
@@ -41,14 +43,18 @@ pub fn run<C: Source, D: Source, O: Sink, L: Sink>(
     // If `check` returns `Good`, the configuration breaks no rule. Runs of any length from the
     // initial state keep the invariant.
     ensures strict_check { let asked = parsed_command (map string_bytes words.now.items) in
-        asked ≡ Some (Command.Check ColumnRuleMode.Strict) → result ≡ Status.Good →
+        asked ≡ Some (Command.Conf ColumnRuleMode.Strict
+        (ConfCommand.Plain ConfCommandWithoutExtra.Check)) →
+        result ≡ Status.Good →
         IfSome (C.left conf.old) IsCleanAndKeepsInvariant }
 
     // If `check` returns `Refused`, and each line that it wrote refuses by C4, C5, C6 or C8, the
     // plant is safe: runs of any length from the initial state keep the invariant. Says nothing
     // after a write fault, since a cut report may have lost a line.
     ensures strict_deviations { let asked = parsed_command (map string_bytes words.now.items) in
-        (before report : List ℕ) → asked ≡ Some (Command.Check ColumnRuleMode.Strict) →
+        (before report : List ℕ) →
+        asked ≡ Some (Command.Conf ColumnRuleMode.Strict
+        (ConfCommand.Plain ConfCommandWithoutExtra.Check)) →
         result ≡ Status.Refused → O.written out.old ≡ Some before →
         O.written out.new ≡ Some (before ++ report) →
         LinesHaveBeginnings harmless_refusal_beginnings report →
@@ -59,7 +65,8 @@ pub fn run<C: Source, D: Source, O: Sink, L: Sink>(
     // answer was written up to the fault.
     ensures strict_verify { let asked = parsed_command (map string_bytes words.now.items) in
         (depth conflicts : ℕ) (name : List ℕ) (bytes : List ℕ) (p : PlantLists)
-        → asked ≡ Some (Command.Verify ColumnRuleMode.Strict depth conflicts name) →
+        → asked ≡ Some (Command.Conf ColumnRuleMode.Strict
+        (ConfCommand.Plain (ConfCommandWithoutExtra.Verify depth conflicts name))) →
         C.left conf.old ≡ Some bytes → IsStrictlyCleanWithPlant bytes p
         → WritesAnswer (SaysSafeAtOneOrSpent p depth conflicts) L.written L.faults O.written
         O.faults
@@ -69,7 +76,8 @@ pub fn run<C: Source, D: Source, O: Sink, L: Sink>(
     // table of its routes, and breaks no rule but C7. With strict columns it breaks none, and its
     // plant is safe for runs of any length.
     ensures table { let asked = parsed_command (map string_bytes words.now.items) in
-        (columns : ColumnRuleMode) → asked ≡ Some (Command.Table columns)
+        (columns : ColumnRuleMode) →
+        asked ≡ Some (Command.Conf columns (ConfCommand.Plain ConfCommandWithoutExtra.Table))
         → WritesAnswer
         (λ made. made.status ≡ Status.Good →
         IfSome (C.left conf.old) (λ bytes. ReplyHasTableOfConf columns bytes made)) L.written
@@ -78,7 +86,9 @@ pub fn run<C: Source, D: Source, O: Sink, L: Sink>(
     // `drive` reports no hazard, even if `extra` does not expose its bytes. After a write fault, an
     // answer without a hazard was written up to the fault.
     ensures strict_drive { let asked = parsed_command (map string_bytes words.now.items) in
-        (name bytes : List ℕ) → asked ≡ Some (Command.Drive ColumnRuleMode.Strict name)
+        (name bytes : List ℕ) →
+        asked ≡ Some (Command.Conf ColumnRuleMode.Strict
+        (ConfCommand.WithExtra name ExtraCommand.Drive))
         → C.left conf.old ≡ Some bytes
         → WritesAnswer (DriveReportsNoHazard name bytes (D.left extra.old))
         L.written L.faults O.written O.faults result cert.old cert.new out.old out.new }

@@ -3,8 +3,12 @@ use Rattle.std.proofs.Common.{◌≡◌, refl, [], ◌∷◌, Some, None, codes}
 use Rattle.std.specs.Fmt.{digits}
 use Rattle.clap.proofs.OnLiterals.{clap_on_literals}
 use Rattle.ilk_words.specs.declared.command.ColumnRuleMode.TheVariants.{Strict, Free}
-use Rattle.ilk_words.specs.declared.command.Command.TheVariants.{Check, Verify, Audit, Replay, Make, Demo, Table, Export, Rup, Drive}
+use Rattle.ilk_words.specs.declared.command.Command.TheVariants.{Conf, Stations}
+use Rattle.ilk_words.specs.declared.command.ConfCommand.TheVariants.{Plain, WithExtra}
+use Rattle.ilk_words.specs.declared.command.ExtraCommand.TheVariants.{Audit, Replay, Rup, Drive}
+use Rattle.ilk_words.specs.declared.command.ConfCommandWithoutExtra.TheVariants.{Check, Verify, Table, Export}
 use Rattle.ilk_words.specs.declared.command.QueryKind.TheVariants.{Hazard, Step}
+use Rattle.ilk_words.specs.declared.command.StationsCommand.TheVariants.{Make, Demo}
 use Rattle.ilk_words.specs.Line.{app}
 use Rattle.ilk_words.specs.Words.{parsed_command}
 
@@ -16,15 +20,15 @@ program_alone : parsed_command (codes "irv" ∷ []) ≡ None
 unfolding clap_on_literals app
 program_alone = refl
 
-check_alone : parsed_command (codes "irv" ∷ codes "check" ∷ []) ≡ Some (Check Strict)
+check_alone : parsed_command (codes "irv" ∷ codes "check" ∷ []) ≡ Some (Conf Strict (Plain Check))
 unfolding clap_on_literals app
 check_alone = refl
 
-check_free : parsed_command (codes "irv" ∷ codes "--columns" ∷ codes "free" ∷ codes "check" ∷ []) ≡ Some (Check Free)
+check_free : parsed_command (codes "irv" ∷ codes "--columns" ∷ codes "free" ∷ codes "check" ∷ []) ≡ Some (Conf Free (Plain Check))
 unfolding clap_on_literals app
 check_free = refl
 
-check_strict : parsed_command (codes "irv" ∷ codes "check" ∷ codes "--columns=strict" ∷ []) ≡ Some (Check Strict)
+check_strict : parsed_command (codes "irv" ∷ codes "check" ∷ codes "--columns=strict" ∷ []) ≡ Some (Conf Strict (Plain Check))
 unfolding clap_on_literals app
 check_strict = refl
 
@@ -40,19 +44,19 @@ check_with_run : parsed_command (codes "irv" ∷ codes "check" ∷ codes "--run"
 unfolding clap_on_literals app
 check_with_run = refl
 
-replay_run : parsed_command (codes "irv" ∷ codes "replay" ∷ codes "--run" ∷ codes "r" ∷ []) ≡ Some (Replay Strict (codes "r"))
+replay_run : parsed_command (codes "irv" ∷ codes "replay" ∷ codes "--run" ∷ codes "r" ∷ []) ≡ Some (Conf Strict (WithExtra (codes "r") Replay))
 unfolding clap_on_literals app
 replay_run = refl
 
-replay_run_attached : parsed_command (codes "irv" ∷ codes "replay" ∷ codes "--run=r" ∷ codes "--columns" ∷ codes "free" ∷ []) ≡ Some (Replay Free (codes "r"))
+replay_run_attached : parsed_command (codes "irv" ∷ codes "replay" ∷ codes "--run=r" ∷ codes "--columns" ∷ codes "free" ∷ []) ≡ Some (Conf Free (WithExtra (codes "r") Replay))
 unfolding clap_on_literals app
 replay_run_attached = refl
 
-replay_run_empty : parsed_command (codes "irv" ∷ codes "replay" ∷ codes "--run=" ∷ []) ≡ Some (Replay Strict [])
+replay_run_empty : parsed_command (codes "irv" ∷ codes "replay" ∷ codes "--run=" ∷ []) ≡ Some (Conf Strict (WithExtra [] Replay))
 unfolding clap_on_literals app
 replay_run_empty = refl
 
-replay_run_hyphen : parsed_command (codes "irv" ∷ codes "replay" ∷ codes "--run" ∷ codes "-" ∷ []) ≡ Some (Replay Strict (codes "-"))
+replay_run_hyphen : parsed_command (codes "irv" ∷ codes "replay" ∷ codes "--run" ∷ codes "-" ∷ []) ≡ Some (Conf Strict (WithExtra (codes "-") Replay))
 unfolding clap_on_literals app
 replay_run_hyphen = refl
 
@@ -68,7 +72,7 @@ replay_run_without_value : parsed_command (codes "irv" ∷ codes "replay" ∷ co
 unfolding clap_on_literals app
 replay_run_without_value = refl
 
-command_after_escape : parsed_command (codes "irv" ∷ codes "--run" ∷ codes "r" ∷ codes "--" ∷ codes "replay" ∷ []) ≡ Some (Replay Strict (codes "r"))
+command_after_escape : parsed_command (codes "irv" ∷ codes "--run" ∷ codes "r" ∷ codes "--" ∷ codes "replay" ∷ []) ≡ Some (Conf Strict (WithExtra (codes "r") Replay))
 unfolding clap_on_literals app
 command_after_escape = refl
 
@@ -100,15 +104,15 @@ short_help : parsed_command (codes "irv" ∷ codes "check" ∷ codes "-h" ∷ []
 unfolding clap_on_literals app
 short_help = refl
 
-verify_by_default : parsed_command (codes "irv" ∷ codes "verify" ∷ codes "--cert" ∷ codes "c" ∷ []) ≡ Some (Verify Strict 4 100000 (codes "c"))
+verify_by_default : parsed_command (codes "irv" ∷ codes "verify" ∷ codes "--cert" ∷ codes "c" ∷ []) ≡ Some (Conf Strict (Plain (Verify 4 100000 (codes "c"))))
 unfolding clap_on_literals app digits
 verify_by_default = refl
 
-verify_with_numbers : parsed_command (codes "irv" ∷ codes "verify" ∷ codes "--depth" ∷ codes "16" ∷ codes "--conflicts=0" ∷ codes "--cert=c" ∷ []) ≡ Some (Verify Strict 16 0 (codes "c"))
+verify_with_numbers : parsed_command (codes "irv" ∷ codes "verify" ∷ codes "--depth" ∷ codes "16" ∷ codes "--conflicts=0" ∷ codes "--cert=c" ∷ []) ≡ Some (Conf Strict (Plain (Verify 16 0 (codes "c"))))
 unfolding clap_on_literals app digits
 verify_with_numbers = refl
 
-verify_with_spellings : parsed_command (codes "irv" ∷ codes "verify" ∷ codes "--depth" ∷ codes "007" ∷ codes "--conflicts" ∷ codes "+3" ∷ codes "--cert=c" ∷ []) ≡ Some (Verify Strict 7 3 (codes "c"))
+verify_with_spellings : parsed_command (codes "irv" ∷ codes "verify" ∷ codes "--depth" ∷ codes "007" ∷ codes "--conflicts" ∷ codes "+3" ∷ codes "--cert=c" ∷ []) ≡ Some (Conf Strict (Plain (Verify 7 3 (codes "c"))))
 unfolding clap_on_literals app digits
 verify_with_spellings = refl
 
@@ -128,7 +132,7 @@ verify_with_run : parsed_command (codes "irv" ∷ codes "verify" ∷ codes "--ce
 unfolding clap_on_literals app
 verify_with_run = refl
 
-export_hazard_0 : parsed_command (codes "irv" ∷ codes "export" ∷ codes "--query" ∷ codes "hazard" ∷ codes "--number" ∷ codes "0" ∷ []) ≡ Some (Export Strict Hazard 0)
+export_hazard_0 : parsed_command (codes "irv" ∷ codes "export" ∷ codes "--query" ∷ codes "hazard" ∷ codes "--number" ∷ codes "0" ∷ []) ≡ Some (Conf Strict (Plain (Export Hazard 0)))
 unfolding clap_on_literals app
 export_hazard_0 = refl
 
@@ -136,7 +140,7 @@ export_step_0 : parsed_command (codes "irv" ∷ codes "export" ∷ codes "--quer
 unfolding clap_on_literals app
 export_step_0 = refl
 
-export_step_1 : parsed_command (codes "irv" ∷ codes "export" ∷ codes "--query" ∷ codes "step" ∷ codes "--number" ∷ codes "1" ∷ []) ≡ Some (Export Strict Step 1)
+export_step_1 : parsed_command (codes "irv" ∷ codes "export" ∷ codes "--query" ∷ codes "step" ∷ codes "--number" ∷ codes "1" ∷ []) ≡ Some (Conf Strict (Plain (Export Step 1)))
 unfolding clap_on_literals app
 export_step_1 = refl
 
@@ -148,7 +152,7 @@ export_without_query : parsed_command (codes "irv" ∷ codes "export" ∷ codes 
 unfolding clap_on_literals app
 export_without_query = refl
 
-audit_named : parsed_command (codes "irv" ∷ codes "audit" ∷ codes "--cert" ∷ codes "c" ∷ []) ≡ Some (Audit Strict (codes "c"))
+audit_named : parsed_command (codes "irv" ∷ codes "audit" ∷ codes "--cert" ∷ codes "c" ∷ []) ≡ Some (Conf Strict (WithExtra (codes "c") Audit))
 unfolding clap_on_literals app
 audit_named = refl
 
@@ -156,7 +160,7 @@ audit_with_depth : parsed_command (codes "irv" ∷ codes "audit" ∷ codes "--ce
 unfolding clap_on_literals app
 audit_with_depth = refl
 
-make_16 : parsed_command (codes "irv" ∷ codes "make" ∷ codes "--stations" ∷ codes "16" ∷ []) ≡ Some (Make 16)
+make_16 : parsed_command (codes "irv" ∷ codes "make" ∷ codes "--stations" ∷ codes "16" ∷ []) ≡ Some (Stations 16 Make)
 unfolding clap_on_literals app
 make_16 = refl
 
@@ -168,15 +172,15 @@ make_with_columns : parsed_command (codes "irv" ∷ codes "make" ∷ codes "--st
 unfolding clap_on_literals app
 make_with_columns = refl
 
-demo_by_default : parsed_command (codes "irv" ∷ codes "demo" ∷ codes "--stations=2" ∷ codes "--cert=c" ∷ []) ≡ Some (Demo 2 4 100000 (codes "c"))
+demo_by_default : parsed_command (codes "irv" ∷ codes "demo" ∷ codes "--stations=2" ∷ codes "--cert=c" ∷ []) ≡ Some (Stations 2 (Demo 4 100000 (codes "c")))
 unfolding clap_on_literals app digits
 demo_by_default = refl
 
-table_free : parsed_command (codes "irv" ∷ codes "table" ∷ codes "--columns=free" ∷ []) ≡ Some (Table Free)
+table_free : parsed_command (codes "irv" ∷ codes "table" ∷ codes "--columns=free" ∷ []) ≡ Some (Conf Free (Plain Table))
 unfolding clap_on_literals app
 table_free = refl
 
-rup_step_1 : parsed_command (codes "irv" ∷ codes "rup" ∷ codes "--query=step" ∷ codes "--number=1" ∷ codes "--cert=c" ∷ []) ≡ Some (Rup Strict Step 1 (codes "c"))
+rup_step_1 : parsed_command (codes "irv" ∷ codes "rup" ∷ codes "--query=step" ∷ codes "--number=1" ∷ codes "--cert=c" ∷ []) ≡ Some (Conf Strict (WithExtra (codes "c") (Rup Step 1)))
 unfolding clap_on_literals app
 rup_step_1 = refl
 
@@ -188,6 +192,6 @@ rup_without_cert : parsed_command (codes "irv" ∷ codes "rup" ∷ codes "--quer
 unfolding clap_on_literals app
 rup_without_cert = refl
 
-drive_named : parsed_command (codes "irv" ∷ codes "drive" ∷ codes "--run" ∷ codes "s" ∷ []) ≡ Some (Drive Strict (codes "s"))
+drive_named : parsed_command (codes "irv" ∷ codes "drive" ∷ codes "--run" ∷ codes "s" ∷ []) ≡ Some (Conf Strict (WithExtra (codes "s") Drive))
 unfolding clap_on_literals app
 drive_named = refl

@@ -14,9 +14,7 @@ use Rattle.clap.specs.Faults.{action_fault, bundle_fault, bundle_step_fault, che
 use Rattle.clap.proofs.WalkLemmas.{list_any-map}
 use Rattle.clap.specs.declared.builder.action.ArgAction.{ArgAction}
 use Rattle.clap.specs.declared.builder.action.ArgAction.TheVariants.{Set, Append, SetTrue, SetFalse, Count}
-use Rattle.clap.specs.declared.builder.value_parser.ValueParser.TheVariants as parser
 use Rattle.clap.specs.declared.error.kind.ErrorKind.TheVariants as kind
-use Rattle.ilk_words.specs.Options.{reference_at_address_zero}
 use Rattle.ilk_words.specs.Places.{clap_arg_without_addresses, clap_args_without_addresses, clap_shape_without_addresses}
 use Rattle.ilk_words.proofs.WalkPlaces.{by_id, by_index, by_long, by_short, default_as, finishes, reacts, settles, value_as, values_as, walks, walks_on, word_meets}
 

@@ -20,8 +20,12 @@ use Rattle.ilk_words.specs.Options.{ParsedArgs, OptionSpec, cert_option, conflic
 use Rattle.ilk_words.specs.Queries.{query_exists}
 use Rattle.ilk_words.specs.Words.{command_from_args, has_only_own_options, command_if_only_own_options}
 use Rattle.ilk_words.specs.declared.command.Command.{Command}
-use Rattle.ilk_words.specs.declared.command.Command.TheVariants.{Check, Verify, Audit, Replay, Make, Demo, Table, Export, Rup, Drive}
+use Rattle.ilk_words.specs.declared.command.Command.TheVariants.{Conf, Stations}
+use Rattle.ilk_words.specs.declared.command.ConfCommand.TheVariants.{Plain, WithExtra}
+use Rattle.ilk_words.specs.declared.command.ExtraCommand.TheVariants.{Audit, Replay, Rup, Drive}
+use Rattle.ilk_words.specs.declared.command.ConfCommandWithoutExtra.TheVariants.{Check, Verify, Table, Export}
 use Rattle.ilk_words.specs.declared.command.QueryKind.{QueryKind}
+use Rattle.ilk_words.specs.declared.command.StationsCommand.TheVariants.{Make, Demo}
 use Rattle.ilk_words.specs.declared.limits.TheConstants.{DEFAULT_TOTAL_CONFLICTS, DEFAULT_DEPTH, MAX_TOTAL_CONFLICTS, MAX_DEPTH, MAX_QUERY_EVENTS, MAX_STATIONS}
 
 pub number_read : (least most : ℕ) (value : List ℕ) → IsUnsignedIn least most value → Some (digits_value 10 (without_leading_plus value)) ≡ number_of_value (number_between least most) value
@@ -54,7 +58,7 @@ KeepsLimits c = (line : ParsedArgs) (command : Command) → c.command line ≡ S
 check_keeps : KeepsLimits check_command_spec
 check_keeps line command e =
     let columns = bind_some (column_rule_mode_of line) _ command e in
-    subst HasLimits (same_Some (Check columns.0) command columns.2) refl
+    subst HasLimits (same_Some (Conf columns.0 (Plain Check)) command columns.2) refl
 
 search_within : (line : ParsedArgs) (depth conflicts : ℕ) → option_number_or_default line depth_option ≡ Some depth → option_number_or_default line conflicts_option ≡ Some conflicts → within_search_limits depth conflicts ≡ true
 search_within line depth conflicts deep spent =
@@ -78,25 +82,26 @@ verify_keeps line command e =
     let depth = bind_some (option_number_or_default line depth_option) _ command columns.2 in
     let conflicts = bind_some (option_number_or_default line conflicts_option) _ command depth.2 in
     let cert = bind_some (option_value_or_default line cert_option) _ command conflicts.2 in
-    let limits : HasLimits (Verify columns.0 depth.0 conflicts.0 cert.0) = search_within line depth.0 conflicts.0 depth.1 conflicts.1 in
+    let limits : HasLimits (Conf columns.0 (Plain (Verify depth.0 conflicts.0 cert.0))) = search_within line depth.0 conflicts.0 depth.1 conflicts.1 in
     subst HasLimits (same_Some _ _ cert.2) limits
 
 audit_keeps : KeepsLimits audit_command_spec
 audit_keeps line command e =
     let columns = bind_some (column_rule_mode_of line) _ command e in
     let cert = bind_some (option_value_or_default line cert_option) _ command columns.2 in
-    subst HasLimits (same_Some (Audit columns.0 cert.0) command cert.2) refl
+    subst HasLimits (same_Some (Conf columns.0 (WithExtra cert.0 Audit)) command cert.2) refl
 
 replay_keeps : KeepsLimits replay_command_spec
 replay_keeps line command e =
     let columns = bind_some (column_rule_mode_of line) _ command e in
     let run = bind_some (option_value_or_default line run_option) _ command columns.2 in
-    subst HasLimits (same_Some (Replay columns.0 run.0) command run.2) refl
+    subst HasLimits (same_Some (Conf columns.0 (WithExtra run.0 Replay)) command run.2) refl
 
 make_keeps : KeepsLimits make_command_spec
 make_keeps line command e =
     let stations = bind_some (option_number_or_default line stations_option) _ command e in
-    let limits : HasLimits (Make stations.0) = stations_within line stations.0 stations.1 in
+    let limits : HasLimits (Stations stations.0 Make) = and_from (within_station_limits stations.0) true
+    (stations_within line stations.0 stations.1) refl in
     subst HasLimits (same_Some _ _ stations.2) limits
 
 demo_keeps : KeepsLimits demo_command_spec
@@ -105,7 +110,7 @@ demo_keeps line command e =
     let depth = bind_some (option_number_or_default line depth_option) _ command stations.2 in
     let conflicts = bind_some (option_number_or_default line conflicts_option) _ command depth.2 in
     let cert = bind_some (option_value_or_default line cert_option) _ command conflicts.2 in
-    let limits : HasLimits (Demo stations.0 depth.0 conflicts.0 cert.0) = and_from
+    let limits : HasLimits (Stations stations.0 (Demo depth.0 conflicts.0 cert.0)) = and_from
     (within_station_limits stations.0) (within_search_limits depth.0 conflicts.0)
     (stations_within line stations.0 stations.1)
     (search_within line depth.0 conflicts.0 depth.1 conflicts.1) in
@@ -114,7 +119,7 @@ demo_keeps line command e =
 table_keeps : KeepsLimits table_command_spec
 table_keeps line command e =
     let columns = bind_some (column_rule_mode_of line) _ command e in
-    subst HasLimits (same_Some (Table columns.0) command columns.2) refl
+    subst HasLimits (same_Some (Conf columns.0 (Plain Table)) command columns.2) refl
 
 export_keeps : KeepsLimits export_command_spec
 export_keeps line command e =
@@ -122,7 +127,7 @@ export_keeps line command e =
     let query = bind_some (query_kind_of line) _ command columns.2 in
     let number = bind_some (option_number_or_default line query_number_option) _ command query.2 in
     let asked = cond_some _ _ command number.2 in
-    let limits : HasLimits (Export columns.0 query.0 number.0) = query_within line query.0 number.0 number.1 asked.0 in
+    let limits : HasLimits (Conf columns.0 (Plain (Export query.0 number.0))) = query_within line query.0 number.0 number.1 asked.0 in
     subst HasLimits asked.1 limits
 
 rup_keeps : KeepsLimits rup_command_spec
@@ -132,14 +137,14 @@ rup_keeps line command e =
     let number = bind_some (option_number_or_default line query_number_option) _ command query.2 in
     let cert = bind_some (option_value_or_default line cert_option) _ command number.2 in
     let asked = cond_some _ _ command cert.2 in
-    let limits : HasLimits (Rup columns.0 query.0 number.0 cert.0) = query_within line query.0 number.0 number.1 asked.0 in
+    let limits : HasLimits (Conf columns.0 (WithExtra cert.0 (Rup query.0 number.0))) = query_within line query.0 number.0 number.1 asked.0 in
     subst HasLimits asked.1 limits
 
 drive_keeps : KeepsLimits drive_command_spec
 drive_keeps line command e =
     let columns = bind_some (column_rule_mode_of line) _ command e in
     let run = bind_some (option_value_or_default line run_option) _ command columns.2 in
-    subst HasLimits (same_Some (Drive columns.0 run.0) command run.2) refl
+    subst HasLimits (same_Some (Conf columns.0 (WithExtra run.0 Drive)) command run.2) refl
 
 keeps_limits : (i : ℕ) (c : CommandNameAndOptions) → slice_get commands i ≡ Some c → KeepsLimits c
 keeps_limits zero c e = subst KeepsLimits (same_Some _ _ e) check_keeps

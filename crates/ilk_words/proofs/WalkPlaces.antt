@@ -16,7 +16,6 @@ use Rattle.clap.specs.declared.builder.value_parser.Reading.{Reading}
 use Rattle.clap.specs.declared.builder.value_parser.ValueParser.{ValueParser}
 use Rattle.clap.specs.declared.builder.value_parser.ValueParser.TheVariants as parser
 use Rattle.clap.specs.declared.error.kind.ErrorKind.{ErrorKind}
-use Rattle.clap.specs.declared.error.kind.ErrorKind.TheVariants as kind
 use Rattle.ilk_words.specs.Options.{reference_at_address_zero}
 use Rattle.ilk_words.specs.Places.{parser_without_addresses, clap_arg_without_addresses, clap_args_without_addresses}
 

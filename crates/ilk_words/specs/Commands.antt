@@ -7,8 +7,12 @@ use Rattle.ilk_words.specs.Options.{ParsedArgs, OptionSpec, cert_option, columns
 use Rattle.ilk_words.specs.Queries.{query_exists, query_kind_of_word}
 use Rattle.ilk_words.specs.declared.command.ColumnRuleMode.{ColumnRuleMode}
 use Rattle.ilk_words.specs.declared.command.Command.{Command}
-use Rattle.ilk_words.specs.declared.command.Command.TheVariants.{Check, Verify, Audit, Replay, Make, Demo, Table, Export, Rup, Drive}
+use Rattle.ilk_words.specs.declared.command.Command.TheVariants.{Conf, Stations}
+use Rattle.ilk_words.specs.declared.command.ConfCommand.TheVariants.{Plain, WithExtra}
+use Rattle.ilk_words.specs.declared.command.ExtraCommand.TheVariants.{Audit, Replay, Rup, Drive}
+use Rattle.ilk_words.specs.declared.command.ConfCommandWithoutExtra.TheVariants.{Check, Verify, Table, Export}
 use Rattle.ilk_words.specs.declared.command.QueryKind.{QueryKind}
+use Rattle.ilk_words.specs.declared.command.StationsCommand.TheVariants.{Make, Demo}
 
 -- A command: its name, its options, and its meaning.
 pub record CommandNameAndOptions : Type 0 where
@@ -34,7 +38,7 @@ check_command_spec = record {
   options = columns_option ∷ [];
   command = λ line. do
     columns ← column_rule_mode_of line
-    Some (Check columns);
+    Some (Conf columns (Plain Check));
 }
 
 abbrev pub verify_command_spec : CommandNameAndOptions
@@ -46,7 +50,7 @@ verify_command_spec = record {
     depth ← option_number_or_default line depth_option
     conflicts ← option_number_or_default line conflicts_option
     cert ← option_value_or_default line cert_option
-    Some (Verify columns depth conflicts cert);
+    Some (Conf columns (Plain (Verify depth conflicts cert)));
 }
 
 abbrev pub audit_command_spec : CommandNameAndOptions
@@ -56,7 +60,7 @@ audit_command_spec = record {
   command = λ line. do
     columns ← column_rule_mode_of line
     cert ← option_value_or_default line cert_option
-    Some (Audit columns cert);
+    Some (Conf columns (WithExtra cert Audit));
 }
 
 abbrev pub replay_command_spec : CommandNameAndOptions
@@ -66,7 +70,7 @@ replay_command_spec = record {
   command = λ line. do
     columns ← column_rule_mode_of line
     run ← option_value_or_default line run_option
-    Some (Replay columns run);
+    Some (Conf columns (WithExtra run Replay));
 }
 
 abbrev pub make_command_spec : CommandNameAndOptions
@@ -75,7 +79,7 @@ make_command_spec = record {
   options = stations_option ∷ [];
   command = λ line. do
     stations ← option_number_or_default line stations_option
-    Some (Make stations);
+    Some (Stations stations Make);
 }
 
 abbrev pub demo_command_spec : CommandNameAndOptions
@@ -87,7 +91,7 @@ demo_command_spec = record {
     depth ← option_number_or_default line depth_option
     conflicts ← option_number_or_default line conflicts_option
     cert ← option_value_or_default line cert_option
-    Some (Demo stations depth conflicts cert);
+    Some (Stations stations (Demo depth conflicts cert));
 }
 
 abbrev pub table_command_spec : CommandNameAndOptions
@@ -96,7 +100,7 @@ table_command_spec = record {
   options = columns_option ∷ [];
   command = λ line. do
     columns ← column_rule_mode_of line
-    Some (Table columns);
+    Some (Conf columns (Plain Table));
 }
 
 abbrev pub export_command_spec : CommandNameAndOptions
@@ -107,7 +111,7 @@ export_command_spec = record {
     columns ← column_rule_mode_of line
     query ← query_kind_of line
     number ← option_number_or_default line query_number_option
-    then_some (query_exists query number) (Export columns query number);
+    then_some (query_exists query number) (Conf columns (Plain (Export query number)));
 }
 
 abbrev pub rup_command_spec : CommandNameAndOptions
@@ -119,7 +123,7 @@ rup_command_spec = record {
     query ← query_kind_of line
     number ← option_number_or_default line query_number_option
     cert ← option_value_or_default line cert_option
-    then_some (query_exists query number) (Rup columns query number cert);
+    then_some (query_exists query number) (Conf columns (WithExtra cert (Rup query number)));
 }
 
 abbrev pub drive_command_spec : CommandNameAndOptions
@@ -129,7 +133,7 @@ drive_command_spec = record {
   command = λ line. do
     columns ← column_rule_mode_of line
     run ← option_value_or_default line run_option
-    Some (Drive columns run);
+    Some (Conf columns (WithExtra run Drive));
 }
 
 abbrev pub commands : List CommandNameAndOptions

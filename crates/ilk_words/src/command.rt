@@ -95,59 +95,70 @@ impl QueryKind {
 /// A command with its options.
 #[derive(Drop)]
 pub enum Command {
-    /// Print every rule that the configuration violates.
-    Check {
+    /// Reads a configuration. `columns` says whether its column rules are checked.
+    Conf {
         columns: ColumnRuleMode,
+        command: ConfCommand,
     },
+    /// Reads nothing. The plant is a generated line of `stations` stations.
+    Stations {
+        stations: u32,
+        command: StationsCommand,
+    },
+}
+
+/// A command on a configuration.
+#[derive(Drop)]
+pub enum ConfCommand {
+    /// Reads only the configuration.
+    Plain(ConfCommandWithoutExtra),
+    /// Also reads the file `file`, the extra input.
+    WithExtra { file: Text, command: ExtraCommand },
+}
+
+/// A command that reads only a configuration.
+#[derive(Drop)]
+pub enum ConfCommandWithoutExtra {
+    /// Print every rule that the configuration violates.
+    Check,
     /// Decide whether the plant is safe, by runs of up to `depth` events; its searches learn at
     /// most `conflicts` clauses in total. The certificate goes to the file `cert`.
     Verify {
-        columns: ColumnRuleMode,
-        depth: u32,
-        conflicts: u64,
-        cert: Text,
-    },
-    /// Check the certificate in the file `cert`.
-    Audit {
-        columns: ColumnRuleMode,
-        cert: Text,
-    },
-    /// Replay the run in the file `run`.
-    Replay {
-        columns: ColumnRuleMode,
-        run: Text,
-    },
-    /// Print the configuration of a line of `stations` stations.
-    Make {
-        stations: u32,
-    },
-    /// Decide whether the plant of a line of `stations` stations is safe, as `Verify` does.
-    Demo {
-        stations: u32,
         depth: u32,
         conflicts: u64,
         cert: Text,
     },
     /// Print the configuration's network with a generated table of its routes.
-    Table {
-        columns: ColumnRuleMode,
-    },
+    Table,
     /// Print the formula of the query of kind `query` for runs of `number` events.
     Export {
-        columns: ColumnRuleMode,
         query: QueryKind,
         number: u32,
     },
-    /// Check another solver's refutation, in the file `cert`, of the formula that `Export` prints.
-    Rup {
-        columns: ColumnRuleMode,
-        query: QueryKind,
-        number: u32,
+}
+
+/// A command that reads a configuration and an extra input.
+#[derive(Clone, Copy, PartialEq, Eq, Debug)]
+pub enum ExtraCommand {
+    /// Check the certificate.
+    Audit,
+    /// Replay the run.
+    Replay,
+    /// Check another solver's refutation of the formula that `Export` prints.
+    Rup { query: QueryKind, number: u32 },
+    /// Simulate the scenario.
+    Drive,
+}
+
+/// A command on a generated line.
+#[derive(Drop)]
+pub enum StationsCommand {
+    /// Print the configuration of the line.
+    Make,
+    /// Decide whether the plant of the line is safe, as `Verify` does.
+    Demo {
+        depth: u32,
+        conflicts: u64,
         cert: Text,
-    },
-    /// Simulate the scenario in the file `run`.
-    Drive {
-        columns: ColumnRuleMode,
-        run: Text,
     },
 }

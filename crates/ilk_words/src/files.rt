@@ -1,7 +1,7 @@
 ghost use Rattle.std.specs.Prelude.{◌≡◌, IfOk, map, string_bytes};
-ghost use Rattle.ilk_words.specs.Files.{files_named, files_of_command};
+ghost use Rattle.ilk_words.specs.Files.{cert_of_plain, cert_with_stations, files_named, files_of_command, files_of_conf_command};
 
-use crate::{Command, parse_arguments};
+use crate::{Command, ConfCommand, ConfCommandWithoutExtra, StationsCommand, parse_arguments};
 use ilk_base::Text;
 use std::alloc::{AllocError, Global};
 
@@ -28,24 +28,45 @@ fn files_of(command: Command) -> FileNames
     ensures { result ≡ files_of_command command }
 {
     match command {
-        Command::Verify { cert, .. } | Command::Demo { cert, .. } => FileNames {
+        Command::Conf { command, .. } => files_of_conf_command(command),
+        Command::Stations { command, .. } => FileNames {
             extra: None,
-            cert: Some(cert),
+            cert: cert_with_stations(command),
         },
-        Command::Audit { cert, .. } | Command::Rup { cert, .. } => FileNames {
-            extra: Some(cert),
-            cert: None,
-        },
-        Command::Replay { run, .. } | Command::Drive { run, .. } => FileNames {
-            extra: Some(run),
-            cert: None,
-        },
-        Command::Check { .. }
-        | Command::Make { .. }
-        | Command::Table { .. }
-        | Command::Export { .. } => FileNames {
+    }
+}
+
+fn files_of_conf_command(command: ConfCommand) -> FileNames
+    ensures { result ≡ files_of_conf_command command }
+{
+    match command {
+        ConfCommand::Plain(command) => FileNames {
             extra: None,
+            cert: cert_of_plain(command),
+        },
+        ConfCommand::WithExtra { file, .. } => FileNames {
+            extra: Some(file),
             cert: None,
         },
+    }
+}
+
+fn cert_of_plain(command: ConfCommandWithoutExtra) -> Option<Text>
+    ensures { result ≡ cert_of_plain command }
+{
+    match command {
+        ConfCommandWithoutExtra::Verify { cert, .. } => Some(cert),
+        ConfCommandWithoutExtra::Check
+        | ConfCommandWithoutExtra::Table
+        | ConfCommandWithoutExtra::Export { .. } => None,
+    }
+}
+
+fn cert_with_stations(command: StationsCommand) -> Option<Text>
+    ensures { result ≡ cert_with_stations command }
+{
+    match command {
+        StationsCommand::Make => None,
+        StationsCommand::Demo { cert, .. } => Some(cert),
     }
 }

@@ -1,10 +1,10 @@
-ghost use Rattle.std.specs.Prelude.{◌≡◌, ◌^◌, ◌<◌, IfSome, None, Some, false, is_some};
+ghost use Rattle.std.specs.Prelude.{◌≡◌, ◌^◌, ◌<◌, is_some};
 ghost use Rattle.ilk_words.specs.Files.{files_of_command};
-ghost use Rattle.ilk_words.specs.Plan.{plan_of};
+ghost use Rattle.ilk_words.specs.Plan.{extra_limit, plan_of, stages_of};
 
 use crate::{
-    ColumnRuleMode, Command, MAX_CERTIFICATE_BYTES, MAX_REFUTATION_BYTES, MAX_RUN_TEXT_BYTES,
-    MAX_SCENARIO_BYTES,
+    ColumnRuleMode, Command, ConfCommand, ConfCommandWithoutExtra, ExtraCommand,
+    MAX_CERTIFICATE_BYTES, MAX_REFUTATION_BYTES, MAX_RUN_TEXT_BYTES, MAX_SCENARIO_BYTES,
 };
 
 /// The stages of rules that a command checks on a configuration.
@@ -17,76 +17,31 @@ pub enum CheckedRuleStages {
     Network(ColumnRuleMode),
 }
 
-/// What a command reads, checks and writes.
-#[derive(Clone, Copy, PartialEq, Eq, Debug)]
-pub struct CommandPlan {
-    /// The rules checked on the configuration, or `None` if none is read.
-    pub stages: Option<CheckedRuleStages>,
-    /// The maximum number of bytes of a second input, or `None` if there is none.
-    pub extra: Option<u64>,
-    /// Whether a certificate may be written.
-    pub certifies: bool,
-}
-
-impl CommandPlan {
-    fn alone(certifies: bool) -> CommandPlan
-        ensures { result ≡ record { stages = None; extra = None; certifies = certifies } }
-    {
-        CommandPlan {
-            stages: None,
-            extra: None,
-            certifies,
-        }
-    }
-
-    fn over(stages: CheckedRuleStages) -> CommandPlan
-        ensures { result ≡ record { stages = Some stages; extra = None; certifies = false } }
-    {
-        CommandPlan {
-            stages: Some(stages),
-            extra: None,
-            certifies: false,
-        }
-    }
-
-    fn beside(columns: ColumnRuleMode, limit: u64) -> CommandPlan
-        ensures { result
-            ≡ record {
-              stages = Some
-                  (CheckedRuleStages.All columns);
-              extra = Some limit;
-              certifies = false;
-            } }
-    {
-        CommandPlan {
-            extra: Some(limit),
-            ..CommandPlan::over(CheckedRuleStages::All(columns))
-        }
-    }
-}
-
-impl Command {
-    /// Returns what the command reads, checks and writes. The limit of its second input is below
-    /// 2^40 bytes.
-    pub fn plan(&self) -> CommandPlan
-        ensures plan { result ≡ plan_of self.now }
-        ensures limit { IfSome result.extra (λ limit. limit < 2 ^ 40) }
+impl ConfCommand {
+    /// Returns the rules that the command checks on its configuration.
+    pub fn stages(&self, columns: ColumnRuleMode) -> CheckedRuleStages
+        ensures { result ≡ stages_of columns self.now }
     {
         match self {
-            Command::Check { columns } | Command::Export { columns, .. } => {
-                CommandPlan::over(CheckedRuleStages::All(*columns))
-            }
-            Command::Table { columns } => CommandPlan::over(CheckedRuleStages::Network(*columns)),
-            Command::Verify { columns, .. } => CommandPlan {
-                certifies: true,
-                ..CommandPlan::over(CheckedRuleStages::All(*columns))
-            },
-            Command::Audit { columns, .. } => CommandPlan::beside(*columns, MAX_CERTIFICATE_BYTES),
-            Command::Replay { columns, .. } => CommandPlan::beside(*columns, MAX_RUN_TEXT_BYTES),
-            Command::Rup { columns, .. } => CommandPlan::beside(*columns, MAX_REFUTATION_BYTES),
-            Command::Drive { columns, .. } => CommandPlan::beside(*columns, MAX_SCENARIO_BYTES),
-            Command::Make { .. } => CommandPlan::alone(false),
-            Command::Demo { .. } => CommandPlan::alone(true),
+            ConfCommand::Plain(ConfCommandWithoutExtra::Table) => CheckedRuleStages::Network(
+                columns,
+            ),
+            _ => CheckedRuleStages::All(columns),
+        }
+    }
+}
+
+impl ExtraCommand {
+    /// Returns the maximum number of bytes of the extra input, which is below 2^40.
+    pub fn limit(self) -> u64
+        ensures limit { result ≡ extra_limit self }
+        ensures small { result < 2 ^ 40 }
+    {
+        match self {
+            ExtraCommand::Audit => MAX_CERTIFICATE_BYTES,
+            ExtraCommand::Replay => MAX_RUN_TEXT_BYTES,
+            ExtraCommand::Rup { .. } => MAX_REFUTATION_BYTES,
+            ExtraCommand::Drive => MAX_SCENARIO_BYTES,
         }
     }
 }

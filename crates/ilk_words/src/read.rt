@@ -8,12 +8,12 @@ ghost use Rattle.ilk_words.specs.Commands.{table_command_spec, verify_command_sp
 ghost use Rattle.ilk_words.specs.Limits.{within_option_limits};
 ghost use Rattle.ilk_words.specs.Words.{parsed_command, command_from_args, command_if_only_own_options};
 
-use crate::Command;
 use crate::line::{
     AUDIT, CERT, CHECK, COLUMNS, CONFLICTS, DEMO, DEPTH, DRIVE, EXPORT, MAKE, NUMBER, QUERY,
     REPLAY, RUN, RUP, STATIONS, TABLE, VERIFY, line_command,
 };
 use crate::options::{columns, conflicts, depth, has_only, number, query, stations};
+use crate::{Command, ConfCommand, ConfCommandWithoutExtra, ExtraCommand, StationsCommand};
 use clap::ArgMatches;
 use clap::error::ErrorKind;
 use ilk_base::Text;
@@ -67,7 +67,8 @@ fn check(matches: &ArgMatches<'_>) -> Option<Command>
         return None;
     }
     let columns = columns(matches)?;
-    Some(Command::Check { columns })
+    let command = ConfCommand::Plain(ConfCommandWithoutExtra::Check);
+    Some(Command::Conf { columns, command })
 }
 
 fn verify(alloc: Global, matches: &ArgMatches<'_>) -> Result<Option<Command>, AllocError>
@@ -86,12 +87,12 @@ fn verify(alloc: Global, matches: &ArgMatches<'_>) -> Result<Option<Command>, Al
         return Ok(None);
     };
     let cert = Text::of(String::from_str(alloc, cert)?);
-    Ok(Some(Command::Verify {
-        columns,
+    let command = ConfCommand::Plain(ConfCommandWithoutExtra::Verify {
         depth,
         conflicts,
         cert,
-    }))
+    });
+    Ok(Some(Command::Conf { columns, command }))
 }
 
 fn audit(alloc: Global, matches: &ArgMatches<'_>) -> Result<Option<Command>, AllocError>
@@ -104,8 +105,11 @@ fn audit(alloc: Global, matches: &ArgMatches<'_>) -> Result<Option<Command>, All
     let (Some(columns), Some(cert)) = (columns(matches), matches.get_str(CERT)) else {
         return Ok(None);
     };
-    let cert = Text::of(String::from_str(alloc, cert)?);
-    Ok(Some(Command::Audit { columns, cert }))
+    let command = ConfCommand::WithExtra {
+        file: Text::of(String::from_str(alloc, cert)?),
+        command: ExtraCommand::Audit,
+    };
+    Ok(Some(Command::Conf { columns, command }))
 }
 
 fn replay(alloc: Global, matches: &ArgMatches<'_>) -> Result<Option<Command>, AllocError>
@@ -118,8 +122,11 @@ fn replay(alloc: Global, matches: &ArgMatches<'_>) -> Result<Option<Command>, Al
     let (Some(columns), Some(run)) = (columns(matches), matches.get_str(RUN)) else {
         return Ok(None);
     };
-    let run = Text::of(String::from_str(alloc, run)?);
-    Ok(Some(Command::Replay { columns, run }))
+    let command = ConfCommand::WithExtra {
+        file: Text::of(String::from_str(alloc, run)?),
+        command: ExtraCommand::Replay,
+    };
+    Ok(Some(Command::Conf { columns, command }))
 }
 
 fn make(matches: &ArgMatches<'_>) -> Option<Command>
@@ -130,7 +137,8 @@ fn make(matches: &ArgMatches<'_>) -> Option<Command>
         return None;
     }
     let stations = stations(matches)?;
-    Some(Command::Make { stations })
+    let command = StationsCommand::Make;
+    Some(Command::Stations { stations, command })
 }
 
 fn demo(alloc: Global, matches: &ArgMatches<'_>) -> Result<Option<Command>, AllocError>
@@ -149,12 +157,12 @@ fn demo(alloc: Global, matches: &ArgMatches<'_>) -> Result<Option<Command>, Allo
         return Ok(None);
     };
     let cert = Text::of(String::from_str(alloc, cert)?);
-    Ok(Some(Command::Demo {
-        stations,
+    let command = StationsCommand::Demo {
         depth,
         conflicts,
         cert,
-    }))
+    };
+    Ok(Some(Command::Stations { stations, command }))
 }
 
 fn table(matches: &ArgMatches<'_>) -> Option<Command>
@@ -165,7 +173,8 @@ fn table(matches: &ArgMatches<'_>) -> Option<Command>
         return None;
     }
     let columns = columns(matches)?;
-    Some(Command::Table { columns })
+    let command = ConfCommand::Plain(ConfCommandWithoutExtra::Table);
+    Some(Command::Conf { columns, command })
 }
 
 fn export(matches: &ArgMatches<'_>) -> Option<Command>
@@ -181,11 +190,8 @@ fn export(matches: &ArgMatches<'_>) -> Option<Command>
     if !query.has_number(number) {
         return None;
     }
-    Some(Command::Export {
-        columns,
-        query,
-        number,
-    })
+    let command = ConfCommand::Plain(ConfCommandWithoutExtra::Export { query, number });
+    Some(Command::Conf { columns, command })
 }
 
 fn rup(alloc: Global, matches: &ArgMatches<'_>) -> Result<Option<Command>, AllocError>
@@ -206,13 +212,11 @@ fn rup(alloc: Global, matches: &ArgMatches<'_>) -> Result<Option<Command>, Alloc
     if !query.has_number(number) {
         return Ok(None);
     }
-    let cert = Text::of(String::from_str(alloc, cert)?);
-    Ok(Some(Command::Rup {
-        columns,
-        query,
-        number,
-        cert,
-    }))
+    let command = ConfCommand::WithExtra {
+        file: Text::of(String::from_str(alloc, cert)?),
+        command: ExtraCommand::Rup { query, number },
+    };
+    Ok(Some(Command::Conf { columns, command }))
 }
 
 fn drive(alloc: Global, matches: &ArgMatches<'_>) -> Result<Option<Command>, AllocError>
@@ -225,6 +229,9 @@ fn drive(alloc: Global, matches: &ArgMatches<'_>) -> Result<Option<Command>, All
     let (Some(columns), Some(run)) = (columns(matches), matches.get_str(RUN)) else {
         return Ok(None);
     };
-    let run = Text::of(String::from_str(alloc, run)?);
-    Ok(Some(Command::Drive { columns, run }))
+    let command = ConfCommand::WithExtra {
+        file: Text::of(String::from_str(alloc, run)?),
+        command: ExtraCommand::Drive,
+    };
+    Ok(Some(Command::Conf { columns, command }))
 }

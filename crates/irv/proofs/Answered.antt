@@ -1,11 +1,10 @@
 -- The status of a call of `run`, as far as it is known without standard input and files.
 use Rattle.std.proofs.Common.{◌≡◌, ℕ, Option, Some, None, List, [], option_map, refl, subst, sym}
 use Rattle.ilk_words.specs.Files.{files_named, files_of_command}
-use Rattle.ilk_words.specs.Plan.{plan_of}
 use Rattle.ilk_words.specs.Words.{parsed_command}
 use Rattle.ilk_words.specs.declared.command.Command.{Command}
-use Rattle.ilk_words.specs.declared.plan.CheckedRuleStages.{CheckedRuleStages}
-use Rattle.ilk_answers.specs.Answer.{AnswersIfConfExposed, IsAnswerTo}
+use Rattle.ilk_words.specs.declared.command.Command.TheVariants.{Conf, Stations}
+use Rattle.ilk_answers.specs.Answer.{IsAnswerTo}
 use Rattle.ilk_answers.specs.Report.{reply}
 use Rattle.ilk_answers.specs.declared.reply.Reply.{Reply}
 use Rattle.ilk_answers.specs.declared.status.Status.{Status}
@@ -15,11 +14,8 @@ use Rattle.irv.specs.Edge.{IsStatusOfSomeAnswer}
 
 answer-untold : (asked : Option Command) (extra : Option (List ℕ)) (made : Reply) → IsAnswerTo asked None extra made → IsAnswerTo asked None None made
 answer-untold None extra made is = is
-answer-untold (Some command) extra made is = of_stages (plan_of command).stages is
-  where
-    of_stages : (stages : Option CheckedRuleStages) → AnswersIfConfExposed stages command None extra made → AnswersIfConfExposed stages command None None made
-    of_stages None h = h
-    of_stages (Some stages) h = tt
+answer-untold (Some (Conf columns command)) extra made is = tt
+answer-untold (Some (Stations stations command)) extra made is = is
 
 pub answered :
     {L O : Type 0} (cert_written : L → Option (List ℕ)) (cert_faults : L → ℕ)
