@@ -1,98 +1,29 @@
--- The values of one or more variables have exactly the bits that they were given.
-use Rattle.std.proofs.Common.{◌≡◌, ℕ, ◌+◌, ◌^◌, ◌<◌, ◌≤◌, Bool, true, ◌&&◌, List, [], ◌∷◌, ◌++◌, length, map, refl, sym, ap, ◌∙◌, subst, arith, leb, length-append, append_assoc}
+-- The variables of one system variable have exactly the bits of a value in range.
+use Rattle.std.proofs.Common.{◌≡◌, ℕ, ◌+◌, ◌^◌, ◌<◌, ◌≤◌, zero, suc, Bool, true, false, ◌&&◌, List, [], ◌∷◌, ◌++◌, length, map, refl, sym, ap, ◌∙◌, subst, arith, ltb, eqb, length-append, append_assoc}
 use Rattle.std.proofs.lemmas.List.{append-nil}
 use Rattle.std.proofs.lemmas.List.Folds.{list_all-append}
-use Rattle.std.proofs.lemmas.Bool.{and_parts, and_from, leb-true, ltb-true, lt-ltb, false≢true}
+use Rattle.std.proofs.lemmas.Bool.{and_from, eqb-true}
 use Rattle.ilk_cnf.specs.Formula.{is_clause_over, are_clauses_over}
 use Rattle.ilk_cnf.specs.Truth.{is_true}
 use Rattle.ilk_cnf.specs.Extends.{ExtensionsAreExactly, EqualsGivenValues, AreValuesOfConsecutiveParts}
+use Rattle.ilk_cnf.specs.Part.{FormulaPart}
 use Rattle.ilk_cnf.proofs.Literals.{are_clauses_over-more}
 use Rattle.ilk_cnf.proofs.Parts.{in_turn, in_words, one_by_one}
-use Rattle.ilk_cnf.proofs.Extending.{no_more_if, only_from_if}
 use Rattle.ilk_ints.specs.Bits.{bit_count, lowest_bits_of, assigned_bits_from_var}
 use Rattle.ilk_ints.specs.Number.{number_part, AreBitsInRange}
+use Rattle.ilk_ints.specs.Named.{value_lits_part, bound_lits_part, one_hot_var_bits, bound_vars_bits, bound_count, one_hot_bits}
 use Rattle.ilk_ints.proofs.BitsLaw.{length-bits}
 use Rattle.ilk_ints.proofs.NumberLaw.{number-law, non_value_clauses-in, assigned_bits_from_var-new}
-use Rattle.ilk_ir.specs.System.{in_ranges}
-use Rattle.ilk_ints.specs.Named.{value_lits_part, bound_lits_part, one_hot_var_bits, bound_vars_bits, bound_count, one_hot_bits}
 use Rattle.ilk_ints.proofs.ValuesLaw.{value_lits_part-low, value_lits_part-law, value_lits_part-say, assigned_bits_from_var-left}
 use Rattle.ilk_ints.proofs.BoundsPart.{bound_lits_part-law}
-use Rattle.ilk_ints.proofs.TableParts.{value_lits_part-in, value_lits_part-lits_in, length-value_lits_part, bound_lits_part-low, bound_lits_part-in}
-use Rattle.ilk_forms.specs.Copy.{numbers_part, all_var_lits_part, copy_part, numbers_bits, copy_value_bound_bits, copy_bit_count, var_lits_part, BitsEncode}
+use Rattle.ilk_ints.proofs.TableParts.{bit_count-enough, value_lits_part-in, value_lits_part-lits_in, length-value_lits_part, bound_lits_part-low, bound_lits_part-in}
+use Rattle.ilk_forms.specs.declared.copy.VarValueAndBoundLits.{VarValueAndBoundLits}
+use Rattle.ilk_forms.specs.declared.copy.TheConstants.{MAX_RANGES}
+use Rattle.ilk_forms.specs.Copy.{PartWithAllVarLits, var_lits_part, system_var_part, range_class_part, ranges_below_part, no_var_lits, copy_part, system_var_bits}
 
 abbrev pub ranges_fit : List ℕ → Bool
 ranges_fit [] = true
-ranges_fit (range ∷ ranges) = leb range (2 ^ bit_count range) && ranges_fit ranges
-
-pub numbers-low : (ranges : List ℕ) (n : ℕ) → n ≤ (numbers_part ranges n).vars
-numbers-low [] n = omega arith
-numbers-low (range ∷ ranges) n = let h = numbers-low ranges (n + bit_count range) in omega arith
-
-pub numbers-in : (ranges : List ℕ) (n : ℕ) → are_clauses_over (numbers_part ranges n).vars (numbers_part ranges n).clauses ≡ true
-numbers-in [] n = refl
-numbers-in (range ∷ ranges) n =
-    let p = number_part range n in
-    let rest = numbers_part ranges p.vars in
-    let end : p.vars ≤ rest.vars = numbers-low ranges p.vars in
-    let here : are_clauses_over p.vars p.clauses ≡ true = non_value_clauses-in (n + bit_count range) (n + 1) range (omega arith) (omega arith) in
-    list_all-append (is_clause_over rest.vars) p.clauses rest.clauses ∙ and_from _ _ (are_clauses_over-more p.vars rest.vars p.clauses end here) (numbers-in ranges p.vars)
-
-abbrev pub AreValues : List ℕ → List Bool → Type 0
-AreValues ranges b = (ws : List ℕ) × (in_ranges ws ranges ≡ true) × (b ≡ numbers_bits ranges ws)
-
-pub numbers-law : (ranges : List ℕ) (a : List Bool) (n : ℕ) → length a ≡ n → ranges_fit ranges ≡ true → ExtensionsAreExactly a (numbers_part ranges n).vars (numbers_part ranges n).clauses (AreValues ranges)
-numbers-law [] a n size fit = in_words a n [] (EqualsGivenValues []) (AreValues []) (λ b h. ([], refl, h)) (λ b h. h.2) (only_from_if a n [] [] (no_more_if a n [] true size refl))
-numbers-law (range ∷ ranges) a n size fit =
-    let parts = and_parts _ _ fit in
-    let p = number_part range n in
-    let enough : range ≤ 2 ^ bit_count range = leb-true range (2 ^ bit_count range) parts.0 in
-    let first = number-law a range n enough size in
-    let here : are_clauses_over p.vars p.clauses ≡ true = non_value_clauses-in (n + bit_count range) (n + 1) range (omega arith) (omega arith) in
-    in_words a (numbers_part (range ∷ ranges) n).vars (numbers_part (range ∷ ranges) n).clauses _
-    (AreValues (range ∷ ranges)) to from
-    (in_turn a p.vars (numbers_part ranges p.vars).vars p.clauses (numbers_part ranges p.vars).clauses
-    (AreBitsInRange range) (λ b _. AreValues ranges) (omega (arith, size)) (numbers-low ranges p.vars) here
-    first (λ b h. numbers-law ranges (a ++ b) p.vars (first.sized b h) parts.1))
-  where
-    to : (b : List Bool) → AreValuesOfConsecutiveParts (AreBitsInRange range) (λ c _. AreValues ranges) b → AreValues (range ∷ ranges) b
-    to b h =
-        (h.3.0 ∷ h.4.0, and_from _ _ (lt-ltb h.3.0 range h.3.1) h.4.1, h.2 ∙ ap (λ (u : List Bool). u ++ h.1) h.3.2 ∙ ap (λ (u : List Bool). lowest_bits_of (bit_count range) h.3.0 ++ u) h.4.2)
-
-    split : (b : List Bool) (ws : List ℕ) → in_ranges ws (range ∷ ranges) ≡ true → b ≡ numbers_bits (range ∷ ranges) ws → AreValuesOfConsecutiveParts (AreBitsInRange range) (λ c _. AreValues ranges) b
-    split b [] k e = absurd (false≢true k)
-    split b (w ∷ ws) k e =
-        let parts = and_parts _ _ k in
-        (lowest_bits_of (bit_count range) w, numbers_bits ranges ws, e, (w, ltb-true w range parts.0, refl), (ws, parts.1, refl))
-
-    from : (b : List Bool) → AreValues (range ∷ ranges) b → AreValuesOfConsecutiveParts (AreBitsInRange range) (λ c _. AreValues ranges) b
-    from b h = split b h.0 h.1 h.2
-
-pub numbers-end : (ranges : List ℕ) (n : ℕ) → (numbers_part ranges n).vars ≡ n + copy_bit_count ranges
-numbers-end [] n = omega arith
-numbers-end (range ∷ ranges) n = let h = numbers-end ranges (n + bit_count range) in omega arith
-
-pub BitsEncode-left : (ranges ws : List ℕ) (a c : List Bool) (first : ℕ) → first + copy_bit_count ranges ≤ length a + 1 → BitsEncode a first ranges ws → BitsEncode (a ++ c) first ranges ws
-BitsEncode-left [] ws a c first fits h = tt
-BitsEncode-left (range ∷ ranges) [] a c first fits h = absurd h
-BitsEncode-left (range ∷ ranges) (w ∷ ws) a c first fits h =
-    (assigned_bits_from_var-left (bit_count range) a c first (omega arith) ∙ h.0, BitsEncode-left ranges ws a c (first + bit_count range) (omega arith) h.1)
-
-pub BitsEncode-new : (ranges ws : List ℕ) (a c : List Bool) (first : ℕ) → length a + 1 ≡ first → in_ranges ws ranges ≡ true → BitsEncode (a ++ (numbers_bits ranges ws ++ c)) first ranges ws
-BitsEncode-new [] ws a c first size h = tt
-BitsEncode-new (range ∷ ranges) [] a c first size h = absurd (false≢true h)
-BitsEncode-new (range ∷ ranges) (w ∷ ws) a c first size h =
-    let b = bit_count range in
-    let qs = lowest_bits_of b w in
-    let rest = numbers_bits ranges ws in
-    let long : length qs ≡ b = length-bits b w in
-    let whole : (a ++ qs) ++ (rest ++ c) ≡ a ++ ((qs ++ rest) ++ c) = append_assoc a qs (rest ++ c) ∙ ap (λ (u : List Bool). a ++ u) (sym (append_assoc qs rest c)) in
-    let fits : first + b ≤ length (a ++ qs) + 1 = omega (arith, length-append a qs, long, size) in
-    let here : assigned_bits_from_var (a ++ qs) first b ≡ qs = ap (λ (k : ℕ). assigned_bits_from_var (a ++ qs) first k) (sym long) ∙ assigned_bits_from_var-new qs a first size in
-    let kept : assigned_bits_from_var ((a ++ qs) ++ (rest ++ c)) first b ≡ qs = assigned_bits_from_var-left b (a ++ qs) (rest ++ c) first fits ∙ here in
-    let next : length (a ++ qs) + 1 ≡ first + b = omega (arith, length-append a qs, long, size) in (
-      subst (λ (u : List Bool). assigned_bits_from_var u first b ≡ qs) whole kept,
-      subst (λ (u : List Bool). BitsEncode u (first + b) ranges ws) whole (BitsEncode-new ranges ws (a ++ qs) c (first + b) next (and_parts _ _ h).1),
-    )
+ranges_fit (range ∷ ranges) = ltb range 256 && ranges_fit ranges
 
 pub column-law : (a : List Bool) (first range w n : ℕ) → length a ≡ n → 0 < first →
     first + bit_count range ≤ n + 1 → range ≤ 2 ^ bit_count range → w < range →
@@ -148,77 +79,107 @@ column-low first range n =
     let two = bound_lits_part-low (value_lits_part first range n).lits first range (value_lits_part first range n).part.vars in
     omega arith
 
-pub columns-low : (ranges : List ℕ) (first n : ℕ) → n ≤ (all_var_lits_part ranges first n).part.vars
-columns-low [] first n = omega arith
-columns-low (range ∷ ranges) first n =
-    let one = column-low first range n in
-    let rest = columns-low ranges (first + bit_count range) (bound_lits_part first range (value_lits_part first range n).lits (value_lits_part first range n).part.vars).part.vars in
-    omega arith
+number-in : (range n : ℕ) → are_clauses_over (number_part range n).vars (number_part range n).clauses ≡ true
+number-in range n = non_value_clauses-in (n + bit_count range) (n + 1) range (omega arith) (omega arith)
 
-pub columns-law : (ranges ws : List ℕ) (a : List Bool) (first n : ℕ) → length a ≡ n → 0 < first →
-    first + copy_bit_count ranges ≤ n + 1 → ranges_fit ranges ≡ true → in_ranges ws ranges ≡ true →
-    BitsEncode a first ranges ws →
-    ExtensionsAreExactly a (all_var_lits_part ranges first n).part.vars (all_var_lits_part ranges first n).part.clauses
-    (EqualsGivenValues (copy_value_bound_bits ranges ws))
-columns-law [] ws a first n size low high fit inside has = only_from_if a n [] [] (no_more_if a n [] true size refl)
-columns-law (range ∷ ranges) [] a first n size low high fit inside has = absurd has
-columns-law (range ∷ ranges) (w ∷ ws) a first n size low high fit inside has =
-    let fits = and_parts _ _ fit in
-    let within = and_parts _ _ inside in
-    let enough : range ≤ 2 ^ bit_count range = leb-true range (2 ^ bit_count range) fits.0 in
-    let less : w < range = ltb-true w range within.0 in
-    let reach : first + bit_count range ≤ n + 1 = omega arith in
-    let v = value_lits_part first range n in
-    let b = bound_lits_part first range v.lits v.part.vars in
-    let e = one_hot_var_bits range w ++ bound_vars_bits range w 1 (bound_count range) in
-    let rest = all_var_lits_part ranges (first + bit_count range) b.part.vars in
-    let one = column-law a first range w n size low reach enough less has.0 in
-    let long : length (a ++ e) ≡ b.part.vars = one.sized e refl in
-    let grows : n ≤ b.part.vars = column-low first range n in
-    let kept = BitsEncode-left ranges ws a e (first + bit_count range) (rw size (assoc_fits first (bit_count range) (copy_bit_count ranges) n high)) has.1 in
-    let next = columns-law ranges ws (a ++ e) (first + bit_count range) b.part.vars long (omega (arith, low)) (omega (arith, high, grows)) fits.1 within.1 kept in
-    let whole = one_by_one a e (copy_value_bound_bits ranges ws) b.part.vars rest.part.vars
-    (v.part.clauses ++ b.part.clauses) rest.part.clauses (rw size grows)
-    (columns-low ranges (first + bit_count range) b.part.vars) (column-in first range n low reach enough)
-    one next in
-    in_words a rest.part.vars ((v.part.clauses ++ b.part.clauses) ++ rest.part.clauses)
-    (EqualsGivenValues (e ++ copy_value_bound_bits ranges ws)) (EqualsGivenValues (copy_value_bound_bits (range ∷ ranges) (w ∷ ws)))
-    (λ d k. k
-    ∙ append_assoc (one_hot_var_bits range w) (bound_vars_bits range w 1 (bound_count range))
-    (copy_value_bound_bits ranges ws))
-    (λ d k. k
-    ∙ sym
-    (append_assoc (one_hot_var_bits range w) (bound_vars_bits range w 1 (bound_count range))
-    (copy_value_bound_bits ranges ws))) whole
+pub system_var-low : (range n : ℕ) → n ≤ (system_var_part range n).part.vars
+system_var-low range n = let h = column-low (n + 1) range (n + bit_count range) in omega arith
+
+pub system_var-in : (range n : ℕ) → range ≤ 2 ^ bit_count range → are_clauses_over (system_var_part range n).part.vars (system_var_part range n).part.clauses ≡ true
+system_var-in range n enough =
+    let p = number_part range n in
+    let named = (var_lits_part (n + 1) range p.vars).part in
+    list_all-append (is_clause_over named.vars) p.clauses named.clauses
+    ∙ and_from _ _ (are_clauses_over-more p.vars named.vars p.clauses (column-low (n + 1) range p.vars) (number-in range n))
+    (column-in (n + 1) range p.vars (omega arith) (omega arith) enough)
+
+pub bits-new : (a : List Bool) (range w n : ℕ) → length a ≡ n → assigned_bits_from_var (a ++ lowest_bits_of (bit_count range) w) (n + 1) (bit_count range) ≡ lowest_bits_of (bit_count range) w
+bits-new a range w n size =
+    let qs = lowest_bits_of (bit_count range) w in
+    ap (λ (k : ℕ). assigned_bits_from_var (a ++ qs) (n + 1) k) (sym (length-bits (bit_count range) w))
+    ∙ assigned_bits_from_var-new qs a (n + 1) (ap (λ (k : ℕ). k + 1) size)
+
+abbrev pub AreVarBits : ℕ → List Bool → Type 0
+AreVarBits range b = (w : ℕ) × (w < range) × (b ≡ system_var_bits range w)
+
+pub system_var-law : (range : ℕ) (a : List Bool) (n : ℕ) → length a ≡ n → range ≤ 2 ^ bit_count range → ExtensionsAreExactly a (system_var_part range n).part.vars (system_var_part range n).part.clauses (AreVarBits range)
+system_var-law range a n size enough =
+    in_words a (system_var_part range n).part.vars (system_var_part range n).part.clauses _ (AreVarBits range) to from
+    (in_turn a p.vars named.vars p.clauses named.clauses (AreBitsInRange range) after (rw size (omega arith))
+    (column-low (n + 1) range p.vars) (number-in range n) first next)
   where
-    assoc_fits : (f b t m : ℕ) → f + (b + t) ≤ m + 1 → f + b + t ≤ m + 1
-    assoc_fits f b t m h = omega arith
+    p : FormulaPart
+    p = number_part range n
 
-pub columns-in : (ranges : List ℕ) (first n : ℕ) → 0 < first → first + copy_bit_count ranges ≤ n + 1 → ranges_fit ranges ≡ true → are_clauses_over (all_var_lits_part ranges first n).part.vars (all_var_lits_part ranges first n).part.clauses ≡ true
-columns-in [] first n low high fit = refl
-columns-in (range ∷ ranges) first n low high fit =
-    let fits = and_parts _ _ fit in
-    let enough : range ≤ 2 ^ bit_count range = leb-true range (2 ^ bit_count range) fits.0 in
-    let p = var_lits_part first range n in
-    let m = p.part.vars in
-    let grows : n ≤ m = column-low first range n in
-    let rest = all_var_lits_part ranges (first + bit_count range) m in
-    list_all-append (is_clause_over rest.part.vars) p.part.clauses rest.part.clauses
-    ∙ and_from _ _
-    (are_clauses_over-more m rest.part.vars p.part.clauses (columns-low ranges (first + bit_count range) m)
-    (column-in first range n low (omega arith) enough))
-    (columns-in ranges (first + bit_count range) m (omega (arith, low)) (omega (arith, high, grows))
-    fits.1)
+    named : FormulaPart
+    named = (var_lits_part (n + 1) range p.vars).part
+
+    after : (b : List Bool) → AreBitsInRange range b → List Bool → Type 0
+    after b h = EqualsGivenValues (one_hot_var_bits range h.0 ++ bound_vars_bits range h.0 1 (bound_count range))
+
+    first : ExtensionsAreExactly a p.vars p.clauses (AreBitsInRange range)
+    first = number-law a range n enough size
+
+    next : (b : List Bool) → (h : AreBitsInRange range b) → ExtensionsAreExactly (a ++ b) named.vars named.clauses (after b h)
+    next b h =
+        let has = subst (λ (u : List Bool). assigned_bits_from_var (a ++ u) (n + 1) (bit_count range) ≡ lowest_bits_of (bit_count range) h.0) (sym h.2) (bits-new a range h.0 n size) in
+        column-law (a ++ b) (n + 1) range h.0 p.vars (first.sized b h) (omega arith) (omega arith) enough h.1 has
+
+    to : (d : List Bool) → AreValuesOfConsecutiveParts (AreBitsInRange range) after d → AreVarBits range d
+    to d h = (h.3.0, h.3.1, h.2 ∙ ap (λ (u : List Bool). u ++ h.1) h.3.2 ∙ ap (λ (u : List Bool). lowest_bits_of (bit_count range) h.3.0 ++ u) h.4)
+
+    from : (d : List Bool) → AreVarBits range d → AreValuesOfConsecutiveParts (AreBitsInRange range) after d
+    from d h = (lowest_bits_of (bit_count range) h.0, one_hot_var_bits range h.0 ++ bound_vars_bits range h.0 1 (bound_count range), h.2, (h.0, h.1, refl), refl)
+
+pub class-low : (r : ℕ) (ranges : List ℕ) (columns : List VarValueAndBoundLits) (n : ℕ) → n ≤ (range_class_part r ranges columns n).part.vars
+class-low r [] columns n = omega arith
+class-low r (range ∷ ranges) [] n = omega arith
+class-low r (range ∷ ranges) (column ∷ columns) n = by_case (eqb range r) refl (class-low r ranges columns)
+  where
+    by_case : (b : Bool) → eqb range r ≡ b → ((m : ℕ) → m ≤ (range_class_part r ranges columns m).part.vars) → n ≤ (range_class_part r (range ∷ ranges) (column ∷ columns) n).part.vars
+    by_case true h rest = rw h (omega (arith, system_var-low range n, rest (system_var_part range n).part.vars))
+    by_case false h rest = rw h (rest n)
+
+pub below-low : (k : ℕ) (ranges : List ℕ) (columns : List VarValueAndBoundLits) (n : ℕ) → n ≤ (ranges_below_part k ranges columns n).part.vars
+below-low zero ranges columns n = omega arith
+below-low (suc r) ranges columns n =
+    let p = range_class_part r ranges columns n in
+    let one = class-low r ranges columns n in
+    let rest = below-low r ranges p.columns p.part.vars in
+    omega (arith, one, rest)
 
 pub copy-low : (ranges : List ℕ) (n : ℕ) → n ≤ (copy_part ranges n).part.vars
-copy-low ranges n =
-    let one = numbers-low ranges n in
-    let two = columns-low ranges (n + 1) (numbers_part ranges n).vars in
-    omega arith
+unfolding copy_part
+copy-low ranges n = below-low MAX_RANGES ranges (no_var_lits ranges) n
+
+abbrev Inside : PartWithAllVarLits → Type 0
+Inside p = are_clauses_over p.part.vars p.part.clauses ≡ true
+
+pub class-in : (r : ℕ) (ranges : List ℕ) (columns : List VarValueAndBoundLits) (n : ℕ) → r ≤ 2 ^ bit_count r → are_clauses_over (range_class_part r ranges columns n).part.vars (range_class_part r ranges columns n).part.clauses ≡ true
+class-in r [] columns n enough = refl
+class-in r (range ∷ ranges) [] n enough = refl
+class-in r (range ∷ ranges) (column ∷ columns) n enough = by_case (eqb range r) refl (λ m. class-in r ranges columns m enough)
+  where
+    by_case : (b : Bool) → eqb range r ≡ b → ((m : ℕ) → Inside (range_class_part r ranges columns m)) → Inside (range_class_part r (range ∷ ranges) (column ∷ columns) n)
+    by_case true h rest_in =
+        let here : range ≤ 2 ^ bit_count range = subst (λ (k : ℕ). k ≤ 2 ^ bit_count k) (sym (eqb-true range r h)) enough in
+        let p = (system_var_part range n).part in
+        let rest = (range_class_part r ranges columns p.vars).part in
+        rw h
+        (list_all-append (is_clause_over rest.vars) p.clauses rest.clauses
+        ∙ and_from _ _ (are_clauses_over-more p.vars rest.vars p.clauses (class-low r ranges columns p.vars) (system_var-in range n here))
+        (rest_in p.vars))
+    by_case false h rest_in = rw h (rest_in n)
+
+pub below-in : (k : ℕ) (ranges : List ℕ) (columns : List VarValueAndBoundLits) (n : ℕ) → k ≤ 256 → are_clauses_over (ranges_below_part k ranges columns n).part.vars (ranges_below_part k ranges columns n).part.clauses ≡ true
+below-in zero ranges columns n few = refl
+below-in (suc r) ranges columns n few =
+    let p = range_class_part r ranges columns n in
+    let rest = (ranges_below_part r ranges p.columns p.part.vars).part in
+    list_all-append (is_clause_over rest.vars) p.part.clauses rest.clauses
+    ∙ and_from _ _ (are_clauses_over-more p.part.vars rest.vars p.part.clauses (below-low r ranges p.columns p.part.vars) (class-in r ranges columns n (bit_count-enough r (omega arith))))
+    (below-in r ranges p.columns p.part.vars (omega arith))
 
 pub copy-in : (ranges : List ℕ) (n : ℕ) → ranges_fit ranges ≡ true → are_clauses_over (copy_part ranges n).part.vars (copy_part ranges n).part.clauses ≡ true
-copy-in ranges n fit =
-    let p = numbers_part ranges n in
-    let rest = all_var_lits_part ranges (n + 1) p.vars in
-    list_all-append (is_clause_over rest.part.vars) p.clauses rest.part.clauses
-    ∙ and_from _ _ (are_clauses_over-more p.vars rest.part.vars p.clauses (columns-low ranges (n + 1) p.vars) (numbers-in ranges n)) (columns-in ranges (n + 1) p.vars (omega arith) (omega (arith, numbers-end ranges n)) fit)
+unfolding copy_part
+copy-in ranges n fit = below-in MAX_RANGES ranges (no_var_lits ranges) n (omega arith)

@@ -10,9 +10,10 @@ use Rattle.ilk_cnf.specs.Part.{FormulaPart, empty_part, or_gate_part}
 use Rattle.ilk_ints.specs.Bits.{bit_count}
 use Rattle.ilk_ints.specs.AtMost.{at_most_part, at_most_lit, highest_bit_decides}
 use Rattle.ilk_ints.specs.Named.{value_lits_part, bound_count, bound_lits_part_from, bound_lits_part}
-use Rattle.ilk_forms.specs.Copy.{numbers_part, var_lits_part, all_var_lits_part, copy_part, copy_bit_count}
-use Rattle.ilk_forms.proofs.ColumnLaw.{numbers-end}
 use Rattle.ilk_ints.proofs.ValuesLaw.{values-low}
+use Rattle.ilk_ints.proofs.TableParts.{named-end}
+use Rattle.ilk_forms.specs.Copy.{var_lits_part, copy_part, copy_var_count}
+use Rattle.ilk_forms.proofs.CopyWidth.{copy-most}
 
 bit_count-few : (range : ℕ) → bit_count range ≤ 8
 bit_count-few range = by_case (find (λ b. leb range (2 ^ b)) (range_with_len 0 8)) refl
@@ -85,16 +86,11 @@ column-few first range n = by_case (eqb range 2) refl
         let bounds : bound_count range ≤ range - bit_count range = (least (range - 3) (range - bit_count range)).1 in
         omega (arith, all, few, bounds, bits)
 
-columns-few : (ranges : List ℕ) (first n : ℕ) → (all_var_lits_part ranges first n).part.vars + copy_bit_count ranges ≤ n + 2 * sum ranges
-columns-few [] first n = omega arith
-columns-few (range ∷ ranges) first n =
-    let p = var_lits_part first range n in
-    let one = column-few first range n in
-    let rest = columns-few ranges (first + bit_count range) p.part.vars in
+pub width-few : (ranges : List ℕ) → copy_var_count ranges ≤ 2 * sum ranges
+width-few [] = omega arith
+width-few (range ∷ ranges) =
     let all : sum (range ∷ ranges) ≡ range + sum ranges = sum_by-cons (λ (x : ℕ). x) range ranges in
-    omega (arith, one, rest, all)
+    omega (arith, named-end 1 range 0, column-few 1 range 0, width-few ranges, all)
 
 pub copy-few : (ranges : List ℕ) (n : ℕ) → (copy_part ranges n).part.vars ≤ n + 2 * sum ranges
-copy-few ranges n =
-    let rest = columns-few ranges (n + 1) (numbers_part ranges n).vars in
-    omega (arith, rest, numbers-end ranges n)
+copy-few ranges n = omega (arith, copy-most ranges n, width-few ranges)

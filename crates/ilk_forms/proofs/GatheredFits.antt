@@ -1,108 +1,209 @@
--- Gathered literals and their part's clauses are over the part's variables.
-use Rattle.std.proofs.Common.{◌≡◌, ℕ, ◌+◌, ◌≤◌, Bool, true, false, not, List, [], ◌∷◌, cond, Option, Some, None, refl, ◌∙◌, arith}
+-- The gates of a form have the next variables, and its literals are over these and earlier ones.
+-- There are few of both.
+use Rattle.std.proofs.Common.{◌≡◌, ℕ, ◌+◌, ◌*◌, ◌≤◌, Bool, true, false, not, List, [], ◌∷◌, ◌++◌, length, map, cond, Option, Some, None, refl, sym, ap, ◌∙◌, arith, length-append}
+use Rattle.std.proofs.lemmas.List.{append-nil, length-map}
 use Rattle.std.proofs.lemmas.List.Folds.{list_all-append}
 use Rattle.std.proofs.lemmas.Bool.{and_parts, and_from}
-use Rattle.ilk_cnf.specs.Literal.{Literal, positive_lit}
-use Rattle.ilk_cnf.specs.Formula.{is_lit_over, is_clause_over, are_clauses_over}
-use Rattle.ilk_cnf.proofs.Literals.{is_clause_over-more, are_clauses_over-more}
-use Rattle.ilk_cnf.proofs.Gates.{new-in, all_of-in, any_of-in}
-use Rattle.ilk_ints.specs.Named.{PartWithLits}
+use Rattle.ilk_cnf.specs.Literal.{Literal, negated_lit}
+use Rattle.ilk_cnf.specs.Formula.{is_lit_over, is_clause_over}
+use Rattle.ilk_cnf.specs.Part.{FormulaPart, and_gate_clauses}
+use Rattle.ilk_cnf.proofs.Literals.{is_clause_over-more}
 use Rattle.ilk_ir.specs.Tree.{Tree, yes, no, is, all_of, any_of, negation, Trees, none, more, tree_valid, each_valid}
 use Rattle.ilk_forms.specs.declared.copy.VarValueAndBoundLits.{VarValueAndBoundLits}
+use Rattle.ilk_forms.specs.declared.gates.AndGate.{AndGate}
 use Rattle.ilk_forms.specs.Leaf.{value_lit, has_lits_within_vars, ranges_of}
 use Rattle.ilk_forms.specs.Bound.{or_of_values_bound_lit}
-use Rattle.ilk_forms.specs.Gathered.{PartWithLit, bool_equals, with_sign, part_with_no_lits, part_with_one_lit, lit_if_given_else_part, append_parts_with_lits, gate_part, combined_lit, combine_lits_into_one, keep_lits_if_same_gate, form_to_and_or_lits, forms_to_and_or_lits}
+use Rattle.ilk_forms.specs.Size.{tree_size, trees_size}
+use Rattle.ilk_forms.specs.Gates.{bool_equals, gates_part, gates_within, LitWithGates, and_lits, new_gate, lit_or_new_gate, shared_lit, combined_lit}
+use Rattle.ilk_forms.specs.Gathered.{LitsWithGates, no_lits, one_lit, optional_lit_or, append_lits, as_lits, combine_lits_into_one, keep_lits_if_same_gate, is_negated_gate, form_to_and_or_lits, forms_to_and_or_lits}
 use Rattle.ilk_forms.proofs.BoundLaw.{any-in}
 use Rattle.ilk_forms.proofs.Reading.{has_lits_within_vars-more, value_lit-in}
+use Rattle.ilk_forms.proofs.GatesLaw.{gates_fit, signed-in, gates_fit-append, gates_within-append, gates_within-more, gates_fit-within, gates_part-append, combined_lit-fits, combined_lit-in}
 
-pub record Fits (n : ℕ) (g : PartWithLits) : Type 0 where
-  pub low : n ≤ g.part.vars
-  pub inside : are_clauses_over g.part.vars g.part.clauses ≡ true
-  pub lits : is_clause_over g.part.vars g.lits ≡ true
+-- Holds if the gates are new after the first `n` variables, and the literals are over all of these.
+pub record Fits (n : ℕ) (g : LitsWithGates) : Type 0 where
+  pub gates : gates_fit n g.gates ≡ true
+  pub lits : is_clause_over (n + length g.gates) g.lits ≡ true
 
-pub record SingleFits (n : ℕ) (s : PartWithLit) : Type 0 where
-  pub low : n ≤ s.part.vars
-  pub inside : are_clauses_over s.part.vars s.part.clauses ≡ true
-  pub lit : is_lit_over s.part.vars s.lit ≡ true
+-- The same with one literal.
+pub record OneFits (n : ℕ) (g : LitWithGates) : Type 0 where
+  pub gates : gates_fit n g.gates ≡ true
+  pub lit : is_lit_over (n + length g.gates) g.lit ≡ true
 
-same : (n : ℕ) → n ≤ n
-same n = omega arith
+pub known-more : (known gates : List AndGate) (n : ℕ) → gates_within n known ≡ true → gates_fit n gates ≡ true → gates_within (n + length gates) (known ++ gates) ≡ true
+known-more known gates n inside fit =
+    gates_within-append known gates (n + length gates) ∙ and_from _ _ (gates_within-more n (n + length gates) known (omega arith) inside) (gates_fit-within gates n fit)
 
-pub part_with_no_lits-fits : (n : ℕ) → Fits n (part_with_no_lits n)
-part_with_no_lits-fits n = record { low = same n; inside = refl; lits = refl }
+no_lits-fits : (n : ℕ) → Fits n no_lits
+no_lits-fits n = record { gates = refl; lits = refl }
 
-pub then-fits : (n : ℕ) (g : PartWithLits) (h : ℕ → PartWithLits) → Fits n g → Fits g.part.vars (h g.part.vars) → Fits n (append_parts_with_lits g h)
-then-fits n g h one two =
-    let m = g.part.vars in
-    let k = (h m).part.vars in
-    let first = one.low in
-    let next = two.low in
+append-fits : (n : ℕ) (g : LitsWithGates) (h : List AndGate → ℕ → LitsWithGates) → Fits n g → Fits (n + length g.gates) (h g.gates (length g.gates)) → Fits n (append_lits g h)
+append-fits n g h one two =
+    let m = length g.gates in
+    let later = h g.gates m in
+    let k : n + m + length later.gates ≡ n + length (g.gates ++ later.gates) = omega (arith, length-append g.gates later.gates) in
+    let first : is_clause_over (n + length (g.gates ++ later.gates)) g.lits ≡ true = is_clause_over-more (n + m) (n + length (g.gates ++ later.gates)) g.lits (omega (arith, length-append g.gates later.gates)) one.lits in
+    let next : is_clause_over (n + length (g.gates ++ later.gates)) later.lits ≡ true = ap (λ (v : ℕ). is_clause_over v later.lits) (sym k) ∙ two.lits in
     record {
-      low = omega arith;
-      inside = list_all-append (is_clause_over k) g.part.clauses (h m).part.clauses ∙ and_from _ _ (are_clauses_over-more m k g.part.clauses next one.inside) two.inside;
-      lits = list_all-append (is_lit_over k) g.lits (h m).lits ∙ and_from _ _ (is_clause_over-more m k g.lits next one.lits) two.lits;
+      gates = gates_fit-append g.gates later.gates n ∙ and_from _ _ one.gates two.gates;
+      lits = list_all-append (is_lit_over (n + length (g.gates ++ later.gates))) g.lits later.lits ∙ and_from _ _ first next;
     }
 
-gate-fits : (all : Bool) (ls : List Literal) (n : ℕ) → is_clause_over n ls ≡ true → SingleFits n (record { part = gate_part all ls n; lit = positive_lit (n + 1) })
-gate-fits true ls n h = record { low = omega arith; inside = all_of-in n ls h; lit = new-in n true }
-gate-fits false ls n h = record { low = omega arith; inside = any_of-in n ls h; lit = new-in n true }
-
-combined_lit-fits : (all : Bool) (ls : List Literal) (n : ℕ) → is_clause_over n ls ≡ true → SingleFits n (combined_lit all ls n)
-combined_lit-fits all [] n h = gate-fits all [] n h
-combined_lit-fits all (l ∷ []) n h = record { low = same n; inside = refl; lit = (and_parts _ _ h).0 }
-combined_lit-fits all (l ∷ m ∷ ls) n h = gate-fits all (l ∷ m ∷ ls) n h
-
-pub combine_lits_into_one-fits : (all : Bool) (n : ℕ) (g : PartWithLits) → Fits n g → SingleFits n (combine_lits_into_one all g)
-combine_lits_into_one-fits all n g h =
-    let m = g.part.vars in
-    let s = combined_lit all g.lits m in
-    let k = s.part.vars in
-    let last = combined_lit-fits all g.lits m h.lits in
-    let first = h.low in
-    let next = last.low in
+combine-fits : (known : List AndGate) (n : ℕ) (all : Bool) (g : LitsWithGates) → gates_within n known ≡ true → Fits n g → OneFits n (combine_lits_into_one known n all g)
+combine-fits known n all g inside fits =
+    let m = n + length g.gates in
+    let c = combined_lit (known ++ g.gates) all g.lits m in
+    let grown = known-more known g.gates n inside fits.gates in
+    let k : m + length c.gates ≡ n + length (g.gates ++ c.gates) = omega (arith, length-append g.gates c.gates) in
     record {
-      low = omega arith;
-      inside = list_all-append (is_clause_over k) g.part.clauses s.part.clauses ∙ and_from _ _ (are_clauses_over-more m k g.part.clauses next h.inside) last.inside;
-      lit = last.lit;
+      gates = gates_fit-append g.gates c.gates n ∙ and_from _ _ fits.gates (combined_lit-fits (known ++ g.gates) all g.lits m grown fits.lits);
+      lit = ap (λ (v : ℕ). is_lit_over v c.lit) (sym k) ∙ combined_lit-in (known ++ g.gates) all g.lits m grown fits.lits;
     }
 
-keep_lits_if_same_gate-fits : (outer inner : Bool) (n : ℕ) (g : PartWithLits) → Fits n g → Fits n (keep_lits_if_same_gate outer inner g)
-keep_lits_if_same_gate-fits outer inner n g h = by_case (bool_equals outer inner)
+as_lits-fits : (positive : Bool) (n : ℕ) (g : LitWithGates) → OneFits n g → Fits n (as_lits positive g)
+as_lits-fits positive n g h = record { gates = h.gates; lits = and_from _ _ (signed-in positive (n + length g.gates) g.lit h.lit) refl }
+
+merge-fits : (known : List AndGate) (n : ℕ) (outer inner : Bool) (g : LitsWithGates) → gates_within n known ≡ true → Fits n g → Fits n (keep_lits_if_same_gate known n outer inner g)
+merge-fits known n outer inner g inside fits = by_case (bool_equals outer inner)
   where
-    by_case : (b : Bool) → Fits n (cond b g (record { part = (combine_lits_into_one inner g).part; lits = (combine_lits_into_one inner g).lit ∷ [] }))
-    by_case true = h
-    by_case false =
-        let s = combine_lits_into_one-fits inner n g h in
-        record { low = s.low; inside = s.inside; lits = and_from _ _ s.lit refl }
+    by_case : (b : Bool) → Fits n (cond {A = LitsWithGates} b g (as_lits true (combine_lits_into_one known n inner g)))
+    by_case true = fits
+    by_case false = as_lits-fits true n (combine_lits_into_one known n inner g) (combine-fits known n inner g inside fits)
 
-pub signed-in : (positive : Bool) (n : ℕ) (l : Literal) → is_lit_over n l ≡ true → is_lit_over n (with_sign positive l) ≡ true
-signed-in true n l h = h
-signed-in false n l h = h
+one_lit-fits : (positive : Bool) (l : Literal) (n : ℕ) → is_lit_over n l ≡ true → Fits n (one_lit positive l)
+one_lit-fits positive l n h = as_lits-fits positive n (record { gates = []; lit = l }) (record { gates = refl; lit = ap (λ (v : ℕ). is_lit_over v l) (omega arith) ∙ h })
 
-part_with_one_lit-fits : (positive : Bool) (l : Literal) (n : ℕ) → is_lit_over n l ≡ true → Fits n (part_with_one_lit positive l n)
-part_with_one_lit-fits positive l n h = record { low = same n; inside = refl; lits = and_from _ _ (signed-in positive n l h) refl }
+optional_lit-fits : (positive : Bool) (o : Option Literal) (n : ℕ) (g : LitsWithGates) → ((l : Literal) → o ≡ Some l → is_lit_over n l ≡ true) → Fits n g → Fits n (optional_lit_or positive o g)
+optional_lit-fits positive None n g inside h = h
+optional_lit-fits positive (Some l) n g inside h = one_lit-fits positive l n (inside l refl)
 
-lit_if_given_else_part-fits : (positive : Bool) (o : Option Literal) (n : ℕ) (g : PartWithLits) → ((l : Literal) → o ≡ Some l → is_lit_over n l ≡ true) → Fits n g → Fits n (lit_if_given_else_part positive o n g)
-lit_if_given_else_part-fits positive None n g inside h = h
-lit_if_given_else_part-fits positive (Some l) n g inside h = part_with_one_lit-fits positive l n (inside l refl)
+negation-fits :
+    (known : List AndGate) (n : ℕ) (mark positive : Bool) (g h : LitsWithGates) → gates_within n known ≡ true → Fits n g → Fits n h →
+    Fits n (cond {A = LitsWithGates} mark (as_lits positive (combine_lits_into_one known n true g)) h)
+negation-fits known n true positive g h inside marked other = as_lits-fits positive n (combine_lits_into_one known n true g) (combine-fits known n true g inside marked)
+negation-fits known n false positive g h inside marked other = other
 
 mutual
-  pub form_to_and_or_lits-fits : (t : Tree) (columns : List VarValueAndBoundLits) (all positive : Bool) (n : ℕ) → has_lits_within_vars n columns ≡ true → tree_valid (ranges_of columns) t ≡ true → Fits n (form_to_and_or_lits columns all positive t n)
-  form_to_and_or_lits-fits yes columns all positive n h k = keep_lits_if_same_gate-fits all positive n (part_with_no_lits n) (part_with_no_lits-fits n)
-  form_to_and_or_lits-fits no columns all positive n h k = keep_lits_if_same_gate-fits all (not positive) n (part_with_no_lits n) (part_with_no_lits-fits n)
-  form_to_and_or_lits-fits (is v c) columns all positive n h k = part_with_one_lit-fits positive (value_lit columns v c) n (value_lit-in columns v c n h k)
-  form_to_and_or_lits-fits (all_of ts) columns all positive n h k = keep_lits_if_same_gate-fits all positive n (forms_to_and_or_lits columns positive positive ts n) (forms_to_and_or_lits-fits ts columns positive positive n h k)
-  form_to_and_or_lits-fits (any_of ts) columns all positive n h k =
-      let g = forms_to_and_or_lits columns (not positive) positive ts n in
-      lit_if_given_else_part-fits positive (or_of_values_bound_lit columns ts) n (keep_lits_if_same_gate all (not positive) g) (λ l e. any-in ts columns n l h e) (keep_lits_if_same_gate-fits all (not positive) n g (forms_to_and_or_lits-fits
-      ts columns (not positive) positive n h k))
-  form_to_and_or_lits-fits (negation t) columns all positive n h k = form_to_and_or_lits-fits t columns all (not positive) n h k
+  pub form-fits :
+      (t : Tree) (columns : List VarValueAndBoundLits) (all positive : Bool) (known : List AndGate) (n : ℕ) →
+      has_lits_within_vars n columns ≡ true → gates_within n known ≡ true → tree_valid (ranges_of columns) t ≡ true →
+      Fits n (form_to_and_or_lits columns all positive t known n)
+  form-fits yes columns all positive known n within inside valid = merge-fits known n all positive no_lits inside (no_lits-fits n)
+  form-fits no columns all positive known n within inside valid = merge-fits known n all (not positive) no_lits inside (no_lits-fits n)
+  form-fits (is v c) columns all positive known n within inside valid = one_lit-fits positive (value_lit columns v c) n (value_lit-in columns v c n within valid)
+  form-fits (all_of ts) columns all positive known n within inside valid =
+      merge-fits known n all positive (forms_to_and_or_lits columns positive positive ts known n) inside (forms-fits ts columns positive positive known n within inside valid)
+  form-fits (any_of ts) columns all positive known n within inside valid =
+      let g = forms_to_and_or_lits columns (not positive) positive ts known n in
+      optional_lit-fits positive (or_of_values_bound_lit columns ts) n (keep_lits_if_same_gate known n all (not positive) g) (λ l e. any-in ts columns n l within e)
+      (merge-fits known n all (not positive) g inside (forms-fits ts columns (not positive) positive known n within inside valid))
+  form-fits (negation t) columns all positive known n within inside valid =
+      negation-fits known n (is_negated_gate t) positive (form_to_and_or_lits columns true false t known n) (form_to_and_or_lits columns all (not positive) t known n) inside
+      (form-fits t columns true false known n within inside valid) (form-fits t columns all (not positive) known n within inside valid)
 
-  pub forms_to_and_or_lits-fits : (ts : Trees) (columns : List VarValueAndBoundLits) (all positive : Bool) (n : ℕ) → has_lits_within_vars n columns ≡ true → each_valid (ranges_of columns) ts ≡ true →
-      Fits n (forms_to_and_or_lits columns all positive ts n)
-  forms_to_and_or_lits-fits none columns all positive n h k = part_with_no_lits-fits n
-  forms_to_and_or_lits-fits (more t ts) columns all positive n h k =
-      let parts = and_parts _ _ k in
-      let first = form_to_and_or_lits-fits t columns all positive n h parts.0 in
-      let m = (form_to_and_or_lits columns all positive t n).part.vars in
-      then-fits n (form_to_and_or_lits columns all positive t n) (forms_to_and_or_lits columns all positive ts) first (forms_to_and_or_lits-fits ts columns all positive m (has_lits_within_vars-more n m columns first.low h) parts.1)
+  pub forms-fits :
+      (ts : Trees) (columns : List VarValueAndBoundLits) (all positive : Bool) (known : List AndGate) (n : ℕ) →
+      has_lits_within_vars n columns ≡ true → gates_within n known ≡ true → each_valid (ranges_of columns) ts ≡ true →
+      Fits n (forms_to_and_or_lits columns all positive ts known n)
+  forms-fits none columns all positive known n within inside valid = no_lits-fits n
+  forms-fits (more t ts) columns all positive known n within inside valid =
+      let parts = and_parts _ _ valid in
+      let g = form_to_and_or_lits columns all positive t known n in
+      let first = form-fits t columns all positive known n within inside parts.0 in
+      let m = n + length g.gates in
+      append-fits n g (λ gates k. forms_to_and_or_lits columns all positive ts (known ++ gates) (n + k)) first
+      (forms-fits ts columns all positive (known ++ g.gates) m (has_lits_within_vars-more n m columns (omega arith) within) (known-more known g.gates n inside first.gates) parts.1)
+
+-- Holds if at most `k` gates are new, and their clauses and the literals are at most 2 `k`.
+pub record Few (k : ℕ) (g : LitsWithGates) : Type 0 where
+  pub vars : length g.gates ≤ k
+  pub clauses : length (gates_part g.gates 0).clauses + length g.lits ≤ 2 * k
+
+clauses-append : (gs hs : List AndGate) → length (gates_part (gs ++ hs) 0).clauses ≡ length (gates_part gs 0).clauses + length (gates_part hs 0).clauses
+clauses-append gs hs =
+    ap (λ (p : FormulaPart). length p.clauses) (gates_part-append gs hs 0) ∙ length-append (gates_part gs 0).clauses (gates_part hs 0).clauses
+
+gate-few : (g : AndGate) → length (gates_part (g ∷ []) 0).clauses ≡ length g.lits + 1
+gate-few g =
+    ap length (append-nil (and_gate_clauses g.lit g.lits))
+    ∙ length-append (map (λ l. negated_lit g.lit ∷ l ∷ []) g.lits) ((g.lit ∷ map negated_lit g.lits) ∷ [])
+    ∙ ap (λ (k : ℕ). k + 1) (length-map g.lits (λ l. negated_lit g.lit ∷ l ∷ []))
+
+and_lits-length : (all : Bool) (ls : List Literal) → length (and_lits all ls) ≡ length ls
+and_lits-length true ls = refl
+and_lits-length false ls = length-map ls negated_lit
+
+lit_or_new_gate-few : (all : Bool) (ls : List Literal) (n : ℕ) (o : Option Literal) → (length (lit_or_new_gate all ls n o).gates ≤ 1) × (length (gates_part (lit_or_new_gate all ls n o).gates 0).clauses ≤ length ls + 1)
+lit_or_new_gate-few all ls n (Some l) = (omega arith, omega arith)
+lit_or_new_gate-few all ls n None = (omega arith, omega (arith, gate-few (new_gate all ls n), and_lits-length all ls))
+
+combined_lit-few :
+    (known : List AndGate) (all : Bool) (ls : List Literal) (n : ℕ) →
+    (length (combined_lit known all ls n).gates ≤ 1) × (length (gates_part (combined_lit known all ls n).gates 0).clauses ≤ length ls + 1)
+combined_lit-few known all [] n = lit_or_new_gate-few all [] n (shared_lit known (and_lits all []))
+combined_lit-few known all (l ∷ []) n = (omega arith, omega arith)
+combined_lit-few known all (l ∷ m ∷ ls) n = lit_or_new_gate-few all (l ∷ m ∷ ls) n (shared_lit known (and_lits all (l ∷ m ∷ ls)))
+
+combine-few : (known : List AndGate) (n : ℕ) (all positive : Bool) (k : ℕ) (g : LitsWithGates) → Few k g → Few (k + 1) (as_lits positive (combine_lits_into_one known n all g))
+combine-few known n all positive k g h =
+    let c = combined_lit (known ++ g.gates) all g.lits (n + length g.gates) in
+    let last = combined_lit-few (known ++ g.gates) all g.lits (n + length g.gates) in
+    let vars = h.vars in
+    let clauses = h.clauses in
+    let one = last.0 in
+    let two = last.1 in
+    record { vars = omega (arith, length-append g.gates c.gates); clauses = omega (arith, clauses-append g.gates c.gates) }
+
+more-few : (k : ℕ) (g : LitsWithGates) → Few k g → Few (k + 1) g
+more-few k g h = let vars = h.vars in let clauses = h.clauses in record { vars = omega arith; clauses = omega arith }
+
+merge-few : (known : List AndGate) (n : ℕ) (outer inner : Bool) (k : ℕ) (g : LitsWithGates) → Few k g → Few (k + 1) (keep_lits_if_same_gate known n outer inner g)
+merge-few known n outer inner k g h = by_case (bool_equals outer inner)
+  where
+    by_case : (b : Bool) → Few (k + 1) (cond {A = LitsWithGates} b g (as_lits true (combine_lits_into_one known n inner g)))
+    by_case true = more-few k g h
+    by_case false = combine-few known n inner true k g h
+
+no_lits-few : Few 0 no_lits
+no_lits-few = record { vars = omega arith; clauses = omega arith }
+
+append-few : (j k : ℕ) (g : LitsWithGates) (h : List AndGate → ℕ → LitsWithGates) → Few j g → Few k (h g.gates (length g.gates)) → Few (j + k) (append_lits g h)
+append-few j k g h one two =
+    let later = h g.gates (length g.gates) in
+    let v = one.vars in
+    let c = one.clauses in
+    let w = two.vars in
+    let d = two.clauses in
+    record { vars = omega (arith, length-append g.gates later.gates); clauses = omega (arith, clauses-append g.gates later.gates, length-append g.lits later.lits) }
+
+optional_lit-few : (positive : Bool) (o : Option Literal) (k : ℕ) (g : LitsWithGates) → Few (k + 1) g → Few (k + 1) (optional_lit_or positive o g)
+optional_lit-few positive None k g h = h
+optional_lit-few positive (Some l) k g h = record { vars = omega arith; clauses = omega arith }
+
+negation-few :
+    (known : List AndGate) (n : ℕ) (mark positive : Bool) (k : ℕ) (g h : LitsWithGates) → Few k g → Few k h →
+    Few (k + 1) (cond {A = LitsWithGates} mark (as_lits positive (combine_lits_into_one known n true g)) h)
+negation-few known n true positive k g h marked other = combine-few known n true positive k g marked
+negation-few known n false positive k g h marked other = more-few k h other
+
+mutual
+  pub form-few : (t : Tree) (columns : List VarValueAndBoundLits) (all positive : Bool) (known : List AndGate) (n : ℕ) → Few (tree_size t) (form_to_and_or_lits columns all positive t known n)
+  form-few yes columns all positive known n = merge-few known n all positive 0 no_lits no_lits-few
+  form-few no columns all positive known n = merge-few known n all (not positive) 0 no_lits no_lits-few
+  form-few (is v c) columns all positive known n = record { vars = omega arith; clauses = omega arith }
+  form-few (all_of ts) columns all positive known n =
+      merge-few known n all positive (trees_size ts) (forms_to_and_or_lits columns positive positive ts known n) (forms-few ts columns positive positive known n)
+  form-few (any_of ts) columns all positive known n =
+      let g = forms_to_and_or_lits columns (not positive) positive ts known n in
+      optional_lit-few positive (or_of_values_bound_lit columns ts) (trees_size ts) (keep_lits_if_same_gate known n all (not positive) g)
+      (merge-few known n all (not positive) (trees_size ts) g (forms-few ts columns (not positive) positive known n))
+  form-few (negation t) columns all positive known n =
+      negation-few known n (is_negated_gate t) positive (tree_size t) (form_to_and_or_lits columns true false t known n) (form_to_and_or_lits columns all (not positive) t known n)
+      (form-few t columns true false known n) (form-few t columns all (not positive) known n)
+
+  pub forms-few : (ts : Trees) (columns : List VarValueAndBoundLits) (all positive : Bool) (known : List AndGate) (n : ℕ) → Few (trees_size ts) (forms_to_and_or_lits columns all positive ts known n)
+  forms-few none columns all positive known n = no_lits-few
+  forms-few (more t ts) columns all positive known n =
+      let g = form_to_and_or_lits columns all positive t known n in
+      append-few (tree_size t) (trees_size ts) g (λ gates k. forms_to_and_or_lits columns all positive ts (known ++ gates) (n + k)) (form-few t columns all positive known n)
+      (forms-few ts columns all positive (known ++ g.gates) (n + length g.gates))

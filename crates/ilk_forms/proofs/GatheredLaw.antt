@@ -1,190 +1,112 @@
--- At values of a copy, gathered literals have their truth values, and each new variable has one
--- value.
-use Rattle.std.proofs.Common.{◌≡◌, ℕ, ◌+◌, ◌≤◌, Bool, true, false, not, List, [], ◌∷◌, ◌++◌, length, map, cond, Option, Some, None, refl, sym, ap, ◌∙◌, subst, arith, append_assoc}
-use Rattle.std.specs.List.{list_all, list_any}
-use Rattle.std.proofs.lemmas.List.{append-nil, map-append}
-use Rattle.std.proofs.lemmas.List.Folds.{list_all-map}
+-- At values of a copy, where the gates hold, the literals of a form are all (or some of them) true
+-- exactly if the form is as required.
+use Rattle.std.proofs.Common.{◌≡◌, ℕ, ◌+◌, Bool, true, false, not, List, [], ◌∷◌, ◌++◌, length, map, cond, Option, Some, None, refl, ap, ◌∙◌}
+use Rattle.std.proofs.lemmas.List.{map-append}
 use Rattle.std.proofs.lemmas.Bool.{and_parts}
-use Rattle.ilk_base.proofs.Tested.{list_any-map}
-use Rattle.ilk_base.proofs.Lengths.{longer}
-use Rattle.ilk_cnf.specs.Literal.{Literal, positive_lit}
-use Rattle.ilk_cnf.specs.Formula.{is_clause_over}
+use Rattle.ilk_cnf.specs.Literal.{Literal}
 use Rattle.ilk_cnf.specs.Truth.{is_true}
-use Rattle.ilk_cnf.specs.Extends.{ExtensionsAreExactly, EqualsGivenValues}
-use Rattle.ilk_cnf.proofs.Parts.{value-new, one_by_one}
-use Rattle.ilk_cnf.proofs.Gates.{is_true-negated_lit}
-use Rattle.ilk_cnf.proofs.Extending.{no_more_if, only_from_if, all_of-law, any_of-law}
-use Rattle.ilk_ints.specs.Named.{PartWithLits}
-use Rattle.ilk_ints.proofs.OneOfLaw.{map-left}
-use Rattle.ilk_ir.specs.Tree.{Tree, yes, no, is, all_of, any_of, negation, Trees, none, more, some_holds, tree_valid, each_valid, is_value_of_var}
+use Rattle.ilk_ir.specs.Tree.{Tree, yes, no, is, all_of, any_of, negation, Trees, none, more, tree_holds, each_holds, some_holds, tree_valid, each_valid, is_value_of_var}
 use Rattle.ilk_forms.specs.declared.copy.VarValueAndBoundLits.{VarValueAndBoundLits}
-use Rattle.ilk_forms.specs.Leaf.{value_lit, has_lits_within_vars, ranges_of}
+use Rattle.ilk_forms.specs.declared.gates.AndGate.{AndGate}
+use Rattle.ilk_forms.specs.Leaf.{value_lit, ranges_of}
 use Rattle.ilk_forms.specs.Bound.{or_of_values_bound_lit, has_bound_lit_for_or}
-use Rattle.ilk_forms.specs.Gathered.{PartWithLit, bool_equals, with_sign, part_with_no_lits, part_with_one_lit, lit_if_given_else_part, append_parts_with_lits, gate_part, combined_lit, combine_lits_into_one, keep_lits_if_same_gate, form_to_and_or_lits, forms_to_and_or_lits}
-use Rattle.ilk_forms.specs.Truths.{VarAndLitTruths, no_truths, single_lit_truth, append_var_and_lit_truths, gate_truth, gate_var_bit_if_any, merge_truths_if_same_gate, truths, truths_each}
+use Rattle.ilk_forms.specs.Gates.{bool_equals, with_sign, GatesHold, combined_lit}
+use Rattle.ilk_forms.specs.Gathered.{LitsWithGates, no_lits, optional_lit_or, append_lits, as_lits, combine_lits_into_one, keep_lits_if_same_gate, is_negated_gate, form_to_and_or_lits, forms_to_and_or_lits}
 use Rattle.ilk_forms.proofs.BoundForms.{Stands}
 use Rattle.ilk_forms.proofs.BoundLaw.{any-says}
-use Rattle.ilk_forms.proofs.Reading.{Reads, reads-more}
-use Rattle.ilk_forms.proofs.TruthsMean.{alone}
-use Rattle.ilk_forms.proofs.GatheredFits.{Fits, form_to_and_or_lits-fits, forms_to_and_or_lits-fits}
+use Rattle.ilk_forms.proofs.Reading.{Reads}
+use Rattle.ilk_forms.proofs.GatesLaw.{gate_truth, alone, signed-says, GatesHold-append, GatesHold-parts, combined_lit-means}
+use Rattle.ilk_forms.proofs.TruthsMean.{both_or_one, forms_are, gate_truth-append, none_means, all-are, some-are, constant, other_constant, turned}
 
-pub record Says (a : List Bool) (g : PartWithLits) (t : VarAndLitTruths) : Type 0 where
-  pub part : ExtensionsAreExactly a g.part.vars g.part.clauses (EqualsGivenValues t.bits)
-  pub means : map (is_true (a ++ t.bits)) g.lits ≡ t.lits
+combine-means :
+    (b : List Bool) (known : List AndGate) (n : ℕ) (all : Bool) (g : LitsWithGates) → GatesHold b known →
+    GatesHold b (combine_lits_into_one known n all g).gates →
+    is_true b (combine_lits_into_one known n all g).lit ≡ gate_truth all (map (is_true b) g.lits)
+combine-means b known n all g holds new =
+    let c = combined_lit (known ++ g.gates) all g.lits (n + length g.gates) in
+    let parts = GatesHold-parts g.gates c.gates b new in
+    combined_lit-means b (known ++ g.gates) all g.lits (n + length g.gates) (GatesHold-append known g.gates b holds parts.0) parts.1
 
-pub record SingleSays (a : List Bool) (s : PartWithLit) (bits : List Bool) (truth : Bool) : Type 0 where
-  pub part : ExtensionsAreExactly a s.part.vars s.part.clauses (EqualsGivenValues bits)
-  pub means : is_true (a ++ bits) s.lit ≡ truth
+combine-hold :
+    (b : List Bool) (known : List AndGate) (n : ℕ) (all : Bool) (g : LitsWithGates) →
+    GatesHold b (combine_lits_into_one known n all g).gates → GatesHold b g.gates
+combine-hold b known n all g new = (GatesHold-parts g.gates (combined_lit (known ++ g.gates) all g.lits (n + length g.gates)).gates b new).0
 
-nothing : (a : List Bool) (n : ℕ) → length a ≡ n → ExtensionsAreExactly a n [] (EqualsGivenValues [])
-nothing a n size = only_from_if a n [] [] (no_more_if a n [] true size refl)
+merge-means :
+    (b : List Bool) (known : List AndGate) (n : ℕ) (outer inner truth : Bool) (g : LitsWithGates) → GatesHold b known →
+    GatesHold b (keep_lits_if_same_gate known n outer inner g).gates →
+    (GatesHold b g.gates → gate_truth inner (map (is_true b) g.lits) ≡ truth) →
+    gate_truth outer (map (is_true b) (keep_lits_if_same_gate known n outer inner g).lits) ≡ truth
+merge-means b known n true true truth g holds new means = means new
+merge-means b known n true false truth g holds new means =
+    alone true (is_true b (combine_lits_into_one known n false g).lit) ∙ combine-means b known n false g holds new ∙ means (combine-hold b known n false g new)
+merge-means b known n false true truth g holds new means =
+    alone false (is_true b (combine_lits_into_one known n true g).lit) ∙ combine-means b known n true g holds new ∙ means (combine-hold b known n true g new)
+merge-means b known n false false truth g holds new means = means new
 
-pub part_with_no_lits-says : (a : List Bool) (n : ℕ) → length a ≡ n → Says a (part_with_no_lits n) no_truths
-part_with_no_lits-says a n size = record { part = nothing a n size; means = refl }
+append-means :
+    (b : List Bool) (all : Bool) (g : LitsWithGates) (h : List AndGate → ℕ → LitsWithGates) →
+    gate_truth all (map (is_true b) (append_lits g h).lits)
+    ≡ both_or_one all (gate_truth all (map (is_true b) g.lits)) (gate_truth all (map (is_true b) (h g.gates (length g.gates)).lits))
+append-means b all g h =
+    let later = (h g.gates (length g.gates)).lits in
+    ap (gate_truth all) (map-append (is_true b) g.lits later) ∙ gate_truth-append all (map (is_true b) g.lits) (map (is_true b) later)
 
-pub then-says : (a : List Bool) (n : ℕ) (g : PartWithLits) (h : ℕ → PartWithLits) (s t : VarAndLitTruths) → length a ≡ n → Fits n g → Fits g.part.vars (h g.part.vars) → Says a g s → Says (a ++ s.bits) (h g.part.vars) t
-    → Says a (append_parts_with_lits g h) (append_var_and_lit_truths s t)
-then-says a n g h s t size fits next_fits one two =
-    let m = g.part.vars in
-    let k = (h m).part.vars in
-    let long : length (a ++ s.bits) ≡ m = one.part.sized s.bits refl in
-    let low : length a ≤ m = rw size fits.low in
-    let whole : (a ++ s.bits) ++ t.bits ≡ a ++ (s.bits ++ t.bits) = append_assoc a s.bits t.bits in
-    let inside : is_clause_over (length (a ++ s.bits)) g.lits ≡ true = rw long fits.lits in
-    let first : map (is_true (a ++ (s.bits ++ t.bits))) g.lits ≡ s.lits = subst (λ (u : List Bool). map (is_true u) g.lits ≡ s.lits) whole (map-left (a ++ s.bits) t.bits g.lits inside ∙ one.means) in
-    let next : map (is_true (a ++ (s.bits ++ t.bits))) (h m).lits ≡ t.lits = subst (λ (u : List Bool). map (is_true u) (h m).lits ≡ t.lits) whole two.means in
-    record {
-      part = one_by_one a s.bits t.bits m k g.part.clauses (h m).part.clauses low next_fits.low fits.inside one.part two.part;
-      means = map-append (is_true (a ++ (s.bits ++ t.bits))) g.lits (h m).lits ∙ rw (first, next) refl;
-    }
+one_lit-means : (b : List Bool) (all positive truth : Bool) (l : Literal) → is_true b l ≡ truth → gate_truth all (is_true b (with_sign positive l) ∷ []) ≡ bool_equals positive truth
+one_lit-means b all positive truth l means = alone all (is_true b (with_sign positive l)) ∙ signed-says b positive l ∙ ap (bool_equals positive) means
 
-gate-says : (a : List Bool) (all : Bool) (ls : List Literal) (n : ℕ) → length a ≡ n → is_clause_over n ls ≡ true →
-    SingleSays a (record { part = gate_part all ls n; lit = positive_lit (n + 1) })
-    (gate_truth all (map (is_true a) ls) ∷ []) (gate_truth all (map (is_true a) ls))
-gate-says a true ls n size h =
-    let e : list_all (is_true a) ls ≡ gate_truth true (map (is_true a) ls) = sym (list_all-map (λ (q : Bool). q) (is_true a) ls) in
-    record {
-      part = subst (λ (q : Bool). ExtensionsAreExactly a (n + 1) (gate_part true ls n).clauses (EqualsGivenValues (q ∷ []))) e (all_of-law a n ls size h);
-      means = value-new a [] (gate_truth true (map (is_true a) ls)) (n + 1) (ap (λ (k : ℕ). k + 1) size);
-    }
-gate-says a false ls n size h =
-    let e : list_any (is_true a) ls ≡ gate_truth false (map (is_true a) ls) = sym (list_any-map (λ (q : Bool). q) (is_true a) ls) in
-    record {
-      part = subst (λ (q : Bool). ExtensionsAreExactly a (n + 1) (gate_part false ls n).clauses (EqualsGivenValues (q ∷ []))) e (any_of-law a n ls size h);
-      means = value-new a [] (gate_truth false (map (is_true a) ls)) (n + 1) (ap (λ (k : ℕ). k + 1) size);
-    }
+optional_lit-means :
+    (b : List Bool) (all positive has truth : Bool) (o : Option Literal) (g : LitsWithGates) → Stands b o has truth →
+    GatesHold b (optional_lit_or positive o g).gates →
+    (GatesHold b g.gates → gate_truth all (map (is_true b) g.lits) ≡ bool_equals positive truth) →
+    gate_truth all (map (is_true b) (optional_lit_or positive o g).lits) ≡ bool_equals positive truth
+optional_lit-means b all positive has truth None g stands new means = means new
+optional_lit-means b all positive has truth (Some l) g stands new means = one_lit-means b all positive truth l stands.1
 
-combined_lit-says : (a : List Bool) (all : Bool) (ls : List Literal) (n : ℕ) → length a ≡ n → is_clause_over n ls ≡ true → SingleSays a (combined_lit all ls n) (gate_var_bit_if_any all (map (is_true a) ls)) (gate_truth all (map (is_true a) ls))
-combined_lit-says a all [] n size h = gate-says a all [] n size h
-combined_lit-says a all (l ∷ []) n size h = record {
-  part = nothing a n size;
-  means = ap (λ (u : List Bool). is_true u l) (append-nil a) ∙ sym (alone all (is_true a l));
-}
-combined_lit-says a all (l ∷ m ∷ ls) n size h = gate-says a all (l ∷ m ∷ ls) n size h
-
-pub combine_lits_into_one-says : (a : List Bool) (all : Bool) (n : ℕ) (g : PartWithLits) (t : VarAndLitTruths) → length a ≡ n → Fits n g → Says a g t → SingleSays a (combine_lits_into_one all g) (t.bits ++
-    gate_var_bit_if_any all t.lits) (gate_truth all t.lits)
-combine_lits_into_one-says a all n g t size fits one =
-    let m = g.part.vars in
-    let s = combined_lit all g.lits m in
-    let long : length (a ++ t.bits) ≡ m = one.part.sized t.bits refl in
-    let low : length a ≤ m = rw size fits.low in
-    let e = gate_var_bit_if_any all t.lits in
-    let last : SingleSays (a ++ t.bits) s e (gate_truth all t.lits) = subst (λ (qs : List Bool). SingleSays (a ++ t.bits) s (gate_var_bit_if_any all qs) (gate_truth all qs)) one.means (combined_lit-says (a ++ t.bits) all g.lits m long fits.lits) in
-    record {
-      part = one_by_one a t.bits e m s.part.vars g.part.clauses s.part.clauses low (single_of-low all g.lits m) fits.inside one.part last.part;
-      means = subst (λ (u : List Bool). is_true u s.lit ≡ gate_truth all t.lits) (append_assoc a t.bits e) last.means;
-    }
-  where
-    single_of-low : (all : Bool) (ls : List Literal) (n : ℕ) → n ≤ (combined_lit all ls n).part.vars
-    single_of-low true [] n = omega arith
-    single_of-low false [] n = omega arith
-    single_of-low all (l ∷ []) n = omega arith
-    single_of-low true (l ∷ m ∷ ls) n = omega arith
-    single_of-low false (l ∷ m ∷ ls) n = omega arith
-
-keep_lits_if_same_gate-says : (a : List Bool) (outer inner : Bool) (n : ℕ) (g : PartWithLits) (t : VarAndLitTruths) → length a ≡ n → Fits n g → Says a g t → Says a (keep_lits_if_same_gate outer inner g) (merge_truths_if_same_gate outer inner t)
-keep_lits_if_same_gate-says a outer inner n g t size fits one = by_case (bool_equals outer inner)
-  where
-    by_case : (b : Bool) → Says a (cond b g (record { part = (combine_lits_into_one inner g).part; lits = (combine_lits_into_one inner g).lit ∷ [] })) (cond b t (record {
-      bits = t.bits ++ gate_var_bit_if_any inner t.lits;
-      lits =
-          gate_truth inner t.lits ∷ [];
-    }))
-    by_case true = one
-    by_case false =
-        let s = combine_lits_into_one-says a inner n g t size fits one in
-        record { part = s.part; means = ap (λ (q : Bool). q ∷ []) s.means }
-
-pub here : (columns : List VarValueAndBoundLits) (ranges ws : List ℕ) (a : List Bool) (n : ℕ) → length a ≡ n → Reads a columns ranges ws → has_lits_within_vars n columns ≡ true
-here columns ranges ws a n size r = rw (← size) r.within
-
-pub same : (n : ℕ) → n ≤ n
-same n = omega arith
-
-pub signed-says : (a : List Bool) (positive : Bool) (l : Literal) → is_true a (with_sign positive l) ≡ bool_equals positive (is_true a l)
-signed-says a true l = refl
-signed-says a false l = is_true-negated_lit a l
-
-part_with_one_lit-says : (a : List Bool) (positive : Bool) (l : Literal) (truth : Bool) (n : ℕ) → length a ≡ n → is_true a l ≡ truth → Says a (part_with_one_lit positive l n) (single_lit_truth positive truth)
-part_with_one_lit-says a positive l truth n size h =
-    let says : is_true (a ++ []) (with_sign positive l) ≡ bool_equals positive truth = ap (λ (u : List Bool). is_true u (with_sign positive l)) (append-nil a) ∙ signed-says a positive l ∙ ap (bool_equals positive) h in
-    record { part = nothing a n size; means = ap (λ (q : Bool). q ∷ []) says }
-
-lit_if_given_else_part-says :
-    (a : List Bool) (positive : Bool) (o : Option Literal) (has truth : Bool) (n : ℕ) (g : PartWithLits) (t : VarAndLitTruths)
-    → length a ≡ n →
-    Stands a o has truth → Says a g t →
-    Says a (lit_if_given_else_part positive o n g) (cond has (single_lit_truth positive truth) t)
-lit_if_given_else_part-says a positive None has truth n g t size h one = subst (λ (b : Bool). Says a g (cond {A = VarAndLitTruths} b (single_lit_truth positive truth) t)) (sym h) one
-lit_if_given_else_part-says a positive (Some l) has truth n g t size h one =
-    subst (λ (b : Bool). Says a (part_with_one_lit positive l n) (cond {A = VarAndLitTruths} b (single_lit_truth positive truth) t)) (sym h.0) (part_with_one_lit-says a positive l truth n size h.1)
+negation-means :
+    (b : List Bool) (known : List AndGate) (n : ℕ) (mark all positive truth : Bool) (g h : LitsWithGates) → GatesHold b known →
+    GatesHold b (cond {A = LitsWithGates} mark (as_lits positive (combine_lits_into_one known n true g)) h).gates →
+    (GatesHold b g.gates → gate_truth true (map (is_true b) g.lits) ≡ not truth) →
+    (GatesHold b h.gates → gate_truth all (map (is_true b) h.lits) ≡ bool_equals (not positive) truth) →
+    gate_truth all (map (is_true b) (cond {A = LitsWithGates} mark (as_lits positive (combine_lits_into_one known n true g)) h).lits) ≡ bool_equals positive (not truth)
+negation-means b known n true all positive truth g h holds new marked other =
+    one_lit-means b all positive (not truth) (combine_lits_into_one known n true g).lit (combine-means b known n true g holds new ∙ marked (combine-hold b known n true g new))
+negation-means b known n false all positive truth g h holds new marked other = other new ∙ turned positive truth
 
 mutual
-  pub form_to_and_or_lits-says :
-      (t : Tree) (columns : List VarValueAndBoundLits) (ranges ws : List ℕ) (all positive : Bool) (a : List Bool) (n : ℕ) →
-      length a ≡ n → Reads a columns ranges ws → tree_valid (ranges_of columns) t ≡ true →
-      Says a (form_to_and_or_lits columns all positive t n) (truths ranges ws all positive t)
-  form_to_and_or_lits-says yes columns ranges ws all positive a n size r k = keep_lits_if_same_gate-says a all positive n (part_with_no_lits n) no_truths size (record { low = same n; inside = refl; lits = refl }) (part_with_no_lits-says a n size)
-  form_to_and_or_lits-says no columns ranges ws all positive a n size r k = keep_lits_if_same_gate-says a all (not positive) n (part_with_no_lits n) no_truths size (record {
-    low = same n;
-    inside = refl;
-    lits =
-        refl;
-  }) (part_with_no_lits-says a n size)
-  form_to_and_or_lits-says (is v c) columns ranges ws all positive a n size r k = part_with_one_lit-says a positive (value_lit columns v c) (is_value_of_var ws v c) n size (r.says v c k)
-  form_to_and_or_lits-says (all_of ts) columns ranges ws all positive a n size r k =
-      keep_lits_if_same_gate-says a all positive n (forms_to_and_or_lits columns positive positive ts n)
-      (truths_each ranges ws positive positive ts) size
-      (forms_to_and_or_lits-fits ts columns positive positive n (here columns ranges ws a n size r) k)
-      (forms_to_and_or_lits-says ts columns ranges ws positive positive a n size r k)
-  form_to_and_or_lits-says (any_of ts) columns ranges ws all positive a n size r k =
-      let g = forms_to_and_or_lits columns (not positive) positive ts n in
-      let s = truths_each ranges ws (not positive) positive ts in
-      lit_if_given_else_part-says a positive (or_of_values_bound_lit columns ts) (has_bound_lit_for_or ranges ts) (some_holds ws ts) n
-      (keep_lits_if_same_gate all (not positive) g) (merge_truths_if_same_gate all (not positive) s) size
-      (any-says ts a columns ranges ws r.bounded k)
-      (keep_lits_if_same_gate-says a all (not positive) n g s size
-      (forms_to_and_or_lits-fits ts columns (not positive) positive n (here columns ranges ws a n size r) k)
-      (forms_to_and_or_lits-says ts columns ranges ws (not positive) positive a n size r k))
-  form_to_and_or_lits-says (negation t) columns ranges ws all positive a n size r k = form_to_and_or_lits-says t columns ranges ws all (not positive) a n size r k
+  pub form-means :
+      (t : Tree) (b : List Bool) (columns : List VarValueAndBoundLits) (ranges ws : List ℕ) (all positive : Bool) (known : List AndGate) (n : ℕ) →
+      Reads b columns ranges ws → tree_valid (ranges_of columns) t ≡ true → GatesHold b known →
+      GatesHold b (form_to_and_or_lits columns all positive t known n).gates →
+      gate_truth all (map (is_true b) (form_to_and_or_lits columns all positive t known n).lits) ≡ bool_equals positive (tree_holds ws t)
+  form-means yes b columns ranges ws all positive known n r valid holds new = merge-means b known n all positive (bool_equals positive true) no_lits holds new (λ _. none_means positive ∙ constant positive)
+  form-means no b columns ranges ws all positive known n r valid holds new = merge-means b known n all (not positive) (bool_equals positive false) no_lits holds new (λ _. none_means (not positive) ∙ other_constant positive)
+  form-means (is v c) b columns ranges ws all positive known n r valid holds new = one_lit-means b all positive (is_value_of_var ws v c) (value_lit columns v c) (r.says v c valid)
+  form-means (all_of ts) b columns ranges ws all positive known n r valid holds new =
+      merge-means b known n all positive (bool_equals positive (each_holds ws ts)) (forms_to_and_or_lits columns positive positive ts known n) holds new
+      (λ made. forms-means ts b columns ranges ws positive positive known n r valid holds made ∙ all-are ws positive ts)
+  form-means (any_of ts) b columns ranges ws all positive known n r valid holds new =
+      let g = forms_to_and_or_lits columns (not positive) positive ts known n in
+      optional_lit-means b all positive (has_bound_lit_for_or ranges ts) (some_holds ws ts) (or_of_values_bound_lit columns ts) (keep_lits_if_same_gate known n all (not positive) g)
+      (any-says ts b columns ranges ws r.bounded valid) new
+      (λ kept. merge-means b known n all (not positive) (bool_equals positive (some_holds ws ts)) g holds kept
+      (λ made. forms-means ts b columns ranges ws (not positive) positive known n r valid holds made ∙ some-are ws positive ts))
+  form-means (negation t) b columns ranges ws all positive known n r valid holds new =
+      negation-means b known n (is_negated_gate t) all positive (tree_holds ws t) (form_to_and_or_lits columns true false t known n) (form_to_and_or_lits columns all (not positive) t known n) holds new
+      (λ made. form-means t b columns ranges ws true false known n r valid holds made)
+      (λ made. form-means t b columns ranges ws all (not positive) known n r valid holds made)
 
-  pub forms_to_and_or_lits-says :
-      (ts : Trees) (columns : List VarValueAndBoundLits) (ranges ws : List ℕ) (all positive : Bool) (a : List Bool) (n : ℕ)
-      → length a ≡ n →
-      Reads a columns ranges ws → each_valid (ranges_of columns) ts ≡ true →
-      Says a (forms_to_and_or_lits columns all positive ts n) (truths_each ranges ws all positive ts)
-  forms_to_and_or_lits-says none columns ranges ws all positive a n size r k = part_with_no_lits-says a n size
-  forms_to_and_or_lits-says (more t ts) columns ranges ws all positive a n size r k =
-      let parts = and_parts _ _ k in
-      let g = form_to_and_or_lits columns all positive t n in
-      let s = truths ranges ws all positive t in
-      let fits = form_to_and_or_lits-fits t columns all positive n (here columns ranges ws a n size r) parts.0 in
-      let one = form_to_and_or_lits-says t columns ranges ws all positive a n size r parts.0 in
-      let long : length (a ++ s.bits) ≡ g.part.vars = one.part.sized s.bits refl in
-      let next = reads-more a s.bits columns ranges ws (longer a s.bits) r in
-      then-says a n g (forms_to_and_or_lits columns all positive ts) s (truths_each ranges ws all positive ts) size
-      fits
-      (forms_to_and_or_lits-fits ts columns all positive g.part.vars
-      (here columns ranges ws (a ++ s.bits) g.part.vars long next) parts.1) one
-      (forms_to_and_or_lits-says ts columns ranges ws all positive (a ++ s.bits) g.part.vars long next parts.1)
+  pub forms-means :
+      (ts : Trees) (b : List Bool) (columns : List VarValueAndBoundLits) (ranges ws : List ℕ) (all positive : Bool) (known : List AndGate) (n : ℕ) →
+      Reads b columns ranges ws → each_valid (ranges_of columns) ts ≡ true → GatesHold b known →
+      GatesHold b (forms_to_and_or_lits columns all positive ts known n).gates →
+      gate_truth all (map (is_true b) (forms_to_and_or_lits columns all positive ts known n).lits) ≡ forms_are ws all positive ts
+  forms-means none b columns ranges ws all positive known n r valid holds new = none_means all
+  forms-means (more t ts) b columns ranges ws all positive known n r valid holds new =
+      let parts = and_parts _ _ valid in
+      let g = form_to_and_or_lits columns all positive t known n in
+      let h = forms_to_and_or_lits columns all positive ts (known ++ g.gates) (n + length g.gates) in
+      let both = GatesHold-parts g.gates h.gates b new in
+      let one = form-means t b columns ranges ws all positive known n r parts.0 holds both.0 in
+      let rest = forms-means ts b columns ranges ws all positive (known ++ g.gates) (n + length g.gates) r parts.1 (GatesHold-append known g.gates b holds both.0) both.1 in
+      append-means b all g (λ gates m. forms_to_and_or_lits columns all positive ts (known ++ gates) (n + m)) ∙ rw (one, rest) refl

@@ -3,11 +3,14 @@ pub mod CopyLaw
 pub mod CopySays
 pub mod CopyFew
 pub mod CopyWidth
+pub mod CopyMade
 pub mod BoundForms
 pub mod BoundLaw
+pub mod GatesLaw
 pub mod Reading
 pub mod GatheredFits
 pub mod GatheredLaw
+pub mod GatheredSteps
 pub mod TruthsMean
 pub mod DemandLaw
 pub mod Steps

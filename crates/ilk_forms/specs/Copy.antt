@@ -1,33 +1,24 @@
 -- One copy (time frame) of a system's values in a formula: an integer for each variable, and
 -- literals for its values and bounds.
-use Rattle.std.specs.Prelude.{ℕ, ◌+◌, Bool, true, List, [], ◌∷◌, ◌++◌, ◌≡◌, map}
+use Rattle.std.specs.Prelude.{ℕ, zero, suc, ◌+◌, ◌==◌, Bool, true, List, [], ◌∷◌, ◌++◌, ◌≡◌, map, if◌then◌else◌}
 use Rattle.ilk_cnf.specs.Truth.{is_true}
 use Rattle.ilk_cnf.specs.Part.{FormulaPart, empty_part, and_then}
-use Rattle.ilk_ints.specs.Bits.{bit_count, lowest_bits_of, assigned_bits_from_var}
+use Rattle.ilk_ints.specs.Bits.{bit_count, lowest_bits_of}
 use Rattle.ilk_ints.specs.Number.{number_part}
 use Rattle.ilk_ints.specs.Named.{value_lits_part, bound_lits_part, value_bound_var_count, one_hot_var_bits, bound_vars_bits, bound_count, one_hot_bits, bound_bits}
 use Rattle.ilk_ir.specs.System.{in_ranges}
 use Rattle.ilk_forms.specs.declared.copy.VarValueAndBoundLits.{VarValueAndBoundLits}
-
--- The formula part with an integer for each range, after the first `n` variables.
-abbrev pub numbers_part : List ℕ → ℕ → FormulaPart
-numbers_part [] n = empty_part n
-numbers_part (range ∷ ranges) n = and_then (number_part range n) (numbers_part ranges)
-
--- A formula part, and the literals of each variable of a copy (`columns`).
-pub record PartWithAllVarLits : Type 0 where
-  pub part : FormulaPart
-  pub columns : List VarValueAndBoundLits
-
--- The number of bits of integers with these ranges, in total.
-abbrev pub copy_bit_count : List ℕ → ℕ
-copy_bit_count [] = 0
-copy_bit_count (range ∷ ranges) = bit_count range + copy_bit_count ranges
+use Rattle.ilk_forms.specs.declared.copy.TheConstants.{MAX_RANGES}
 
 -- A formula part, and the literals of one variable (`column`).
 pub record PartWithOneVarLits : Type 0 where
   pub part : FormulaPart
   pub column : VarValueAndBoundLits
+
+-- A formula part, and the literals of each variable of a copy (`columns`).
+pub record PartWithAllVarLits : Type 0 where
+  pub part : FormulaPart
+  pub columns : List VarValueAndBoundLits
 
 -- The formula part with the literals of one integer below `range`, whose bits begin at variable
 -- `first`. It follows the first `n` variables.
@@ -38,64 +29,84 @@ var_lits_part first range n =
       column = record { values = (value_lits_part first range n).lits; bounds = (bound_lits_part first range (value_lits_part first range n).lits (value_lits_part first range n).part.vars).lits };
     }
 
--- The formula part with the literals of an integer for each range. Their bits begin at variable
--- `first`. The part follows the first `n` variables.
-abbrev pub all_var_lits_part : List ℕ → ℕ → ℕ → PartWithAllVarLits
-all_var_lits_part [] first n = record { part = empty_part n; columns = [] }
-all_var_lits_part (range ∷ ranges) first n =
+-- The formula part of one variable of a system with values below `range`, after the first `n`
+-- variables: its bits, and right behind them the literals of its values and bounds.
+abbrev pub system_var_part : ℕ → ℕ → PartWithOneVarLits
+system_var_part range n =
     record {
-      part = and_then (var_lits_part first range n).part (λ m. (all_var_lits_part ranges (first + bit_count range) m).part);
-      columns = (var_lits_part first range n).column ∷ (all_var_lits_part ranges (first + bit_count range) (var_lits_part first range n).part.vars).columns;
+      part = and_then (number_part range n) (λ m. (var_lits_part (n + 1) range m).part);
+      column = (var_lits_part (n + 1) range (number_part range n).vars).column;
     }
 
--- The number of variables for the literals of values and bounds of integers with these ranges.
-abbrev pub copy_value_bound_var_count : List ℕ → ℕ
-copy_value_bound_var_count [] = 0
-copy_value_bound_var_count (range ∷ ranges) = value_bound_var_count range + copy_value_bound_var_count ranges
+-- Puts the part of one variable before the later ones; its literals come before theirs.
+abbrev pub prepend_var : PartWithOneVarLits → (ℕ → PartWithAllVarLits) → PartWithAllVarLits
+prepend_var one later =
+    record {
+      part = and_then one.part (λ m. (later m).part);
+      columns = one.column ∷ (later one.part.vars).columns;
+    }
+
+-- The formula part, after the first `n` variables, with those variables of the system that have
+-- range `r`, in order. Their literals replace those in the list, one entry for each variable.
+abbrev pub range_class_part : ℕ → List ℕ → List VarValueAndBoundLits → ℕ → PartWithAllVarLits
+range_class_part r [] columns n = record { part = empty_part n; columns = [] }
+range_class_part r (range ∷ ranges) [] n = record { part = empty_part n; columns = [] }
+range_class_part r (range ∷ ranges) (column ∷ columns) n =
+    if range == r
+    then prepend_var (system_var_part range n) (range_class_part r ranges columns)
+    else record { part = (range_class_part r ranges columns n).part; columns = column ∷ (range_class_part r ranges columns n).columns }
+
+-- The formula part, after the first `n` variables, with the variables of the system that have a
+-- range below `k`, the greatest range first. Their literals replace those in the list.
+abbrev pub ranges_below_part : ℕ → List ℕ → List VarValueAndBoundLits → ℕ → PartWithAllVarLits
+ranges_below_part zero ranges columns n = record { part = empty_part n; columns = columns }
+ranges_below_part (suc r) ranges columns n =
+    record {
+      part = and_then (range_class_part r ranges columns n).part (λ m. (ranges_below_part r ranges (range_class_part r ranges columns n).columns m).part);
+      columns = (ranges_below_part r ranges (range_class_part r ranges columns n).columns (range_class_part r ranges columns n).part.vars).columns;
+    }
+
+-- For each variable of the system, no literal.
+abbrev pub no_var_lits : List ℕ → List VarValueAndBoundLits
+no_var_lits ranges = map (λ range. record { values = []; bounds = [] }) ranges
+
+-- The formula part of a copy with these ranges, after the first `n` variables. The variables of the
+-- system are in the order of their ranges, the greatest first, and those of one range in the
+-- system's order. The literals are in the system's order.
+unfoldable pub copy_part : List ℕ → ℕ → PartWithAllVarLits
+copy_part ranges n = ranges_below_part MAX_RANGES ranges (no_var_lits ranges) n
 
 -- The number of variables of a copy with these ranges: for bits, values and bounds.
 abbrev pub copy_var_count : List ℕ → ℕ
-copy_var_count ranges = copy_bit_count ranges + copy_value_bound_var_count ranges
+copy_var_count [] = 0
+copy_var_count (range ∷ ranges) = bit_count range + value_bound_var_count range + copy_var_count ranges
 
--- The formula part of a copy with these ranges, after the first `n` variables: first the bits of
--- all integers, then the literals of each.
-abbrev pub copy_part : List ℕ → ℕ → PartWithAllVarLits
-copy_part ranges n =
-    record {
-      part = and_then (numbers_part ranges n) (λ m. (all_var_lits_part ranges (n + 1) m).part);
-      columns = (all_var_lits_part ranges (n + 1) (numbers_part ranges n).vars).columns;
-    }
+-- The truth values of the variables of `system_var_part`, if the variable of the system is `w`.
+abbrev pub system_var_bits : ℕ → ℕ → List Bool
+system_var_bits range w = lowest_bits_of (bit_count range) w ++ (one_hot_var_bits range w ++ bound_vars_bits range w 1 (bound_count range))
 
--- The bits of integers with these ranges and the values `ws`.
-abbrev pub numbers_bits : List ℕ → List ℕ → List Bool
-numbers_bits [] ws = []
-numbers_bits (range ∷ ranges) [] = []
-numbers_bits (range ∷ ranges) (w ∷ ws) = lowest_bits_of (bit_count range) w ++ numbers_bits ranges ws
-
--- The truth values of the variables for values and bounds, if integers with these ranges have the
+-- The truth values of the variables of `range_class_part`, if the system's variables have the
 -- values `ws`.
-abbrev pub copy_value_bound_bits : List ℕ → List ℕ → List Bool
-copy_value_bound_bits [] ws = []
-copy_value_bound_bits (range ∷ ranges) [] = []
-copy_value_bound_bits (range ∷ ranges) (w ∷ ws) =
-    one_hot_var_bits range w ++ (bound_vars_bits range w 1 (bound_count range) ++ copy_value_bound_bits ranges ws)
+abbrev pub range_class_bits : ℕ → List ℕ → List ℕ → List Bool
+range_class_bits r [] ws = []
+range_class_bits r (range ∷ ranges) [] = []
+range_class_bits r (range ∷ ranges) (w ∷ ws) =
+    if range == r then system_var_bits range w ++ range_class_bits r ranges ws else range_class_bits r ranges ws
+
+-- The truth values of the variables of `ranges_below_part`, if the system's variables have the
+-- values `ws`.
+abbrev pub ranges_below_bits : ℕ → List ℕ → List ℕ → List Bool
+ranges_below_bits zero ranges ws = []
+ranges_below_bits (suc r) ranges ws = range_class_bits r ranges ws ++ ranges_below_bits r ranges ws
 
 -- The truth values of all variables of a copy with these ranges, if the system's variables have the
 -- values `ws`.
-abbrev pub copy_bits : List ℕ → List ℕ → List Bool
-copy_bits ranges ws = numbers_bits ranges ws ++ copy_value_bound_bits ranges ws
+unfoldable pub copy_bits : List ℕ → List ℕ → List Bool
+copy_bits ranges ws = ranges_below_bits MAX_RANGES ranges ws
 
 -- Holds if `b` are the truth values of a copy's variables for some values within `ranges`.
 abbrev pub AreCopyBits : List ℕ → List Bool → Type 0
 AreCopyBits ranges b = (ws : List ℕ) × (in_ranges ws ranges ≡ true) × (b ≡ copy_bits ranges ws)
-
--- Holds if assignment `a` gives the variables from `first` on the bits of the values, each as an
--- integer of its range.
-abbrev pub BitsEncode : List Bool → ℕ → List ℕ → List ℕ → Type 0
-BitsEncode a first [] ws = Unit {0}
-BitsEncode a first (range ∷ ranges) [] = ⊥
-BitsEncode a first (range ∷ ranges) (w ∷ ws) =
-    (assigned_bits_from_var a first (bit_count range) ≡ lowest_bits_of (bit_count range) w) × BitsEncode a (first + bit_count range) ranges ws
 
 -- Holds if, under assignment `a`, each variable's literals say exactly its value and its bounds.
 abbrev pub LiteralsEncode : List Bool → List VarValueAndBoundLits → List ℕ → List ℕ → Type 0

@@ -1,12 +1,10 @@
-ghost use Rattle.std.specs.Prelude.{◌≡◌, ℕ, ◌+◌, ◌*◌, ◌<◌, ◌≤◌, ◌++◌, List, Bool, nat_lt, sum, length, OnOk, IfOk, IsTrue};
+ghost use Rattle.std.specs.Prelude.{◌≡◌, ℕ, ◌+◌, ◌*◌, ◌≤◌, ◌++◌, List, Bool, nat_lt, sum, length, OnOk, IfOk, IsTrue};
 ghost use Rattle.std.specs.List.{list_all};
 ghost use Rattle.ilk_cnf.specs.Extends.{PartExtensionsAreExactly};
 ghost use Rattle.ilk_cnf.specs.Formula.{with_var_count_and_clauses, with_var_count};
 ghost use Rattle.ilk_cnf.specs.Part.{with_part, clauses_from_lists};
-ghost use Rattle.ilk_ints.specs.Bits.{bit_count};
-ghost use Rattle.ilk_ints.specs.Named.{value_bound_var_count};
 ghost use Rattle.ilk_ir.specs.System.{in_ranges};
-ghost use Rattle.ilk_forms.specs.Copy.{numbers_part, all_var_lits_part, var_lits_part, copy_part, copy_bit_count, copy_value_bound_var_count, copy_var_count, copy_bits, AreCopyBits, LiteralsEncode};
+ghost use Rattle.ilk_forms.specs.Copy.{system_var_part, range_class_part, no_var_lits, copy_part, copy_var_count, copy_bits, AreCopyBits, LiteralsEncode};
 
 use ilk_base::Row;
 use ilk_cnf::{Cnf, Lits};
@@ -28,25 +26,8 @@ pub struct VarValueAndBoundLits {
 /// The literals of all variables of a copy (time frame), in order.
 pub type CopyLits = Row<VarValueAndBoundLits>;
 
-fn take_numbers(cnf: &mut Cnf, ranges: &[u8]) -> Result<(), AllocError>
-    ensures { OnOk result
-        (cnf.new ≡ with_var_count cnf.old (cnf.old.vars + copy_bit_count ranges.now)) }
-{
-    for range in ranges {
-        reserve_number(cnf, *range)?;
-    }
-    Ok(())
-}
-
-fn take_columns(cnf: &mut Cnf, ranges: &[u8]) -> Result<(), AllocError>
-    ensures { OnOk result (cnf.new ≡ with_var_count cnf.old
-        (cnf.old.vars + copy_value_bound_var_count ranges.now)) }
-{
-    for range in ranges {
-        reserve_value_and_bound_vars(cnf, *range)?;
-    }
-    Ok(())
-}
+/// The number of ranges that a variable may have: from 0 to 255 values.
+pub(crate) const MAX_RANGES: u64 = 256;
 
 /// Adds the variables of a copy (time frame) with these `ranges` to `cnf`, and no clause;
 /// `add_copy_clauses` adds the clauses. On error, `cnf` may have grown.
@@ -57,93 +38,82 @@ pub fn reserve_copy_vars(cnf: &mut Cnf, ranges: &Ranges) -> Result<(), AllocErro
     // At most two variables for each value of a variable.
     ensures vars { OnOk result (cnf.new.vars ≤ cnf.old.vars + 2 * sum ranges.now) }
 {
-    take_numbers(cnf, ranges.as_slice())?;
-    take_columns(cnf, ranges.as_slice())?;
-    Ok(())
-}
-
-fn add_numbers(
-    alloc: Global,
-    cnf: &mut Cnf,
-    used: &mut u64,
-    ranges: &[u8],
-) -> Result<(), AllocError>
-    requires there { used.old + copy_bit_count ranges.now ≤ cnf.old.vars }
-    ensures vars { OnOk result (cnf.new.vars ≡ cnf.old.vars) }
-    ensures made { OnOk result
-        (with_var_count cnf.new used.new
-        ≡ with_part (with_var_count cnf.old used.old) (numbers_part ranges.now used.old)) }
-{
-    for range in ranges {
-        let _ = cnf.vars();
-        let n = Bounded {
-            first: *used + 1,
-            range: *range,
-        };
-        add_number_clauses(alloc, cnf, n)?;
-        *used += bit_count(*range);
+    for range in ranges.as_slice() {
+        reserve_number(cnf, *range)?;
+        reserve_value_and_bound_vars(cnf, *range)?;
     }
     Ok(())
 }
 
-fn add_column(
+fn add_system_var(
     alloc: Global,
     cnf: &mut Cnf,
     used: &mut u64,
-    n: Bounded,
+    range: u8,
 ) -> Result<VarValueAndBoundLits, AllocError>
-    requires from_1 { 0 < n.first }
-    requires within { n.first + bit_count n.range ≤ used.old + 1 }
-    requires there { used.old + value_bound_var_count n.range ≤ cnf.old.vars }
-    ensures column { IfOk result
-        (λ column. column ≡ (var_lits_part n.first n.range used.old).column) }
+    requires there { (system_var_part range used.old).part.vars ≤ cnf.old.vars }
+    ensures column { IfOk result (λ column. column ≡ (system_var_part range used.old).column) }
     ensures vars { OnOk result (cnf.new.vars ≡ cnf.old.vars) }
     ensures made { OnOk result
         (with_var_count cnf.new used.new
-        ≡ with_part (with_var_count cnf.old used.old) (var_lits_part n.first n.range
-        used.old).part) }
+        ≡ with_part (with_var_count cnf.old used.old) (system_var_part range used.old).part) }
 {
+    let _ = cnf.vars();
+    let n = Bounded {
+        first: *used + 1,
+        range,
+    };
+    add_number_clauses(alloc, cnf, n)?;
+    *used += bit_count(range);
     let values = add_value_lits(alloc, cnf, used, n)?;
     let bounds = add_bound_lits(alloc, cnf, used, n, values.as_slice())?;
     Ok(VarValueAndBoundLits { values, bounds })
 }
 
-fn add_columns(
+fn add_range_class(
     alloc: Global,
     cnf: &mut Cnf,
     used: &mut u64,
-    first: u64,
     ranges: &[u8],
-) -> Result<CopyLits, AllocError>
-    requires from_1 { 0 < first }
-    requires within { first + copy_bit_count ranges.now ≤ used.old + 1 }
-    requires there { used.old + copy_value_bound_var_count ranges.now ≤ cnf.old.vars }
-    ensures table { IfOk result
-        (λ table. table ≡ (all_var_lits_part ranges.now first used.old).columns) }
+    range: u8,
+    table: &mut CopyLits,
+) -> Result<(), AllocError>
+    requires columns { length table.old ≡ length ranges.now }
+    requires there { (range_class_part range ranges.now table.old used.old).part.vars
+        ≤ cnf.old.vars }
+    ensures table { OnOk result
+        (table.new ≡ (range_class_part range ranges.now table.old used.old).columns) }
     ensures vars { OnOk result (cnf.new.vars ≡ cnf.old.vars) }
     ensures made { OnOk result
         (with_var_count cnf.new used.new
         ≡ with_part (with_var_count cnf.old used.old)
-        (all_var_lits_part ranges.now first used.old).part) }
+        (range_class_part range ranges.now table.old used.old).part) }
+{
+    for (v, other) in ranges.iter().enumerate() {
+        if *other == range {
+            *table.at_mut(v as u64) = add_system_var(alloc, cnf, used, range)?;
+        }
+    }
+    Ok(())
+}
+
+fn no_var_lits(alloc: Global, ranges: &[u8]) -> Result<CopyLits, AllocError>
+    ensures { IfOk result (λ table. table ≡ no_var_lits ranges.now) }
 {
     let mut table = CopyLits::new(alloc);
-    let mut first = first;
-    for range in ranges {
-        let _ = cnf.vars();
-        let n = Bounded {
-            first,
-            range: *range,
-        };
-        table.push(add_column(alloc, cnf, used, n)?)?;
-        first += bit_count(*range);
+    for _ in ranges {
+        let (values, bounds) = (Lits::new(alloc), Lits::new(alloc));
+        table.push(VarValueAndBoundLits { values, bounds })?;
     }
     Ok(table)
 }
 
 /// Adds the clauses of a copy (time frame) with these `ranges` to `cnf`, and returns its literals.
-/// The copy's variables already exist (`reserve_copy_vars`), after the first `before` ones. An
-/// assignment of those extends over the copy in exactly one way for each list of values in range.
-/// On error, `cnf` may have grown.
+/// The variables of the system come in the order of their ranges, the greatest first; each has its
+/// bits and, right behind them, the variables of its values and bounds. The copy's variables
+/// already exist (`reserve_copy_vars`), after the first `before` ones. An assignment of those
+/// extends over the copy in exactly one way for each list of values in range. On error, `cnf` may
+/// have grown.
 pub fn add_copy_clauses(
     alloc: Global,
     cnf: &mut Cnf,
@@ -171,7 +141,11 @@ pub fn add_copy_clauses(
 {
     let _ = cnf.vars();
     let mut used = before;
-    add_numbers(alloc, cnf, &mut used, ranges.as_slice())?;
-    let table = add_columns(alloc, cnf, &mut used, before + 1, ranges.as_slice())?;
+    let ranges = ranges.as_slice();
+    let mut table = no_var_lits(alloc, ranges)?;
+    for i in 0..MAX_RANGES {
+        let range = (MAX_RANGES - 1 - i) as u8;
+        add_range_class(alloc, cnf, &mut used, ranges, range, &mut table)?;
+    }
     Ok(table)
 }

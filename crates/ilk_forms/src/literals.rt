@@ -1,15 +1,16 @@
-ghost use Rattle.std.specs.Prelude.{◌≡◌, ℕ, ◌+◌, ◌∷◌, ◌++◌, [], OnOk, IfOk, IsTrue};
+ghost use Rattle.std.specs.Prelude.{◌≡◌, ℕ, ◌∷◌, ◌++◌, [], true, false, OnOk, IfOk, IsTrue};
 ghost use Rattle.ilk_cnf.specs.Formula.{is_lit_over, is_clause_over};
-ghost use Rattle.ilk_cnf.specs.Literal.{positive_lit};
-ghost use Rattle.ilk_cnf.specs.Part.{with_part, empty_part};
+ghost use Rattle.ilk_cnf.specs.Part.{with_part};
 ghost use Rattle.ilk_ir.specs.Form.{tree_of, trees_of};
-ghost use Rattle.ilk_ir.specs.Tree.{tree_valid, each_valid, value_valid};
+ghost use Rattle.ilk_ir.specs.Tree.{negation, tree_valid, each_valid, value_valid};
 ghost use Rattle.ilk_forms.specs.Leaf.{value_lit, has_lits_within_vars, ranges_of};
-ghost use Rattle.ilk_forms.specs.Gathered.{with_sign, gate_part, combined_lit, keep_lits_if_same_gate, form_to_and_or_lits, forms_to_and_or_lits};
+ghost use Rattle.ilk_forms.specs.Gates.{with_sign, gates_part, gates_within};
+ghost use Rattle.ilk_forms.specs.Gathered.{is_negated_gate, keep_lits_if_same_gate, combine_lits_into_one, as_lits, form_to_and_or_lits, forms_to_and_or_lits};
 
 use crate::bound::or_of_values_bound_lit;
 use crate::copy::CopyLits;
-use ilk_cnf::{Cnf, Lit, Lits, add_and_gate, add_or_gate};
+use crate::gates::{Gates, combined_lit, push_all, with_sign};
+use ilk_cnf::{Cnf, Lit, Lits};
 use ilk_ir::Form;
 use std::alloc::{AllocError, Global};
 
@@ -24,37 +25,6 @@ pub(crate) fn value_lit(table: &CopyLits, v: u32, c: u8) -> Lit
     *table.at(u64::from(v)).values.at(u64::from(c))
 }
 
-/// Returns `lit` if `positive`, otherwise its negation.
-pub(crate) fn with_sign(positive: bool, lit: Lit) -> Lit
-    ensures { result ≡ with_sign positive lit }
-{
-    if positive { lit } else { lit.negated() }
-}
-
-fn gate(alloc: Global, cnf: &mut Cnf, all: bool, lits: &[Lit]) -> Result<Lit, AllocError>
-    requires { IsTrue (is_clause_over cnf.old.vars lits.now) }
-    ensures lit { IfOk result (λ l. l ≡ positive_lit (cnf.old.vars + 1)) }
-    ensures made { OnOk result (cnf.new ≡ with_part cnf.old (gate_part all lits.now cnf.old.vars)) }
-{
-    if all {
-        add_and_gate(alloc, cnf, lits)
-    } else {
-        add_or_gate(alloc, cnf, lits)
-    }
-}
-
-fn single(alloc: Global, cnf: &mut Cnf, all: bool, lits: &[Lit]) -> Result<Lit, AllocError>
-    requires { IsTrue (is_clause_over cnf.old.vars lits.now) }
-    ensures lit { IfOk result (λ l. l ≡ (combined_lit all lits.now cnf.old.vars).lit) }
-    ensures made { OnOk result
-        (cnf.new ≡ with_part cnf.old (combined_lit all lits.now cnf.old.vars).part) }
-{
-    match lits {
-        [lit] => Ok(*lit),
-        _ => gate(alloc, cnf, all, lits),
-    }
-}
-
 fn one(alloc: Global, lit: Lit) -> Result<Lits, AllocError>
     ensures { IfOk result (λ lits. lits ≡ lit ∷ []) }
 {
@@ -67,6 +37,7 @@ fn one(alloc: Global, lit: Lit) -> Result<Lits, AllocError>
 fn take_in(
     alloc: Global,
     cnf: &mut Cnf,
+    gates: &mut Gates,
     outer: bool,
     inner: bool,
     lits: Lits,
@@ -75,64 +46,157 @@ fn take_in(
     ensures lits { IfOk result
         (λ taken. taken
         ≡
-        (keep_lits_if_same_gate outer inner
-        (record { part = empty_part cnf.old.vars; lits = lits })).lits) }
+        (keep_lits_if_same_gate gates.old cnf.old.vars outer inner
+        (record { gates = []; lits = lits })).lits) }
+    ensures gates { OnOk result
+        (gates.new
+        ≡ gates.old
+        ++
+        (keep_lits_if_same_gate gates.old cnf.old.vars outer inner
+        (record { gates = []; lits = lits })).gates) }
     ensures made { OnOk result
         (cnf.new
         ≡ with_part cnf.old
-        (keep_lits_if_same_gate outer inner
-        (record { part = empty_part cnf.old.vars; lits = lits })).part) }
+        (gates_part
+        (keep_lits_if_same_gate gates.old cnf.old.vars outer inner
+        (record { gates = []; lits = lits })).gates cnf.old.vars)) }
 {
     if outer == inner {
         return Ok(lits);
     }
-    let lit = single(alloc, cnf, inner, lits.as_slice())?;
+    let lit = combined_lit(alloc, cnf, gates, inner, lits.as_slice())?;
     one(alloc, lit)
 }
 
-/// Appends the literals of `more` to `lits`.
-pub(crate) fn push_all(lits: &mut Lits, more: &[Lit]) -> Result<(), AllocError>
-    ensures { OnOk result (lits.new ≡ lits.old ++ more.now) }
+fn is_gate(form: &Form) -> bool
+    ensures { result ≡ is_negated_gate (negation (tree_of form.now)) }
 {
-    for lit in more {
-        lits.push(*lit)?;
+    match form {
+        Form::And(_) => true,
+        Form::Or(_) => true,
+        _ => false,
     }
-    Ok(())
+}
+
+fn is_negated_gate(form: &Form) -> bool
+    ensures { result ≡ is_negated_gate (tree_of form.now) }
+{
+    match form {
+        Form::Not(f) => is_gate(f),
+        _ => false,
+    }
 }
 
 /// Returns literals that represent `form`, or its negation unless `positive`. That formula holds
 /// exactly if all of them (`all`), or some (otherwise), are true. `table` has the literals of the
-/// copy to which `form` refers. New variables are added to `cnf`.
+/// copy to which `form` refers. New gates are added to `cnf` and to `gates`.
 #[cycle(form_to_and_or_lits)]
 pub(crate) fn form_to_and_or_lits(
     alloc: Global,
     cnf: &mut Cnf,
+    gates: &mut Gates,
     table: &CopyLits,
     all: bool,
     positive: bool,
     form: &Form,
 ) -> Result<Lits, AllocError>
     requires within { IsTrue (has_lits_within_vars cnf.old.vars table.now) }
+    requires gates { IsTrue (gates_within cnf.old.vars gates.old) }
     requires valid { IsTrue (tree_valid (ranges_of table.now) (tree_of form.now)) }
     ensures lits { IfOk result
         (λ lits. lits ≡ (form_to_and_or_lits table.now all positive
-        (tree_of form.now) cnf.old.vars).lits) }
+        (tree_of form.now) gates.old cnf.old.vars).lits) }
+    ensures gates { OnOk result
+        (gates.new
+        ≡ gates.old
+        ++ (form_to_and_or_lits table.now all positive (tree_of form.now) gates.old
+        cnf.old.vars).gates) }
     ensures made { OnOk result
         (cnf.new
         ≡ with_part cnf.old
-        (form_to_and_or_lits table.now all positive (tree_of form.now) cnf.old.vars).part) }
+        (gates_part (form_to_and_or_lits table.now all positive (tree_of form.now) gates.old
+        cnf.old.vars).gates cnf.old.vars)) }
 {
     match form {
-        Form::Yes => take_in(alloc, cnf, all, positive, Lits::new(alloc)),
-        Form::No => take_in(alloc, cnf, all, !positive, Lits::new(alloc)),
+        Form::Yes => take_in(alloc, cnf, gates, all, positive, Lits::new(alloc)),
+        Form::No => take_in(alloc, cnf, gates, all, !positive, Lits::new(alloc)),
         Form::Is(v, c) => one(alloc, with_sign(positive, value_lit(table, *v, *c))),
-        Form::And(forms) => join(alloc, cnf, table, all, positive, positive, forms),
+        Form::And(forms) => join(alloc, cnf, gates, table, all, positive, positive, forms),
         Form::Or(forms) => match or_of_values_bound_lit(table, forms) {
             Some(lit) => one(alloc, with_sign(positive, lit)),
-            None => join(alloc, cnf, table, all, !positive, positive, forms),
+            None => join(alloc, cnf, gates, table, all, !positive, positive, forms),
         },
-        Form::Not(f) => form_to_and_or_lits(alloc, cnf, table, all, !positive, f),
+        Form::Not(f) => negation_to_and_or_lits(alloc, cnf, gates, table, all, positive, f),
     }
+}
+
+/// Returns the literals that `form_to_and_or_lits` gives for the negation of `form`.
+#[cycle(form_to_and_or_lits)]
+pub(crate) fn negation_to_and_or_lits(
+    alloc: Global,
+    cnf: &mut Cnf,
+    gates: &mut Gates,
+    table: &CopyLits,
+    all: bool,
+    positive: bool,
+    form: &Form,
+) -> Result<Lits, AllocError>
+    requires within { IsTrue (has_lits_within_vars cnf.old.vars table.now) }
+    requires gates { IsTrue (gates_within cnf.old.vars gates.old) }
+    requires valid { IsTrue (tree_valid (ranges_of table.now) (tree_of form.now)) }
+    ensures lits { IfOk result
+        (λ lits. lits ≡ (form_to_and_or_lits table.now all positive
+        (negation (tree_of form.now)) gates.old cnf.old.vars).lits) }
+    ensures gates { OnOk result
+        (gates.new
+        ≡ gates.old
+        ++ (form_to_and_or_lits table.now all positive (negation (tree_of form.now)) gates.old
+        cnf.old.vars).gates) }
+    ensures made { OnOk result
+        (cnf.new
+        ≡ with_part cnf.old
+        (gates_part (form_to_and_or_lits table.now all positive (negation (tree_of form.now))
+        gates.old cnf.old.vars).gates cnf.old.vars)) }
+{
+    if is_negated_gate(form) {
+        return marked_to_lits(alloc, cnf, gates, table, positive, form);
+    }
+    form_to_and_or_lits(alloc, cnf, gates, table, all, !positive, form)
+}
+
+// Returns one literal for the negation of the form, negated unless `positive`.
+#[cycle(form_to_and_or_lits)]
+fn marked_to_lits(
+    alloc: Global,
+    cnf: &mut Cnf,
+    gates: &mut Gates,
+    table: &CopyLits,
+    positive: bool,
+    form: &Form,
+) -> Result<Lits, AllocError>
+    requires within { IsTrue (has_lits_within_vars cnf.old.vars table.now) }
+    requires gates { IsTrue (gates_within cnf.old.vars gates.old) }
+    requires valid { IsTrue (tree_valid (ranges_of table.now) (tree_of form.now)) }
+    ensures lits { IfOk result
+        (λ lits. lits ≡ (as_lits positive (combine_lits_into_one gates.old cnf.old.vars true
+        (form_to_and_or_lits table.now true false (tree_of form.now) gates.old
+        cnf.old.vars))).lits) }
+    ensures gates { OnOk result
+        (gates.new
+        ≡ gates.old
+        ++ (combine_lits_into_one gates.old cnf.old.vars true
+        (form_to_and_or_lits table.now true false (tree_of form.now) gates.old
+        cnf.old.vars)).gates) }
+    ensures made { OnOk result
+        (cnf.new
+        ≡ with_part cnf.old
+        (gates_part (combine_lits_into_one gates.old cnf.old.vars true
+        (form_to_and_or_lits table.now true false (tree_of form.now) gates.old
+        cnf.old.vars)).gates cnf.old.vars)) }
+{
+    let lits = form_to_and_or_lits(alloc, cnf, gates, table, true, false, form)?;
+    let lit = combined_lit(alloc, cnf, gates, true, lits.as_slice())?;
+    one(alloc, with_sign(positive, lit))
 }
 
 // Represents the And (`inner`) or Or (otherwise) of the forms.
@@ -140,6 +204,7 @@ pub(crate) fn form_to_and_or_lits(
 fn join(
     alloc: Global,
     cnf: &mut Cnf,
+    gates: &mut Gates,
     table: &CopyLits,
     all: bool,
     inner: bool,
@@ -147,22 +212,31 @@ fn join(
     forms: &[Form],
 ) -> Result<Lits, AllocError>
     requires within { IsTrue (has_lits_within_vars cnf.old.vars table.now) }
+    requires gates { IsTrue (gates_within cnf.old.vars gates.old) }
     requires valid { IsTrue (each_valid (ranges_of table.now) (trees_of forms.now)) }
     ensures lits { IfOk result
         (λ lits. lits
         ≡
-        (keep_lits_if_same_gate all inner
-        (forms_to_and_or_lits table.now inner positive (trees_of forms.now)
+        (keep_lits_if_same_gate gates.old cnf.old.vars all inner
+        (forms_to_and_or_lits table.now inner positive (trees_of forms.now) gates.old
         cnf.old.vars)).lits) }
+    ensures gates { OnOk result
+        (gates.new
+        ≡ gates.old
+        ++
+        (keep_lits_if_same_gate gates.old cnf.old.vars all inner
+        (forms_to_and_or_lits table.now inner positive (trees_of forms.now) gates.old
+        cnf.old.vars)).gates) }
     ensures made { OnOk result
         (cnf.new
         ≡ with_part cnf.old
-        (keep_lits_if_same_gate all inner
-        (forms_to_and_or_lits table.now inner positive (trees_of forms.now)
-        cnf.old.vars)).part) }
+        (gates_part
+        (keep_lits_if_same_gate gates.old cnf.old.vars all inner
+        (forms_to_and_or_lits table.now inner positive (trees_of forms.now) gates.old
+        cnf.old.vars)).gates cnf.old.vars)) }
 {
-    let lits = forms_to_and_or_lits(alloc, cnf, table, inner, positive, forms)?;
-    let taken = take_in(alloc, cnf, all, inner, lits)?;
+    let lits = forms_to_and_or_lits(alloc, cnf, gates, table, inner, positive, forms)?;
+    let taken = take_in(alloc, cnf, gates, all, inner, lits)?;
     Ok(taken)
 }
 
@@ -172,24 +246,32 @@ fn join(
 pub(crate) fn forms_to_and_or_lits(
     alloc: Global,
     cnf: &mut Cnf,
+    gates: &mut Gates,
     table: &CopyLits,
     all: bool,
     positive: bool,
     forms: &[Form],
 ) -> Result<Lits, AllocError>
     requires within { IsTrue (has_lits_within_vars cnf.old.vars table.now) }
+    requires gates { IsTrue (gates_within cnf.old.vars gates.old) }
     requires valid { IsTrue (each_valid (ranges_of table.now) (trees_of forms.now)) }
     ensures lits { IfOk result
-        (λ lits. lits
-        ≡ (forms_to_and_or_lits table.now all positive (trees_of forms.now) cnf.old.vars).lits) }
+        (λ lits. lits ≡ (forms_to_and_or_lits table.now all positive
+        (trees_of forms.now) gates.old cnf.old.vars).lits) }
+    ensures gates { OnOk result
+        (gates.new
+        ≡ gates.old
+        ++ (forms_to_and_or_lits table.now all positive (trees_of forms.now) gates.old
+        cnf.old.vars).gates) }
     ensures made { OnOk result
         (cnf.new
         ≡ with_part cnf.old
-        (forms_to_and_or_lits table.now all positive (trees_of forms.now) cnf.old.vars).part) }
+        (gates_part (forms_to_and_or_lits table.now all positive (trees_of forms.now) gates.old
+        cnf.old.vars).gates cnf.old.vars)) }
 {
     let mut lits = Lits::new(alloc);
     for form in forms {
-        let more = form_to_and_or_lits(alloc, cnf, table, all, positive, form)?;
+        let more = form_to_and_or_lits(alloc, cnf, gates, table, all, positive, form)?;
         push_all(&mut lits, more.as_slice())?;
     }
     Ok(lits)

@@ -1,3 +1,4 @@
+pub mod PairsLaw
 pub mod OneOfLaw
 pub mod BitsLaw
 pub mod NumberLaw

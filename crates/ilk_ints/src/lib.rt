@@ -10,7 +10,7 @@
 //! all values and for the useful bounds. With the bits, these need at most two variables per value.
 //! `value_of` reads the value from an assignment.
 //!
-//! `one_of` joins any literals in pairs, as in a balanced tree. So propagation from one literal to
+//! `one_of` joins any literals in fours, as in a balanced tree. So propagation from one literal to
 //! another passes few variables, and a search over many literals, such as the rules of a step,
 //! learns short derivations.
 //!

@@ -1,5 +1,6 @@
 -- Conditions on the sections that a route holds, and on its counts of seen and released sections.
 -- Modes and counts are tested as ranges of values from 0, which a formula encodes as one literal.
+-- Conditions of several families on one section are marked as one literal.
 use Rattle.std.specs.Prelude.{ℕ, ◌+◌, [], ◌∷◌, drop, flat_map, length, map, if◌then◌else◌}
 use Rattle.std.specs.List.{range_with_len}
 use Rattle.ilk_ir.specs.Tree.{Tree, negation}
@@ -8,7 +9,7 @@ use Rattle.ilk_plant.specs.declared.state.Mode.TheVariants.{Free, Marked, Alloca
 use Rattle.ilk_plant.specs.declared.table.Route.{Route}
 use Rattle.ilk_routes.specs.Claims.{sections_outside_path}
 use Rattle.ilk_layout.specs.Conditions.{mode_is, is_released_count, is_seen_count}
-use Rattle.ilk_invs.specs.Parts.{each_of, some_of}
+use Rattle.ilk_invs.specs.Parts.{as_one_literal, each_of, some_of}
 
 -- The condition that fewer than `k` path sections of route `r` are seen.
 abbrev pub seen_below : ℕ → ℕ → Tree
@@ -36,4 +37,13 @@ section_on_unreleased_path r route x =
 -- protecting points, or on its path and not released.
 abbrev pub section_held_by : ℕ → Route → ℕ → Tree
 section_held_by r route x =
-    if contains_section x (sections_outside_path route) then route_holds_sections r else each_of (route_holds_sections r ∷ section_on_unreleased_path r route x ∷ [])
+    if contains_section x (sections_outside_path route) then route_holds_sections r else as_one_literal (each_of (route_holds_sections r ∷ section_on_unreleased_path r route x ∷ []))
+
+-- The condition that route `r` holds path[`i`]: it holds sections, and at most `i` are released.
+abbrev pub path_section_held : ℕ → ℕ → Tree
+path_section_held r i = as_one_literal (each_of (route_holds_sections r ∷ rel_below r (i + 1) ∷ []))
+
+-- The condition that route `r` is Locked or Occupied, and section `x` is on its path and not
+-- released.
+abbrev pub section_retained_by : ℕ → Route → ℕ → Tree
+section_retained_by r route x = as_one_literal (each_of (route_locked_or_occupied r ∷ section_on_unreleased_path r route x ∷ []))

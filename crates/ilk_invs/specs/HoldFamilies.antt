@@ -12,7 +12,7 @@ use Rattle.ilk_plant.specs.declared.table.Route.{Route}
 use Rattle.ilk_routes.specs.Claims.{sections_outside_path}
 use Rattle.ilk_layout.specs.Conditions.{lock_is}
 use Rattle.ilk_invs.specs.declared.hold_family.TheConstants.{MAX_ORDERED_HOLDERS}
-use Rattle.ilk_invs.specs.Held.{section_held_by, route_holds_sections, rel_below, seen_below}
+use Rattle.ilk_invs.specs.Held.{path_section_held, section_held_by, route_holds_sections, seen_below}
 use Rattle.ilk_invs.specs.Parts.{conditions_for_optional_value, each_of, conditions_of_each_path_index, conditions_of_each_route, some_of, implication}
 
 -- Returns whether route `r` may hold section `x`: `x` is in its path, overlap or protecting points.
@@ -63,21 +63,22 @@ at_most_one_holder p x = at_most_one_by_halves (length (possible_holders p x)) p
 abbrev pub v2_sections_held_once_tree : PlantLists → Tree
 v2_sections_held_once_tree p = each_of (flat_map (at_most_one_holder p) (range_with_len 0 (length p.sections)))
 
--- The conditions on section `x`, path[`i`] of route `r`, if it is not released: its lock is Locked
+-- The conditions on section `x`, path[`i`] of route `r`, if the route holds it: its lock is Locked
 -- if at most `i` sections are seen, otherwise Used.
 abbrev pub path_lock_matches_seen : PlantLists → ℕ → ℕ → ℕ → List Tree
 path_lock_matches_seen p r i x =
-    some_of (negation (rel_below r (i + 1)) ∷ negation (seen_below r (i + 1)) ∷ lock_is p x LockedLock ∷ [])
-    ∷ some_of (negation (rel_below r (i + 1)) ∷ seen_below r (i + 1) ∷ lock_is p x UsedLock ∷ [])
+    some_of (negation (path_section_held r i) ∷ negation (seen_below r (i + 1)) ∷ lock_is p x LockedLock ∷ [])
+    ∷ some_of (negation (path_section_held r i) ∷ seen_below r (i + 1) ∷ lock_is p x UsedLock ∷ [])
     ∷ []
 
--- Family V3 for route `r`, if it holds sections: those on its path satisfy
--- `path_lock_matches_seen`, and those in its overlap and protecting points have lock Locked.
-abbrev pub held_sections_have_locks : PlantLists → ℕ → Route → Tree
+-- Family V3 for route `r`: the sections of its path satisfy `path_lock_matches_seen`. Those in its
+-- overlap and protecting points have lock Locked if it holds sections.
+abbrev pub held_sections_have_locks : PlantLists → ℕ → Route → List Tree
 held_sections_have_locks p r route =
-    implication (route_holds_sections r) (each_of (conditions_of_each_path_index route (path_lock_matches_seen p r) ++ map (λ x. lock_is p x LockedLock) (sections_outside_path route)))
+    conditions_of_each_path_index route (path_lock_matches_seen p r)
+    ++ map (λ x. implication (route_holds_sections r) (lock_is p x LockedLock)) (sections_outside_path route)
 
 -- Family V3: a section that a route holds on its path has lock Used if the route has seen it. Every
 -- other section that it holds has lock Locked.
 abbrev pub v3_locks_match_routes_tree : PlantLists → Tree
-v3_locks_match_routes_tree p = each_of (conditions_of_each_route p (λ r route. held_sections_have_locks p r route ∷ []))
+v3_locks_match_routes_tree p = each_of (conditions_of_each_route p (held_sections_have_locks p))

@@ -17,6 +17,11 @@ some_of conditions = any_of (trees_from_list conditions)
 abbrev pub implication : Tree → Tree → Tree
 implication condition then_this = some_of (negation condition ∷ then_this ∷ [])
 
+-- The condition `t`, an And or Or, with the mark that it is one literal of a formula (`ilk_forms`),
+-- which equal conditions share.
+abbrev pub as_one_literal : Tree → Tree
+as_one_literal t = negation (negation t)
+
 -- The conditions for the given value, or none if no value is given.
 abbrev pub conditions_for_optional_value : {A : Type 0} → Option A → (A → List Tree) → List Tree
 conditions_for_optional_value None conditions = []

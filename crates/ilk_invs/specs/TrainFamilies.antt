@@ -8,13 +8,13 @@ use Rattle.ilk_plant.specs.Plant.{PlantLists}
 use Rattle.ilk_plant.specs.declared.network.Dir.{Dir}
 use Rattle.ilk_plant.specs.declared.network.Dir.TheVariants.{Up, Down}
 use Rattle.ilk_plant.specs.declared.state.Aspect.TheVariants.{Closed}
-use Rattle.ilk_plant.specs.declared.state.Mode.TheVariants.{Locked, Occupied}
+use Rattle.ilk_plant.specs.declared.state.Mode.TheVariants.{Occupied}
 use Rattle.ilk_plant.specs.declared.table.Route.{Route}
 use Rattle.ilk_layout.specs.declared.values.Occupancy.TheVariants.{Vacant, Taken, Crash}
 use Rattle.ilk_model.specs.Holding.{continues_without_board, route_runs_in_direction}
 use Rattle.ilk_layout.specs.Conditions.{is_board_aspect, mode_is, no_train_at, occupancy_is, train_at}
-use Rattle.ilk_invs.specs.Held.{section_on_unreleased_path, route_locked_or_occupied, seen_below}
-use Rattle.ilk_invs.specs.Parts.{each_of, conditions_of_each_path_index, conditions_of_each_route, some_of}
+use Rattle.ilk_invs.specs.Held.{section_retained_by, route_locked_or_occupied, seen_below}
+use Rattle.ilk_invs.specs.Parts.{as_one_literal, each_of, conditions_of_each_path_index, conditions_of_each_route, some_of}
 
 -- The condition that a train in direction `d` has its head at section `x`.
 abbrev pub head_at : PlantLists → Dir → ℕ → Tree
@@ -37,12 +37,17 @@ body_at p Down x = each_of (negation (vacant_or_up p x) ∷ negation (occupancy_
 abbrev pub no_section_seen_past : ℕ → Route → ℕ → List Tree
 no_section_seen_past r route i = if nat_lt (i + 1) (length route.path) then seen_below r (i + 2) ∷ [] else []
 
+-- The condition that route `r` is Occupied, or Locked with its source Closed: it is Locked or
+-- Occupied, and it is Occupied or its source is Closed.
+abbrev pub route_entered : PlantLists → ℕ → Route → Tree
+route_entered p r route =
+    as_one_literal (each_of (route_locked_or_occupied r ∷ some_of (mode_is r Occupied ∷ is_board_aspect p route.source Closed ∷ []) ∷ []))
+
 -- The condition that route `r` is set for a train with its head at path[`i`]. The route is
 -- Occupied, or Locked with its source Closed. All later path sections are not seen, and are vacant.
 abbrev pub route_set_and_clear_past : PlantLists → ℕ → Route → ℕ → Tree
 route_set_and_clear_past p r route i =
-    each_of (some_of (mode_is r Occupied ∷ each_of (mode_is r Locked ∷ is_board_aspect p route.source Closed ∷ []) ∷ [])
-    ∷ (no_section_seen_past r route i ++ map (no_train_at p) (drop (i + 1) route.path)))
+    each_of (route_entered p r route ∷ (no_section_seen_past r route i ++ map (no_train_at p) (drop (i + 1) route.path)))
 
 -- The conditions that route `r` is set for a train with its head at section `x`, one for each index
 -- of `x` on its path. There is none unless the route runs in direction `d`.
@@ -66,7 +71,7 @@ v7_heads_have_routes_tree p = each_of (flat_map (λ x. head_has_route_set_at p U
 abbrev pub route_retains_at : PlantLists → Dir → ℕ → ℕ → Route → List Tree
 route_retains_at p d x r route =
     if route_runs_in_direction p d route && contains_section x route.path
-    then each_of (route_locked_or_occupied r ∷ section_on_unreleased_path r route x ∷ []) ∷ []
+    then section_retained_by r route x ∷ []
     else []
 
 -- Family V8 for section `x` and direction `d`, if `x` has a neighbour there but no board: if a

@@ -3,10 +3,12 @@ ghost use Rattle.std.specs.List.{list_any};
 ghost use Rattle.ilk_ir.specs.Form.{tree_of};
 ghost use Rattle.ilk_plant.specs.Network.{contains_section};
 ghost use Rattle.ilk_plant.specs.Plant.{IsValidRouteOf};
+ghost use Rattle.ilk_plant.specs.declared.limits.TheConstants.{MAX_PATH};
 ghost use Rattle.ilk_routes.specs.Claims.{sections_outside_path};
 ghost use Rattle.ilk_layout.specs.Conditions as conditions;
 ghost use Rattle.ilk_invs.specs.Held as definitions;
 
+use crate::parts::as_one_literal;
 use ilk_base::has_number;
 use ilk_ir::Form;
 use ilk_layout::{is_released_count, is_seen_count, mode_is, negated};
@@ -144,5 +146,41 @@ pub(crate) fn section_held_by(
     let mut forms = Vec::new(alloc);
     forms.push(holding)?;
     forms.push(section_on_unreleased_path(alloc, plant, r, route, x)?)?;
-    Ok(Form::And(forms))
+    as_one_literal(alloc, Form::And(forms))
+}
+
+/// Returns the condition that route `r` holds section `i` of its path.
+pub(crate) fn path_section_held(
+    alloc: Global,
+    plant: &Plant,
+    r: u32,
+    i: u8,
+) -> Result<Form, AllocError>
+    requires known { r < length plant.now.routes }
+    requires place { i < MAX_PATH }
+    ensures { IfOk result (λ form. tree_of form ≡ definitions.path_section_held r i) }
+{
+    let mut forms = Vec::new(alloc);
+    forms.push(route_holds_sections(alloc, plant, r)?)?;
+    forms.push(rel_below(alloc, plant, r, i + 1)?)?;
+    as_one_literal(alloc, Form::And(forms))
+}
+
+/// Returns the condition that `route`, which is number `r`, is Locked or Occupied, and section `x`
+/// is on its path and not released.
+pub(crate) fn section_retained_by(
+    alloc: Global,
+    plant: &Plant,
+    r: u32,
+    route: &Route,
+    x: u32,
+) -> Result<Form, AllocError>
+    requires known { r < length plant.now.routes }
+    requires route { IsValidRouteOf plant.now route.now }
+    ensures { IfOk result (λ form. tree_of form ≡ definitions.section_retained_by r route.now x) }
+{
+    let mut forms = Vec::new(alloc);
+    forms.push(route_locked_or_occupied(alloc, plant, r)?)?;
+    forms.push(section_on_unreleased_path(alloc, plant, r, route, x)?)?;
+    as_one_literal(alloc, Form::And(forms))
 }

@@ -5,7 +5,7 @@ ghost use Rattle.ilk_plant.specs.declared.network.Dir.TheVariants.{Up, Down};
 ghost use Rattle.ilk_invs.specs.Parts as parts;
 ghost use Rattle.ilk_invs.specs.TrainFamilies as definitions;
 
-use crate::point_family::is_set_and_unreleased;
+use crate::held::section_retained_by;
 use crate::train_families::{body_at, continues_without_board, route_runs_in_direction};
 use ilk_ir::Form;
 use ilk_layout::negated;
@@ -29,7 +29,7 @@ fn push_keeps_at(
 {
     let route = plant.route(r);
     if route_runs_in_direction(plant, d, route) && contains_section(&route.path, x) {
-        forms.push(is_set_and_unreleased(alloc, plant, r, route, x)?)?;
+        forms.push(section_retained_by(alloc, plant, r, route, x)?)?;
     }
     Ok(())
 }

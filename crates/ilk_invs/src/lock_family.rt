@@ -4,13 +4,12 @@ ghost use Rattle.ilk_ir.specs.Tree.{negation};
 ghost use Rattle.ilk_plant.specs.Plant.{IsValidRouteOf};
 ghost use Rattle.ilk_plant.specs.declared.limits.TheConstants.{MAX_PATH};
 ghost use Rattle.ilk_plant.specs.declared.state.Hold.TheVariants.{Locked as LockedLock, Used as UsedLock};
-ghost use Rattle.ilk_routes.specs.Claims.{sections_outside_path};
 ghost use Rattle.ilk_layout.specs.Conditions as conditions;
 ghost use Rattle.ilk_invs.specs.Held as held;
 ghost use Rattle.ilk_invs.specs.Parts as parts;
 ghost use Rattle.ilk_invs.specs.HoldFamilies as definitions;
 
-use crate::held::{rel_below, route_holds_sections, seen_below};
+use crate::held::{path_section_held, route_holds_sections, seen_below};
 use crate::parts::implication;
 use ilk_ir::Form;
 use ilk_layout::{lock_is, negated};
@@ -24,11 +23,11 @@ fn locked_ahead(alloc: Global, plant: &Plant, r: u32, i: u8, x: u32) -> Result<F
     ensures { IfOk result
         (λ form. tree_of form
         ≡ parts.some_of
-        (negation (held.rel_below r (i + 1)) ∷ negation (held.seen_below r (i + 1))
+        (negation (held.path_section_held r i) ∷ negation (held.seen_below r (i + 1))
         ∷ conditions.lock_is plant.now x LockedLock ∷ [])) }
 {
     let mut forms = Vec::new(alloc);
-    forms.push(negated(alloc, rel_below(alloc, plant, r, i + 1)?)?)?;
+    forms.push(negated(alloc, path_section_held(alloc, plant, r, i)?)?)?;
     forms.push(negated(alloc, seen_below(alloc, plant, r, i + 1)?)?)?;
     forms.push(lock_is(plant, x, Hold::Locked))?;
     Ok(Form::Or(forms))
@@ -41,11 +40,11 @@ fn used_behind(alloc: Global, plant: &Plant, r: u32, i: u8, x: u32) -> Result<Fo
     ensures { IfOk result
         (λ form. tree_of form
         ≡ parts.some_of
-        (negation (held.rel_below r (i + 1)) ∷ held.seen_below r (i + 1)
+        (negation (held.path_section_held r i) ∷ held.seen_below r (i + 1)
         ∷ conditions.lock_is plant.now x UsedLock ∷ [])) }
 {
     let mut forms = Vec::new(alloc);
-    forms.push(negated(alloc, rel_below(alloc, plant, r, i + 1)?)?)?;
+    forms.push(negated(alloc, path_section_held(alloc, plant, r, i)?)?)?;
     forms.push(seen_below(alloc, plant, r, i + 1)?)?;
     forms.push(lock_is(plant, x, Hold::Used))?;
     Ok(Form::Or(forms))
@@ -74,66 +73,80 @@ fn push_locks_on_path(
     Ok(())
 }
 
-fn push_locked(forms: &mut Vec<Form>, plant: &Plant, sections: &[u32]) -> Result<(), AllocError>
-    requires { All (λ x. x < length plant.now.sections) sections.now }
+fn locked_if_holding(alloc: Global, plant: &Plant, r: u32, x: u32) -> Result<Form, AllocError>
+    requires known { r < length plant.now.routes }
+    requires section { x < length plant.now.sections }
+    ensures { IfOk result
+        (λ form. tree_of form
+        ≡ parts.implication (held.route_holds_sections r) (conditions.lock_is plant.now x
+        LockedLock)) }
+{
+    let holding = route_holds_sections(alloc, plant, r)?;
+    implication(alloc, holding, lock_is(plant, x, Hold::Locked))
+}
+
+fn push_locked(
+    alloc: Global,
+    forms: &mut Vec<Form>,
+    plant: &Plant,
+    r: u32,
+    sections: &[u32],
+) -> Result<(), AllocError>
+    requires known { r < length plant.now.routes }
+    requires sections { All (λ x. x < length plant.now.sections) sections.now }
     ensures { OnOk result
         (map tree_of forms.new.items
         ≡ map tree_of forms.old.items
-        ++ map (λ x. conditions.lock_is plant.now x LockedLock) sections.now) }
+        ++ map
+        (λ x. parts.implication (held.route_holds_sections r) (conditions.lock_is plant.now x
+        LockedLock)) sections.now) }
 {
     for x in sections {
-        forms.push(lock_is(plant, *x, Hold::Locked))?;
+        forms.push(locked_if_holding(alloc, plant, r, *x)?)?;
     }
     Ok(())
 }
 
 fn push_points_locked(
+    alloc: Global,
     forms: &mut Vec<Form>,
     plant: &Plant,
+    r: u32,
     points: &[Listed],
 ) -> Result<(), AllocError>
-    requires { All (λ listed. listed.point < length plant.now.sections) points.now }
+    requires known { r < length plant.now.routes }
+    requires points { All (λ listed. listed.point < length plant.now.sections) points.now }
     ensures { OnOk result
         (map tree_of forms.new.items
         ≡ map tree_of forms.old.items
-        ++ map (λ x. conditions.lock_is plant.now x LockedLock)
-        (map (λ listed. listed.point) points.now)) }
+        ++ map
+        (λ x. parts.implication (held.route_holds_sections r) (conditions.lock_is plant.now x
+        LockedLock)) (map (λ listed. listed.point) points.now)) }
 {
     for listed in points {
-        forms.push(lock_is(plant, listed.point, Hold::Locked))?;
+        forms.push(locked_if_holding(alloc, plant, r, listed.point)?)?;
     }
     Ok(())
 }
 
-fn locks_for(alloc: Global, plant: &Plant, r: u32, route: &Route) -> Result<Vec<Form>, AllocError>
+fn push_locks_for(
+    alloc: Global,
+    forms: &mut Vec<Form>,
+    plant: &Plant,
+    r: u32,
+    route: &Route,
+) -> Result<(), AllocError>
     requires known { r < length plant.now.routes }
     requires route { IsValidRouteOf plant.now route.now }
-    ensures { IfOk result
-        (λ forms. map tree_of forms.items
-        ≡ parts.conditions_of_each_path_index route.now (definitions.path_lock_matches_seen
-        plant.now r)
-        ++ map (λ x. conditions.lock_is plant.now x LockedLock)
-        (sections_outside_path route.now)) }
+    ensures { OnOk result
+        (map tree_of forms.new.items
+        ≡ map tree_of forms.old.items
+        ++ definitions.held_sections_have_locks plant.now r route.now) }
 {
-    let mut forms = Vec::new(alloc);
-    push_locks_on_path(alloc, &mut forms, plant, r, route)?;
-    push_locked(&mut forms, plant, route.overlap.as_slice())?;
-    push_points_locked(&mut forms, plant, route.protecting_points.as_slice())?;
-    Ok(forms)
-}
-
-fn locked_for(alloc: Global, plant: &Plant, r: u32, route: &Route) -> Result<Form, AllocError>
-    requires known { r < length plant.now.routes }
-    requires route { IsValidRouteOf plant.now route.now }
-    ensures { IfOk result (λ form. tree_of form
-        ≡ definitions.held_sections_have_locks plant.now r route.now) }
-{
-    let forms = locks_for(alloc, plant, r, route)?;
-    implication(
-        alloc,
-        route_holds_sections(alloc, plant, r)?,
-        Form::And(forms),
-    )
+    push_locks_on_path(alloc, forms, plant, r, route)?;
+    push_locked(alloc, forms, plant, r, route.overlap.as_slice())?;
+    push_points_locked(alloc, forms, plant, r, route.protecting_points.as_slice())?;
+    Ok(())
 }
 
 /// Returns the form of family V3: a section that a route holds on its path has lock Used if the
@@ -144,7 +157,7 @@ pub(crate) fn v3_locks_match_routes_form(alloc: Global, plant: &Plant) -> Result
 {
     let mut forms = Vec::new(alloc);
     for r in 0..plant.routes() {
-        forms.push(locked_for(alloc, plant, r, plant.route(r))?)?;
+        push_locks_for(alloc, &mut forms, plant, r, plant.route(r))?;
     }
     Ok(Form::And(forms))
 }

@@ -4,14 +4,15 @@ ghost use Rattle.ilk_ir.specs.Tree.{negation};
 ghost use Rattle.ilk_plant.specs.Plant.{IsValidRouteOf};
 ghost use Rattle.ilk_plant.specs.declared.network.Dir.TheVariants.{Up, Down};
 ghost use Rattle.ilk_plant.specs.declared.state.Aspect.TheVariants.{Closed};
-ghost use Rattle.ilk_plant.specs.declared.state.Mode.TheVariants.{Locked, Occupied};
+ghost use Rattle.ilk_plant.specs.declared.state.Mode.TheVariants.{Occupied};
 ghost use Rattle.ilk_layout.specs.declared.values.Occupancy.TheVariants.{Taken};
 ghost use Rattle.ilk_model.specs.Holding.{continues_without_board, route_runs_in_direction};
 ghost use Rattle.ilk_layout.specs.Conditions as conditions;
 ghost use Rattle.ilk_invs.specs.Parts as parts;
 ghost use Rattle.ilk_invs.specs.TrainFamilies as definitions;
 
-use crate::held::seen_below;
+use crate::held::{route_locked_or_occupied, seen_below};
+use crate::parts::as_one_literal;
 use crate::route_families::push_each_section_vacant;
 use ilk_ir::Form;
 use ilk_layout::{
@@ -87,24 +88,36 @@ pub(crate) fn body_at(alloc: Global, plant: &Plant, d: Dir, x: u32) -> Result<Fo
     Ok(Form::And(forms))
 }
 
-fn may_lead(alloc: Global, plant: &Plant, r: u32, route: &Route) -> Result<Form, AllocError>
+fn occupied_or_closed(
+    alloc: Global,
+    plant: &Plant,
+    r: u32,
+    route: &Route,
+) -> Result<Form, AllocError>
     requires known { r < length plant.now.routes }
     requires route { IsValidRouteOf plant.now route.now }
     ensures { IfOk result
         (λ form. tree_of form
         ≡ parts.some_of
         (conditions.mode_is r Occupied
-        ∷ parts.each_of
-        (conditions.mode_is r Locked
-        ∷ conditions.is_board_aspect plant.now route.now.source Closed ∷ []) ∷ [])) }
+        ∷ conditions.is_board_aspect plant.now route.now.source Closed ∷ [])) }
 {
-    let mut closed = Vec::new(alloc);
-    closed.push(mode_is(plant, r, Mode::Locked))?;
-    closed.push(is_board_aspect(plant, route.source, Aspect::Closed))?;
     let mut forms = Vec::new(alloc);
     forms.push(mode_is(plant, r, Mode::Occupied))?;
-    forms.push(Form::And(closed))?;
+    forms.push(is_board_aspect(plant, route.source, Aspect::Closed))?;
     Ok(Form::Or(forms))
+}
+
+fn route_entered(alloc: Global, plant: &Plant, r: u32, route: &Route) -> Result<Form, AllocError>
+    requires known { r < length plant.now.routes }
+    requires route { IsValidRouteOf plant.now route.now }
+    ensures { IfOk result (λ form. tree_of form ≡ definitions.route_entered plant.now r
+        route.now) }
+{
+    let mut forms = Vec::new(alloc);
+    forms.push(route_locked_or_occupied(alloc, plant, r)?)?;
+    forms.push(occupied_or_closed(alloc, plant, r, route)?)?;
+    as_one_literal(alloc, Form::And(forms))
 }
 
 fn push_none_seen_past(
@@ -142,7 +155,7 @@ fn leads_from(
         ≡ definitions.route_set_and_clear_past plant.now r route.now i) }
 {
     let mut forms = Vec::new(alloc);
-    forms.push(may_lead(alloc, plant, r, route)?)?;
+    forms.push(route_entered(alloc, plant, r, route)?)?;
     push_none_seen_past(alloc, &mut forms, plant, r, route, i)?;
     push_each_section_vacant(&mut forms, plant, &route.path.as_slice()[i + 1..])?;
     Ok(Form::And(forms))

@@ -8,7 +8,7 @@ use Rattle.ilk_ir.specs.declared.system.Setting.{Setting}
 use Rattle.ilk_forms.specs.declared.copy.VarValueAndBoundLits.{VarValueAndBoundLits}
 use Rattle.ilk_forms.specs.Size.{tree_size}
 use Rattle.ilk_forms.specs.Demand.{some_lit_or_form_part}
-use Rattle.ilk_forms.proofs.Few.{demand_of-few}
+use Rattle.ilk_forms.proofs.Few.{some_lit_or_form-few}
 use Rattle.ilk_step.specs.Choice.{chosen_lits, choice_part}
 use Rattle.ilk_step.specs.Rules.{settings_unless_skipped_part, rules_part}
 use Rattle.ilk_step.specs.Frame.{setter_lits, value_lits_to_carry_over, equal_unless_any_true, frame_axioms}
@@ -34,7 +34,7 @@ rules-few (r ∷ rs) now next k n =
     let p = some_lit_or_form_part now (skip ∷ []) r.guard n in
     let q = settings_unless_skipped_part next skip r.sets p.vars in
     let rest = rules_part now next (k + 1) rs q.vars in
-    let one = demand_of-few r.guard now (skip ∷ []) true n in
+    let one = some_lit_or_form-few r.guard now (skip ∷ []) n in
     let guard_vars : p.vars ≤ n + tree_size r.guard = one.vars in
     let guard_clauses : length p.clauses ≤ 2 * tree_size r.guard = one.clauses in
     let two = settings-few r.sets next skip p.vars in

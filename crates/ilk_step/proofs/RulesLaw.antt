@@ -20,10 +20,9 @@ use Rattle.ilk_ir.specs.System.{PlainRule, rule_valid, sets_distinct_vars}
 use Rattle.ilk_ir.specs.declared.system.Setting.{Setting}
 use Rattle.ilk_forms.specs.declared.copy.VarValueAndBoundLits.{VarValueAndBoundLits}
 use Rattle.ilk_forms.specs.Leaf.{has_lits_within_vars, ranges_of}
-use Rattle.ilk_forms.specs.Demand.{some_lit_or_form_part}
-use Rattle.ilk_forms.specs.Truths.{some_lit_or_form_bits}
+use Rattle.ilk_forms.specs.Demand.{some_lit_or_form_part, some_lit_or_form_bits}
 use Rattle.ilk_forms.proofs.Reading.{Reads, reads-more, has_lits_within_vars-more}
-use Rattle.ilk_forms.proofs.DemandLaw.{PartFits, demand_of-fits, demand_of-law}
+use Rattle.ilk_forms.proofs.DemandLaw.{PartFits, some_lit_or_form-fits, some_lit_or_form-law}
 use Rattle.ilk_step.specs.Choice.{chosen_lits}
 use Rattle.ilk_step.specs.Rules.{settings_unless_skipped_part, rule_unless_skipped_part, rules_part, rules_bits}
 use Rattle.ilk_step.proofs.ChoiceLaw.{turned}
@@ -62,14 +61,14 @@ pub settings-fits : (sets : List Setting) (next : List VarValueAndBoundLits) (sk
 settings-fits [] next skip n h f k = record { low = same n; inside = refl }
 settings-fits (s ∷ sets) next skip n h f k =
     let parts = and_parts (value_valid (ranges_of next) s.var s.value) (settings_valid (ranges_of next) sets) k in
-    then-fits n (some_lit_or_form_part next (skip ∷ []) (is s.var s.value) n) (settings_unless_skipped_part next skip sets) (demand_of-fits (is s.var s.value) next (skip ∷ []) true n h f parts.0) (settings-fits sets next skip n h f parts.1)
+    then-fits n (some_lit_or_form_part next (skip ∷ []) (is s.var s.value) n) (settings_unless_skipped_part next skip sets) (some_lit_or_form-fits (is s.var s.value) next (skip ∷ []) n h f parts.0) (settings-fits sets next skip n h f parts.1)
 
 pub rule-fits : (r : PlainRule) (now next : List VarValueAndBoundLits) (skip : Literal) (n : ℕ) → has_lits_within_vars n now ≡ true →
     has_lits_within_vars n next ≡ true → ranges_of next ≡ ranges_of now → is_clause_over n (skip ∷ []) ≡ true →
     rule_valid (ranges_of now) r ≡ true → PartFits n (rule_unless_skipped_part now next skip r n)
 rule-fits r now next skip n hn hx same_ranges f k =
     let p = some_lit_or_form_part now (skip ∷ []) r.guard n in
-    let one = demand_of-fits r.guard now (skip ∷ []) true n hn f (rule_valid-guard (ranges_of now) r k) in
+    let one = some_lit_or_form-fits r.guard now (skip ∷ []) n hn f (rule_valid-guard (ranges_of now) r k) in
     let sets : settings_valid (ranges_of next) r.sets ≡ true = ap (λ (u : List ℕ). settings_valid u r.sets) same_ranges ∙ rule_valid-settings (ranges_of now) r k in
     then-fits n p (settings_unless_skipped_part next skip r.sets) one (settings-fits r.sets next skip p.vars (has_lits_within_vars-more n p.vars next one.low hx) (is_clause_over-more n p.vars (skip ∷ []) one.low f) sets)
 
@@ -110,9 +109,9 @@ settings-law (s ∷ sets) next ranges xs skip a n size r h f k =
     (λ (u : List Bool). ExtensionsAreExactly u rest.vars rest.clauses (PassesAndEqualsGivenValues (x || others) [])) (sym (append-nil a)) law in
     subst (λ (b : Bool). ExtensionsAreExactly a rest.vars (p.clauses ++ rest.clauses) (PassesAndEqualsGivenValues b [])) (also x here others)
     (then-law a [] [] ((x || false) || here) (x || others) n p (settings_unless_skipped_part next skip sets) size
-    (demand_of-fits (is s.var s.value) next (skip ∷ []) true n h f parts.0)
+    (some_lit_or_form-fits (is s.var s.value) next (skip ∷ []) n h f parts.0)
     (settings-fits sets next skip n h f parts.1)
-    (demand_of-law (is s.var s.value) next ranges xs (skip ∷ []) true a n size r f parts.0)
+    (some_lit_or_form-law (is s.var s.value) next ranges xs (skip ∷ []) a n size r f parts.0)
     (λ _. moved))
 
 pub rule-law :
@@ -121,15 +120,15 @@ pub rule-law :
     has_lits_within_vars n now ≡ true → has_lits_within_vars n next ≡ true → ranges_of next ≡ ranges_of now →
     is_clause_over n (skip ∷ []) ≡ true → rule_valid (ranges_of now) r ≡ true →
     ExtensionsAreExactly a (rule_unless_skipped_part now next skip r n).vars (rule_unless_skipped_part now next skip r n).clauses
-    (PassesAndEqualsGivenValues (is_true a skip || rule_met ws xs r) (some_lit_or_form_bits (ranges_of now) ws r.guard))
+    (PassesAndEqualsGivenValues (is_true a skip || rule_met ws xs r) (some_lit_or_form_bits now (skip ∷ []) r.guard a))
 rule-law r now next ws xs skip a n size rn rx hn hx same_ranges f k =
     let p = some_lit_or_form_part now (skip ∷ []) r.guard n in
-    let e = some_lit_or_form_bits (ranges_of now) ws r.guard in
+    let e = some_lit_or_form_bits now (skip ∷ []) r.guard a in
     let m = p.vars in
     let rest = settings_unless_skipped_part next skip r.sets m in
     let x = is_true a skip in
     let guard_valid = rule_valid-guard (ranges_of now) r k in
-    let one = demand_of-fits r.guard now (skip ∷ []) true n hn f guard_valid in
+    let one = some_lit_or_form-fits r.guard now (skip ∷ []) n hn f guard_valid in
     let grows = one.low in
     let sets : settings_valid (ranges_of next) r.sets ≡ true = ap (λ (u : List ℕ). settings_valid u r.sets) same_ranges ∙ rule_valid-settings (ranges_of now) r k in
     let met = list_all (λ (s : Setting). is_value_of_var xs s.var s.value) r.sets in
@@ -142,7 +141,7 @@ rule-law r now next ws xs skip a n size rn rx hn hx same_ranges f k =
     (settings-law r.sets next (ranges_of now) xs skip (a ++ e) m long (reads-more a e next (ranges_of now) xs (longer a e) rx) next_in skip_in sets) in
     let both = then-law a e [] ((x || false) || rule_guard) (x || met) n p (settings_unless_skipped_part next skip r.sets)
     size one (settings-fits r.sets next skip m next_in skip_in sets)
-    (demand_of-law r.guard now (ranges_of now) ws (skip ∷ []) true a n size rn f guard_valid) second in
+    (some_lit_or_form-law r.guard now (ranges_of now) ws (skip ∷ []) a n size rn f guard_valid) second in
     let said = subst (λ (b : Bool). ExtensionsAreExactly a rest.vars (p.clauses ++ rest.clauses) (PassesAndEqualsGivenValues b (e ++ []))) (also x rule_guard met) both in
     subst (λ (d : List Bool). ExtensionsAreExactly a rest.vars (p.clauses ++ rest.clauses) (PassesAndEqualsGivenValues (x || rule_met ws xs r) d)) (append-nil e) said
   where
@@ -166,13 +165,13 @@ pub rules-law :
     has_lits_within_vars n now ≡ true → has_lits_within_vars n next ≡ true → ranges_of next ≡ ranges_of now → 0 < k →
     k + length rs ≤ n + 1 → list_all (rule_valid (ranges_of now)) rs ≡ true →
     ExtensionsAreExactly a (rules_part now next k rs n).vars (rules_part now next k rs n).clauses
-    (PassesAndEqualsGivenValues (all_met a k ws xs rs) (rules_bits (ranges_of now) ws rs))
+    (PassesAndEqualsGivenValues (all_met a k ws xs rs) (rules_bits now k rs a))
 rules-law [] now next ws xs k a n size rn rx hn hx same_ranges low high valid = no_more_if a n [] true size refl
 rules-law (r ∷ rs) now next ws xs k a n size rn rx hn hx same_ranges low high valid =
     let parts = and_parts (rule_valid (ranges_of now) r) (list_all (rule_valid (ranges_of now)) rs) valid in
     let p = rule_unless_skipped_part now next (positive_lit k) r n in
     let m = p.vars in
-    let e = some_lit_or_form_bits (ranges_of now) ws r.guard in
+    let e = some_lit_or_form_bits now (positive_lit k ∷ []) r.guard a in
     let rest = rules_part now next (k + 1) rs m in
     let skip_in = skip-in k n low (omega arith) in
     let one = rule-fits r now next (positive_lit k) n hn hx same_ranges skip_in parts.0 in
@@ -182,15 +181,15 @@ rules-law (r ∷ rs) now next ws xs k a n size rn rx hn hx same_ranges low high 
     let fits : k + 1 + length rs ≤ m + 1 = omega arith in
     let more : 0 < k + 1 = omega arith in
     let old : all_met (a ++ e) (k + 1) ws xs rs ≡ all_met a (k + 1) ws xs rs = all_met-left rs a e (k + 1) ws xs (rw size (omega arith)) in
-    let second : length (a ++ e) ≡ m → ExtensionsAreExactly (a ++ e) rest.vars rest.clauses (PassesAndEqualsGivenValues (all_met a (k + 1) ws xs rs) (rules_bits (ranges_of now) ws rs)) = λ long.
+    let second : length (a ++ e) ≡ m → ExtensionsAreExactly (a ++ e) rest.vars rest.clauses (PassesAndEqualsGivenValues (all_met a (k + 1) ws xs rs) (rules_bits now (k + 1) rs (a ++ e))) = λ long.
     subst
-    (λ (b : Bool). ExtensionsAreExactly (a ++ e) rest.vars rest.clauses (PassesAndEqualsGivenValues b (rules_bits (ranges_of now) ws rs)))
+    (λ (b : Bool). ExtensionsAreExactly (a ++ e) rest.vars rest.clauses (PassesAndEqualsGivenValues b (rules_bits now (k + 1) rs (a ++ e))))
     old
     (rules-law rs now next ws xs (k + 1) (a ++ e) m long
     (reads-more a e now (ranges_of now) ws (longer a e) rn)
     (reads-more a e next (ranges_of now) xs (longer a e) rx) now_in next_in same_ranges more fits
     parts.1) in
-    then-law a e (rules_bits (ranges_of now) ws rs) (value a k || rule_met ws xs r)
+    then-law a e (rules_bits now (k + 1) rs (a ++ e)) (value a k || rule_met ws xs r)
     (all_met a (k + 1) ws xs rs) n p (rules_part now next (k + 1) rs) size one
     (rules-fits rs now next (k + 1) m now_in next_in same_ranges more fits parts.1)
     (rule-law r now next ws xs (positive_lit k) a n size rn rx hn hx same_ranges skip_in parts.0) second

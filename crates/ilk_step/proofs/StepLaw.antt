@@ -89,10 +89,10 @@ after-law :
     in_ranges xs (ranges_of now) ≡ true →
     map (is_true a) (chosen_lits k (length rs)) ≡ one_hot_bits r 0 (length rs) → slice_get rs r ≡ Some rule →
     ExtensionsAreExactly a (after_choice rs now next k m).vars (after_choice rs now next k m).clauses
-    (PassesAndEqualsGivenValues (leads ws xs rule) (rules_bits (ranges_of now) ws rs))
+    (PassesAndEqualsGivenValues (leads ws xs rule) (rules_bits now k rs a))
 after-law rs now next ws xs a k m r rule c low high valid hw hx chosen at =
     let p = rules_part now next k rs m in
-    let e = rules_bits (ranges_of now) ws rs in
+    let e = rules_bits now k rs a in
     let met = rule_met ws xs rule in
     let keeps = kept (λ v. sets_variable v rule.sets) 0 ws xs in
     let one = rules-fits rs now next k m c.now_in c.next_in c.same low high valid in
@@ -138,9 +138,9 @@ pub step-law : (rules : List PlainRule) (now next : List VarValueAndBoundLits) (
     Copies a n now next ws xs → list_all (rule_valid (ranges_of now)) rules ≡ true →
     in_ranges ws (ranges_of now) ≡ true → in_ranges xs (ranges_of now) ≡ true →
     ExtensionsAreExactly a (step_part rules now next n).vars (step_part rules now next n).clauses
-    (AreStepBits (ranges_of now) rules ws xs)
+    (AreStepBits now rules a ws xs)
 step-law rules now next ws xs a n c valid hw hx =
-    in_words a q.vars (p.clauses ++ q.clauses) _ (AreStepBits (ranges_of now) rules ws xs) to from (in_turn a p.vars q.vars p.clauses q.clauses (AreChoiceBits count) after (omega (arith, c.size, grows)) fits.low (choice-in count n) first next_law)
+    in_words a q.vars (p.clauses ++ q.clauses) _ (AreStepBits now rules a ws xs) to from (in_turn a p.vars q.vars p.clauses q.clauses (AreChoiceBits count) after (omega (arith, c.size, grows)) fits.low (choice-in count n) first next_law)
   where
     count : ℕ
     count = length rules
@@ -164,7 +164,7 @@ step-law rules now next ws xs a n c valid hw hx =
     fits = after-fits rules now next (n + 1) p.vars (has_lits_within_vars-more n p.vars now more c.now_in) (has_lits_within_vars-more n p.vars next more c.next_in) c.same (omega arith) reach valid
 
     after : (b : List Bool) → AreChoiceBits count b → List Bool → Type 0
-    after b h = PassesAndEqualsGivenValues (leads ws xs (item_at rules h.0 h.1).0) (rules_bits (ranges_of now) ws rules)
+    after b h = PassesAndEqualsGivenValues (leads ws xs (item_at rules h.0 h.1).0) (rules_bits now (n + 1) rules (a ++ b))
 
     first : ExtensionsAreExactly a p.vars p.clauses (AreChoiceBits count)
     first = choice-law a count n c.size
@@ -176,15 +176,18 @@ step-law rules now next ws xs a n c valid hw hx =
         let chosen : map (is_true (a ++ b)) (chosen_lits (n + 1) count) ≡ one_hot_bits h.0 0 count = subst (λ (u : List Bool). map (is_true u) (chosen_lits (n + 1) count) ≡ one_hot_bits h.0 0 count) whole (choice-says a [] count h.0 n c.size) in
         after-law rules now next ws xs (a ++ b) (n + 1) p.vars h.0 (item_at rules h.0 h.1).0 (copies-left a b n p.vars now next ws xs more long c) (omega arith) reach valid hw hx chosen (item_at rules h.0 h.1).1
 
-    to : (d : List Bool) → AreValuesOfConsecutiveParts (AreChoiceBits count) after d → AreStepBits (ranges_of now) rules ws xs d
+    rules_at : (r : ℕ) → step_bits now rules a r ≡ choice_bits count r ++ rules_bits now (n + 1) rules (a ++ choice_bits count r)
+    rules_at r = ap (λ (m : ℕ). choice_bits count r ++ rules_bits now (m + 1) rules (a ++ choice_bits count r)) c.size
+
+    to : (d : List Bool) → AreValuesOfConsecutiveParts (AreChoiceBits count) after d → AreStepBits now rules a ws xs d
     to d h =
         let r = h.3.0 in
         let item = item_at rules r h.3.1 in
         let parts = and_parts (rule_met ws xs item.0) (kept (λ v. sets_variable v item.0.sets) 0 ws xs) h.4.0 in
         let fires : after_rule item.0 ws ≡ Some xs = met-after_rule item.0 ws xs (ranges_of now) hw hx parts.0 parts.1 in
-        (r, ap (λ (o : Option PlainRule). option_and_then (λ rule. after_rule rule ws) o) item.1 ∙ fires, h.2 ∙ ap (λ (u : List Bool). u ++ h.1) h.3.2 ∙ ap (λ (u : List Bool). choice_bits count r ++ u) h.4.1)
+        (r, ap (λ (o : Option PlainRule). option_and_then (λ rule. after_rule rule ws) o) item.1 ∙ fires, h.2 ∙ ap (λ (u : List Bool). h.0 ++ u) h.4.1 ∙ ap (λ (u : List Bool). u ++ rules_bits now (n + 1) rules (a ++ u)) h.3.2 ∙ sym (rules_at r))
 
-    from : (d : List Bool) → AreStepBits (ranges_of now) rules ws xs d → AreValuesOfConsecutiveParts (AreChoiceBits count) after d
+    from : (d : List Bool) → AreStepBits now rules a ws xs d → AreValuesOfConsecutiveParts (AreChoiceBits count) after d
     from d h = by_case (slice_get rules h.0) refl h.1
       where
         by_case : (o : Option PlainRule) → slice_get rules h.0 ≡ o → option_and_then (λ rule. after_rule rule ws) o ≡ Some xs → AreValuesOfConsecutiveParts (AreChoiceBits count) after d
@@ -195,12 +198,14 @@ step-law rules now next ws xs a n c valid hw hx =
             let same : rule ≡ item.0 = same_Some rule item.0 (sym is ∙ item.1) in
             let fires_too : after_rule item.0 ws ≡ Some xs = ap (λ (u : PlainRule). after_rule u ws) (sym same) ∙ fires in
             let both = after_rule-met item.0 ws xs (ranges_of now) hw (list_all-slice_get (rule_valid (ranges_of now)) rules h.0 item.0 valid item.1) fires_too in
-            (choice_bits count h.0, rules_bits (ranges_of now) ws rules, h.2, (h.0, less, refl), (and_from _ _ both.0 both.1, refl))
+            (choice_bits count h.0, rules_bits now (n + 1) rules (a ++ choice_bits count h.0), h.2 ∙ rules_at h.0, (h.0, less, refl), (and_from _ _ both.0 both.1, refl))
 
-pub step-says : (ranges : List ℕ) (rules : List PlainRule) (ws : List ℕ) (a c : List Bool) (n r : ℕ) → length a ≡ n → map (is_true (a ++ (step_bits ranges rules ws r ++ c))) (chosen_lits (n + 1) (length rules)) ≡ one_hot_bits r 0 (length rules)
-step-says ranges rules ws a c n r size =
-    let whole : a ++ (choice_bits (length rules) r ++ (rules_bits ranges ws rules ++ c)) ≡ a ++ (step_bits ranges rules ws r ++ c) = ap (λ (u : List Bool). a ++ u) (sym (append_assoc (choice_bits (length rules) r) (rules_bits ranges ws rules) c)) in
-    subst (λ (u : List Bool). map (is_true u) (chosen_lits (n + 1) (length rules)) ≡ one_hot_bits r 0 (length rules)) whole (choice-says a (rules_bits ranges ws rules ++ c) (length rules) r n size)
+pub step-says : (now : List VarValueAndBoundLits) (rules : List PlainRule) (a c : List Bool) (n r : ℕ) → length a ≡ n → map (is_true (a ++ (step_bits now rules a r ++ c))) (chosen_lits (n + 1) (length rules)) ≡ one_hot_bits r 0 (length rules)
+step-says now rules a c n r size =
+    let choice = choice_bits (length rules) r in
+    let after = rules_bits now (length a + 1) rules (a ++ choice) in
+    let whole : a ++ (choice ++ (after ++ c)) ≡ a ++ (step_bits now rules a r ++ c) = ap (λ (u : List Bool). a ++ u) (sym (append_assoc choice after c)) in
+    subst (λ (u : List Bool). map (is_true u) (chosen_lits (n + 1) (length rules)) ≡ one_hot_bits r 0 (length rules)) whole (choice-says a (after ++ c) (length rules) r n size)
 
 pub step-below : (rules : List PlainRule) (ws xs : List ℕ) (r : ℕ) → values_after_rule rules ws r ≡ Some xs → r < length rules
 step-below rules ws xs r h = by_case (slice_get rules r) refl h

@@ -6,8 +6,7 @@ use Rattle.ilk_ir.specs.Tree.{is}
 use Rattle.ilk_ir.specs.System.{PlainRule}
 use Rattle.ilk_ir.specs.declared.system.Setting.{Setting}
 use Rattle.ilk_forms.specs.declared.copy.VarValueAndBoundLits.{VarValueAndBoundLits}
-use Rattle.ilk_forms.specs.Demand.{some_lit_or_form_part}
-use Rattle.ilk_forms.specs.Truths.{some_lit_or_form_bits}
+use Rattle.ilk_forms.specs.Demand.{some_lit_or_form_part, some_lit_or_form_bits}
 
 -- The part of a formula, after `n` variables, that says: `skip` is true, or the settings hold after
 -- the step (`next`).
@@ -28,8 +27,8 @@ abbrev pub rules_part : List VarValueAndBoundLits → List VarValueAndBoundLits 
 rules_part now next k [] n = empty_part n
 rules_part now next k (r ∷ rs) n = and_then (rule_unless_skipped_part now next (positive_lit k) r n) (rules_part now next (k + 1) rs)
 
--- The values of the variables that `rules_part` adds, if the system has the values `ws` before the
--- step.
-abbrev pub rules_bits : List ℕ → List ℕ → List PlainRule → List Bool
-rules_bits ranges ws [] = []
-rules_bits ranges ws (r ∷ rs) = some_lit_or_form_bits ranges ws r.guard ++ rules_bits ranges ws rs
+-- The values of the variables that `rules_part` adds, after assignment `a`.
+abbrev pub rules_bits : List VarValueAndBoundLits → ℕ → List PlainRule → List Bool → List Bool
+rules_bits now k [] a = []
+rules_bits now k (r ∷ rs) a =
+    some_lit_or_form_bits now (positive_lit k ∷ []) r.guard a ++ rules_bits now (k + 1) rs (a ++ some_lit_or_form_bits now (positive_lit k ∷ []) r.guard a)

@@ -18,12 +18,12 @@ step_part rules now next n =
 abbrev pub values_after_rule : List PlainRule → List ℕ → ℕ → Option (List ℕ)
 values_after_rule rules ws r = option_and_then (λ rule. after_rule rule ws) (slice_get rules r)
 
--- The values of the variables that `step_part` adds, if rule number `r` is chosen and the system
--- has the values `ws` before the step.
-abbrev pub step_bits : List ℕ → List PlainRule → List ℕ → ℕ → List Bool
-step_bits ranges rules ws r = choice_bits (length rules) r ++ rules_bits ranges ws rules
+-- The values of the variables that `step_part` adds after assignment `a`, if rule number `r` is
+-- chosen. The literals `now` are those before the step.
+abbrev pub step_bits : List VarValueAndBoundLits → List PlainRule → List Bool → ℕ → List Bool
+step_bits now rules a r = choice_bits (length rules) r ++ rules_bits now (length a + 1) rules (a ++ choice_bits (length rules) r)
 
--- Holds if `b` has the values of the variables that `step_part` adds, for some rule that leads from
--- the values `ws` to `xs`.
-abbrev pub AreStepBits : List ℕ → List PlainRule → List ℕ → List ℕ → List Bool → Type 0
-AreStepBits ranges rules ws xs b = (r : ℕ) × (values_after_rule rules ws r ≡ Some xs) × (b ≡ step_bits ranges rules ws r)
+-- Holds if `b` has the values of the variables that `step_part` adds after assignment `a`, for some
+-- rule that leads from the values `ws` to `xs`.
+abbrev pub AreStepBits : List VarValueAndBoundLits → List PlainRule → List Bool → List ℕ → List ℕ → List Bool → Type 0
+AreStepBits now rules a ws xs b = (r : ℕ) × (values_after_rule rules ws r ≡ Some xs) × (b ≡ step_bits now rules a r)

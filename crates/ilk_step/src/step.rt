@@ -51,14 +51,14 @@ pub fn add_step(
         IsTrue (in_ranges xs (ranges_of now.now)) →
         PartExtensionsAreExactly a
         (step_part (map plain_rule rules.now) now.now next.now cnf.old.vars)
-        (AreStepBits (ranges_of now.now) (map plain_rule rules.now) ws xs)) }
+        (AreStepBits now.now (map plain_rule rules.now) a ws xs)) }
 
     // The variables of the choice then say that it is that rule, regardless of what follows the
     // step.
     ensures exact { OnOk result
         ((a c : List Bool) (ws xs : List ℕ) (r : ℕ) → length a ≡ cnf.old.vars →
         values_after_rule (map plain_rule rules.now) ws r ≡ Some xs →
-        Chooses (a ++ (step_bits (ranges_of now.now) (map plain_rule rules.now) ws r ++ c))
+        Chooses (a ++ (step_bits now.now (map plain_rule rules.now) a r ++ c))
         (cnf.old.vars + 1) (length rules.now) r) }
 
     ensures vars { OnOk result

@@ -63,9 +63,9 @@ copies-are_copies_within_vars (suc count) ranges n fit =
     let m = later.part.vars in
     and_from _ _ (copy-lits_in ranges m fit) (are_copies_within_vars-more m (copy_part ranges m).part.vars later.tables (copy-low ranges m) (copies-are_copies_within_vars count ranges n fit))
 
-pub copies-ranges : (count : ℕ) (ranges : List ℕ) (n : ℕ) → CopiesHaveRanges ranges (copies_part ranges count n).tables
-copies-ranges zero ranges n = tt
-copies-ranges (suc count) ranges n = (copy-ranges ranges (copies_part ranges count n).part.vars, copies-ranges count ranges n)
+pub copies-ranges : (count : ℕ) (ranges : List ℕ) (n : ℕ) → ranges_fit ranges ≡ true → CopiesHaveRanges ranges (copies_part ranges count n).tables
+copies-ranges zero ranges n fit = tt
+copies-ranges (suc count) ranges n fit = (copy-ranges ranges (copies_part ranges count n).part.vars fit, copies-ranges count ranges n fit)
 
 pub copies-many : (count : ℕ) (ranges : List ℕ) (n : ℕ) → length (copies_part ranges count n).tables ≡ count
 copies-many zero ranges n = refl
@@ -171,7 +171,7 @@ copies-say (suc count) ranges (values ∷ run) a n size fit l h =
     let bare : (a ++ b) ++ (c ++ []) ≡ a ++ (b ++ c) = ap (λ (u : List Bool). (a ++ b) ++ u) (append-nil c) ∙ whole in
     let first : TableSays (a ++ (b ++ c)) p.part.vars ranges p.columns values = record {
       within = copy-lits_in ranges m fit;
-      has_ranges = copy-ranges ranges m;
+      has_ranges = copy-ranges ranges m fit;
       says = subst (λ (u : List Bool). LiteralsEncode u p.columns ranges values) bare (copy-say ranges values (a ++ b) [] m long fit parts.0);
       in_range = parts.0;
     } in
@@ -190,12 +190,12 @@ table-at (table ∷ tables) (values ∷ run) a n ranges (suc j) h less = table-a
 pub one-more : (i w : ℕ) → (i + 1) * w ≡ i * w + w
 one-more i w = (let is : i + 1 ≡ suc i = omega arith in ap (λ (k : ℕ). k * w) is ∙ suc-mul i w)
 
-pub copies-end : (count : ℕ) (ranges : List ℕ) (n : ℕ) → (copies_part ranges count n).part.vars ≡ n + count * copy_var_count ranges
-copies-end zero ranges n = omega arith
-copies-end (suc count) ranges n =
+pub copies-end : (count : ℕ) (ranges : List ℕ) (n : ℕ) → ranges_fit ranges ≡ true → (copies_part ranges count n).part.vars ≡ n + count * copy_var_count ranges
+copies-end zero ranges n fit = omega arith
+copies-end (suc count) ranges n fit =
     let w = copy_var_count ranges in
-    let later = copies-end count ranges n in
-    let one = copy-end ranges (copies_part ranges count n).part.vars in
+    let later = copies-end count ranges n fit in
+    let one = copy-end ranges (copies_part ranges count n).part.vars fit in
     let more : suc count * w ≡ count * w + w = suc-mul count w in
     omega (arith, later, one, more)
 
@@ -209,16 +209,16 @@ copies-few (suc count) ranges n =
 
 pub copies-step :
     (f g : Formula) (ranges : List ℕ) (tables whole : List (List VarValueAndBoundLits)) (table : List VarValueAndBoundLits)
-    (i rest before : ℕ) → rest ≡ suc i →
+    (i rest before : ℕ) → ranges_fit ranges ≡ true → rest ≡ suc i →
     before ≡ i * copy_var_count ranges → tables ++ (copies_part ranges rest 0).tables ≡ whole →
     table ≡ (copy_part ranges before).columns →
     g ≡ with_var_count_and_clauses f f.vars (clauses_from_lists (copy_part ranges before).part.clauses) →
     ((tables ++ table ∷ []) ++ (copies_part ranges i 0).tables ≡ whole) ×
     (with_var_count_and_clauses g g.vars (clauses_from_lists (copies_part ranges i 0).part.clauses)
     ≡ with_var_count_and_clauses f f.vars (clauses_from_lists (copies_part ranges rest 0).part.clauses))
-copies-step f g ranges tables whole table i rest before left begins seen is made =
+copies-step f g ranges tables whole table i rest before fit left begins seen is made =
     let later = copies_part ranges i 0 in
-    let at : before ≡ later.part.vars = omega (arith, begins, copies-end i ranges 0) in
+    let at : before ≡ later.part.vars = omega (arith, begins, copies-end i ranges 0 fit) in
     let one = copy_part ranges later.part.vars in
     let here : g ≡ with_var_count_and_clauses f f.vars (clauses_from_lists one.part.clauses) = made ∙ ap (λ (k : ℕ). with_var_count_and_clauses f f.vars (clauses_from_lists (copy_part ranges k).part.clauses)) at in (
       append_assoc tables (table ∷ []) later.tables

@@ -1,6 +1,6 @@
 -- The demands hold for exactly the value lists that meet them, and each new variable has one value.
 use Rattle.std.proofs.Common.{◌≡◌, ℕ, ◌+◌, ◌<◌, ◌≤◌, zero, suc, Bool, true, false, ◌&&◌, List, [], ◌∷◌, ◌++◌, length, map, cond, get_or, slice_get, Option, Some, refl, sym, ap, ◌∙◌, subst, arith, append_assoc}
-use Rattle.std.specs.List.{list_all, range_with_len, flat_map}
+use Rattle.std.specs.List.{list_all, range_with_len}
 use Rattle.std.specs.Prelude.{nat_lt}
 use Rattle.std.proofs.lemmas.Bool.{and_from, and_parts, ltb-true, lt-ltb}
 use Rattle.std.proofs.lemmas.List.{append-nil, map-append}
@@ -18,13 +18,12 @@ use Rattle.ilk_ir.specs.Tree.{Tree, all_of, negation, trees_from_list, tree_hold
 use Rattle.ilk_ir.proofs.Trees.{each_valid-trees_from_list}
 use Rattle.ilk_forms.specs.declared.copy.VarValueAndBoundLits.{VarValueAndBoundLits}
 use Rattle.ilk_forms.specs.Leaf.{has_lits_within_vars, ranges_of}
-use Rattle.ilk_forms.specs.Gathered.{bool_equals}
-use Rattle.ilk_forms.specs.Demand.{some_lit_or_form_part}
-use Rattle.ilk_forms.specs.Truths.{some_lit_or_form_bits}
+use Rattle.ilk_forms.specs.Gates.{bool_equals}
+use Rattle.ilk_forms.specs.Demand.{some_lit_or_form_part, some_lit_or_form_bits}
 use Rattle.ilk_forms.specs.Violated.{form_fails_part, form_fails_bits}
 use Rattle.ilk_forms.proofs.Reading.{Reads, reads}
-use Rattle.ilk_forms.proofs.DemandLaw.{PartFits, demand_of-fits, demand_of-law}
-use Rattle.ilk_forms.proofs.FormViolated.{violated-fits, violated-law}
+use Rattle.ilk_forms.proofs.DemandLaw.{PartFits, some_lit_or_form-fits, some_lit_or_form-law}
+use Rattle.ilk_forms.proofs.ViolatedLaw.{form_fails-fits, form_fails-law}
 use Rattle.ilk_step.proofs.RulesLaw.{then-fits, then-law}
 use Rattle.ilk_unroll.specs.declared.queries.Wanted.{Wanted}
 use Rattle.ilk_unroll.specs.declared.queries.Wanted.TheVariants.{Hazard, Breach, Step}
@@ -44,8 +43,8 @@ demanded_valid ranges count d = nat_lt d.copy count && tree_valid ranges d.form
 
 holds-fits : (holds : Bool) (columns : List VarValueAndBoundLits) (t : Tree) (n : ℕ) → has_lits_within_vars n columns ≡ true → tree_valid (ranges_of columns) t ≡ true → PartFits n (cond holds (some_lit_or_form_part columns [] t n)
     (form_fails_part columns t n))
-holds-fits true columns t n h k = demand_of-fits t columns [] true n h refl k
-holds-fits false columns t n h k = violated-fits t columns n h k
+holds-fits true columns t n h k = some_lit_or_form-fits t columns [] n h refl k
+holds-fits false columns t n h k = form_fails-fits t columns n h k
 
 table-in : (tables : List (List VarValueAndBoundLits)) (n j : ℕ) → are_copies_within_vars n tables ≡ true → j < length tables → has_lits_within_vars n (copy_lits_at tables j) ≡ true
 table-in [] n j h less = absurd (omega arith)
@@ -80,16 +79,16 @@ holds-law :
     ExtensionsAreExactly a (cond holds (some_lit_or_form_part columns [] t n) (form_fails_part columns t n)).vars
     (cond holds (some_lit_or_form_part columns [] t n) (form_fails_part columns t n)).clauses
     (PassesAndEqualsGivenValues (bool_equals holds (tree_holds values t))
-    (cond holds (some_lit_or_form_bits ranges values t) (form_fails_bits ranges values t)))
-holds-law true columns ranges values t a n size r k = demand_of-law t columns ranges values [] true a n size r refl k
-holds-law false columns ranges values t a n size r k = violated-law t columns ranges values a n size r k
+    (cond holds (some_lit_or_form_bits columns [] t a) (form_fails_bits columns t a)))
+holds-law true columns ranges values t a n size r k = some_lit_or_form-law t columns ranges values [] a n size r refl k
+holds-law false columns ranges values t a n size r k = form_fails-law t columns ranges values a n size r k
 
 demands_of-law :
     (tables : List (List VarValueAndBoundLits)) (run : List (List ℕ)) (ranges : List ℕ) (d : CopyDemand) (a : List Bool)
     (n : ℕ) → length a ≡ n →
     TablesSay a n ranges tables run → demanded_valid ranges (length tables) d ≡ true →
     ExtensionsAreExactly a (demanded_part tables d n).vars (demanded_part tables d n).clauses
-    (PassesAndEqualsGivenValues (demand_is_met_by_run run d) (demanded_bits ranges run d))
+    (PassesAndEqualsGivenValues (demand_is_met_by_run run d) (demanded_bits tables d a))
 demands_of-law tables run ranges d a n size h valid =
     let parts = and_parts (nat_lt d.copy (length tables)) (tree_valid ranges d.form) valid in
     let less : d.copy < length tables = ltb-true d.copy (length tables) parts.0 in
@@ -100,7 +99,7 @@ demands_of-law tables run ranges d a n size h valid =
     let says = at.0 in
     let law = holds-law d.holds table ranges values d.form a n size (reads a table ranges values n size says.within says.says says.in_range) (ap (λ (rs : List ℕ). tree_valid rs d.form) says.has_ranges ∙ parts.1) in
     let met : bool_equals d.holds (tree_holds values d.form) ≡ demand_is_met_by_run run d = ap (λ (o : Option (List ℕ)). is_some_and o (λ ws. bool_equals d.holds (tree_holds ws d.form))) (sym at.1) in
-    subst (λ (b : Bool). ExtensionsAreExactly a p.vars p.clauses (PassesAndEqualsGivenValues b (demanded_bits ranges run d))) met law
+    subst (λ (b : Bool). ExtensionsAreExactly a p.vars p.clauses (PassesAndEqualsGivenValues b (demanded_bits tables d a))) met law
 
 pub demands-law :
     (ds : List CopyDemand) (tables : List (List VarValueAndBoundLits)) (run : List (List ℕ)) (ranges : List ℕ) (a : List Bool)
@@ -108,15 +107,15 @@ pub demands-law :
     are_copies_within_vars n tables ≡ true → CopiesHaveRanges ranges tables → TablesSay a n ranges tables run →
     list_all (demanded_valid ranges (length tables)) ds ≡ true →
     ExtensionsAreExactly a (demands_part tables ds n).vars (demands_part tables ds n).clauses
-    (PassesAndEqualsGivenValues (list_all (demand_is_met_by_run run) ds) (demands_bits ranges run ds))
+    (PassesAndEqualsGivenValues (list_all (demand_is_met_by_run run) ds) (demands_bits tables ds a))
 demands-law [] tables run ranges a n size inside r h valid = no_more_if a n [] true size refl
 demands-law (d ∷ ds) tables run ranges a n size inside r h valid =
     let parts = and_parts (demanded_valid ranges (length tables) d) (list_all (demanded_valid ranges (length tables)) ds) valid in
     let p = demanded_part tables d n in
-    let e = demanded_bits ranges run d in
+    let e = demanded_bits tables d a in
     let one = demands_of-fits tables ranges d n inside r parts.0 in
     let more = are_copies_within_vars-more n p.vars tables one.low inside in
-    then-law a e (demands_bits ranges run ds) (demand_is_met_by_run run d) (list_all (demand_is_met_by_run run) ds) n p
+    then-law a e (demands_bits tables ds (a ++ e)) (demand_is_met_by_run run d) (list_all (demand_is_met_by_run run) ds) n p
     (demands_part tables ds) size one (demands-fits ds tables ranges p.vars more r parts.1)
     (demands_of-law tables run ranges d a n size h parts.0)
     (λ long. demands-law ds tables run ranges (a ++ e) p.vars long more r
@@ -126,19 +125,12 @@ below-valid : (ranges : List ℕ) (count : ℕ) (t : Tree) (k start : ℕ) → s
 below-valid ranges count t zero start le h = refl
 below-valid ranges count t (suc k) start le h = and_from _ _ (and_from _ _ (lt-ltb start count (omega arith)) h) (below-valid ranges count t k (start + 1) (omega arith) h)
 
-each-below-valid : (ranges : List ℕ) (count : ℕ) (ts : List Tree) (k : ℕ) → k ≤ count → list_all (tree_valid ranges) ts ≡ true → list_all (demanded_valid ranges count) (flat_map (λ t. demands_form_holds_below_copy t k) ts) ≡ true
-each-below-valid ranges count [] k le h = refl
-each-below-valid ranges count (t ∷ ts) k le h =
-    let parts = and_parts (tree_valid ranges t) (list_all (tree_valid ranges) ts) h in
-    list_all-append (demanded_valid ranges count) (demands_form_holds_below_copy t k) (flat_map (λ u. demands_form_holds_below_copy u k) ts)
-    ∙ and_from _ _ (below-valid ranges count t k 0 (omega arith) parts.0) (each-below-valid ranges count ts k le parts.1)
-
 pub record GoalValid (ranges : List ℕ) (g : PlainGoal) : Type 0 where
   pub start : tree_valid ranges g.start ≡ true
   pub hazard : tree_valid ranges g.hazard ≡ true
   pub wellformed : tree_valid ranges g.wellformed ≡ true
-  pub families : list_all (tree_valid ranges) g.families ≡ true
-  pub kept : tree_valid ranges (all_of (trees_from_list g.families)) ≡ true
+  pub families : tree_valid ranges (all_of (trees_from_list g.families)) ≡ true
+  pub kept : tree_valid ranges (all_of (trees_from_list (g.wellformed ∷ g.families))) ≡ true
   pub safe : tree_valid ranges (all_of (trees_from_list (negation g.hazard ∷ g.families))) ≡ true
 
 pub goal-valid : (ranges : List ℕ) (g : PlainGoal) → goal_valid ranges g ≡ true → GoalValid ranges g
@@ -146,8 +138,8 @@ goal-valid ranges g h =
     let all = and_parts (tree_valid ranges g.start && tree_valid ranges g.hazard && tree_valid ranges g.wellformed) (list_all (tree_valid ranges) g.families) h in
     let three = and_parts (tree_valid ranges g.start && tree_valid ranges g.hazard) (tree_valid ranges g.wellformed) all.0 in
     let two = and_parts (tree_valid ranges g.start) (tree_valid ranges g.hazard) three.0 in
-    let kept = each_valid-trees_from_list ranges g.families ∙ all.1 in
-    record { start = two.0; hazard = two.1; wellformed = three.1; families = all.1; kept = kept; safe = and_from _ _ two.1 kept }
+    let families = each_valid-trees_from_list ranges g.families ∙ all.1 in
+    record { start = two.0; hazard = two.1; wellformed = three.1; families = families; kept = and_from _ _ three.1 families; safe = and_from _ _ two.1 families }
 
 one-valid : (ranges : List ℕ) (count j : ℕ) (t : Tree) (holds : Bool) → j < count → tree_valid ranges t ≡ true → demanded_valid ranges count (record { copy = j; form = t; holds = holds }) ≡ true
 one-valid ranges count j t holds less h = and_from _ _ (lt-ltb j count less) h
@@ -167,20 +159,14 @@ demands_of-valid ranges g (Breach n) h =
     (demand_form_fails_in_copy n (all_of (trees_from_list g.families)) ∷ [])
     ∙ and_from _ _ (below-valid ranges (suc n) g.wellformed (n + 1) 0 (omega arith) k.wellformed)
     (and_from _ _
-    (one-valid ranges (suc n) n (all_of (trees_from_list g.families)) false (omega arith) k.kept) refl))
+    (one-valid ranges (suc n) n (all_of (trees_from_list g.families)) false (omega arith) k.families) refl))
 demands_of-valid ranges g (Step n) h =
     let k = goal-valid ranges g h in
-    let test = demanded_valid ranges (suc n) in
-    let last = demand_form_fails_in_copy n (all_of (trees_from_list (negation g.hazard ∷ g.families))) ∷ [] in
-    let families = flat_map (λ t. demands_form_holds_below_copy t n) g.families in
-    list_all-append test (demands_form_holds_below_copy g.wellformed n ++ families) last
-    ∙ and_from _ _
-    (list_all-append test (demands_form_holds_below_copy g.wellformed n) families
-    ∙ and_from _ _ (below-valid ranges (suc n) g.wellformed n 0 (omega arith) k.wellformed)
-    (each-below-valid ranges (suc n) g.families n (omega arith) k.families))
-    (and_from _ _
-    (one-valid ranges (suc n) n (all_of (trees_from_list (negation g.hazard ∷ g.families))) false
-    (omega arith) k.safe) refl)
+    let all = all_of (trees_from_list (g.wellformed ∷ g.families)) in
+    let left = all_of (trees_from_list (negation g.hazard ∷ g.families)) in
+    list_all-append (demanded_valid ranges (suc n)) (demands_form_holds_below_copy all n) (demand_form_fails_in_copy n left ∷ [])
+    ∙ and_from _ _ (below-valid ranges (suc n) all n 0 (omega arith) k.kept)
+    (and_from _ _ (one-valid ranges (suc n) n left false (omega arith) k.safe) refl)
 
 demands-append : (xs ys : List CopyDemand) (tables : List (List VarValueAndBoundLits)) (n : ℕ) → demands_part tables (xs ++ ys) n ≡ and_then (demands_part tables xs n) (demands_part tables ys)
 demands-append [] ys tables n = refl
@@ -198,16 +184,6 @@ demands-then xs ys tables f g h one two =
     ∙ ap (λ (k : Formula). with_part k (demands_part tables ys k.vars)) one
     ∙ with_part-and_then f (demands_part tables xs f.vars) (demands_part tables ys)
     ∙ ap (with_part f) (sym (demands-append xs ys tables f.vars))
-
-pub demands-rest : (xs ys zs : List CopyDemand) (tables : List (List VarValueAndBoundLits)) (f g end : Formula) →
-    zs ≡ xs ++ ys → g ≡ with_part f (demands_part tables xs f.vars) →
-    with_part f (demands_part tables zs f.vars) ≡ end → with_part g (demands_part tables ys g.vars) ≡ end
-demands-rest xs ys zs tables f g end split one h =
-    ap (λ (k : Formula). with_part k (demands_part tables ys k.vars)) one
-    ∙ with_part-and_then f (demands_part tables xs f.vars) (demands_part tables ys)
-    ∙ ap (with_part f) (sym (demands-append xs ys tables f.vars))
-    ∙ ap (λ (ds : List CopyDemand). with_part f (demands_part tables ds f.vars)) (sym split)
-    ∙ h
 
 pub nothing-made : (f : Formula) → f ≡ with_part f (empty_part f.vars)
 nothing-made f = ap (λ (cs : List (List Literal)). record { vars = f.vars; clauses = cs }) (sym (append-nil f.clauses))

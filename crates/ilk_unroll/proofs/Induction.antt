@@ -1,7 +1,7 @@
 -- Induction over k steps: no run from the start reaches a hazard or breaks a family, if no short
 -- run does and no run of k steps leaves the invariant.
 use Rattle.std.proofs.Common.{◌≡◌, ℕ, zero, suc, ◌+◌, ◌-◌, ◌≤◌, ◌<◌, Bool, true, false, not, cond, ◌&&◌, List, [], ◌∷◌, ◌++◌, length, take, drop, slice_get, Option, Some, refl, sym, ap, ◌∙◌, arith, inl, inr}
-use Rattle.std.specs.List.{list_all, flat_map}
+use Rattle.std.specs.List.{list_all}
 use Rattle.std.proofs.lemmas.Bool.{and_from, and_parts}
 use Rattle.std.proofs.lemmas.List.{length-drop, length-take-le}
 use Rattle.std.proofs.lemmas.List.Folds.{list_all-append}
@@ -18,7 +18,7 @@ use Rattle.ilk_unroll.specs.Goal.{PlainGoal, CopyDemand, demand_form_holds_in_co
 use Rattle.ilk_unroll.specs.Run.{run_firing_rules, demand_is_met_by_run}
 use Rattle.ilk_unroll.proofs.Runs.{run-is}
 use Rattle.ilk_unroll.specs.Evidence.{HasRun}
-use Rattle.ilk_unroll.proofs.QueryDemands.{below-each, below-from, each-below-from, IsWanted, wanted-parts, wanted-from}
+use Rattle.ilk_unroll.proofs.QueryDemands.{below-each, below-from, one-demand, IsWanted, wanted-parts, wanted-from}
 use Rattle.ilk_unroll.proofs.Middles.{middle}
 
 met-at : (run : List (List ℕ)) (d : CopyDemand) (values : List ℕ) → slice_get run d.copy ≡ Some values → demand_is_met_by_run run d ≡ cond d.holds (tree_holds values d.form) (not (tree_holds values d.form))
@@ -89,14 +89,13 @@ last-steps s g k n first rules valid le w none last =
     demand_is_met_by_run run (record { copy = i; form = t; holds = holds })
     ≡ demand_is_met_by_run w.run (record { copy = (n - k) + i; form = t; holds = holds }) =
     λ i t holds. met-same run w.run i ((n - k) + i) t holds (get-dropped w.run (n - k) i) in
-    let wellformed : list_all (demand_is_met_by_run run) (demands_form_holds_below_copy g.wellformed k) ≡ true = below-from run g.wellformed k (λ j less. same j g.wellformed true ∙ w.wellformed ((n - k) + j) (omega arith)) in
-    let families = λ (j : ℕ) (less : j < k). kept-later s g n first rules w (n - k) k far none j less in
+    let all = all_of (trees_from_list (g.wellformed ∷ g.families)) in
+    let kept : list_all (demand_is_met_by_run run) (demands_form_holds_below_copy all k) ≡ true = below-from run all k
+    (λ j less. one-demand run g.wellformed g.families j
+    ∙ and_from _ _ (same j g.wellformed true ∙ w.wellformed ((n - k) + j) (omega arith)) (kept-later s g n first rules w (n - k) k far none j less)) in
     let T = all_of (trees_from_list (negation g.hazard ∷ g.families)) in
     let ends : demand_is_met_by_run run (demand_form_fails_in_copy k T) ≡ true = same k T false ∙ ap (λ (i : ℕ). demand_is_met_by_run w.run (demand_form_fails_in_copy i T)) far ∙ last in
-    let kept = flat_map (λ t. demands_form_holds_below_copy t k) g.families in
-    let met =
-    list_all-append (demand_is_met_by_run run) (demands_form_holds_below_copy g.wellformed k ++ kept) (demand_form_fails_in_copy k T ∷ [])
-    ∙ and_from _ _ (list_all-append (demand_is_met_by_run run) (demands_form_holds_below_copy g.wellformed k) kept ∙ and_from _ _ wellformed (each-below-from run g.families k families)) (and_from _ _ ends refl) in
+    let met = list_all-append (demand_is_met_by_run run) (demands_form_holds_below_copy all k) (demand_form_fails_in_copy k T ∷ []) ∙ and_from _ _ kept (and_from _ _ ends refl) in
     let size = length-drop (n - k) rules in
     let wanted : IsWanted s g (Step k) m.values (drop (n - k) rules) = record { in_range = in_range; many = omega (arith, size, many, le); run = run; is = m.after; met = met } in
     (m.values, drop (n - k) rules, wanted-from s g (Step k) m.values (drop (n - k) rules) wanted)

@@ -1,13 +1,14 @@
 -- The demands of a query, copy by copy, and the parts of a run that it asks for.
-use Rattle.std.proofs.Common.{◌≡◌, ℕ, zero, suc, ◌+◌, ◌≤◌, ◌<◌, Bool, true, ◌&&◌, ◌==◌, List, [], ◌∷◌, length, Some, refl, sym, ◌∙◌, arith}
-use Rattle.std.specs.List.{list_all, range_with_len, flat_map}
+use Rattle.std.proofs.Common.{◌≡◌, ℕ, zero, suc, ◌+◌, ◌≤◌, ◌<◌, Bool, true, ◌&&◌, ◌==◌, List, ◌∷◌, length, slice_get, Option, Some, None, refl, sym, ◌∙◌, arith}
+use Rattle.std.specs.List.{list_all, range_with_len}
 use Rattle.std.proofs.lemmas.Bool.{and_from, and_parts, eqb-true, eq-eqb}
-use Rattle.std.proofs.lemmas.List.Folds.{list_all-append, list_all-map}
+use Rattle.std.proofs.lemmas.List.Folds.{list_all-map}
 use Rattle.ilk_base.specs.Option.{is_some_and}
 use Rattle.ilk_base.proofs.Options.{some-and}
 use Rattle.ilk_base.proofs.Ranges.{range-at}
 use Rattle.ilk_base.proofs.Tested.{list_all-slice_get}
-use Rattle.ilk_ir.specs.Tree.{Tree}
+use Rattle.ilk_ir.specs.Tree.{Tree, all_of, trees_from_list, tree_holds}
+use Rattle.ilk_ir.proofs.Trees.{all_of-holds}
 use Rattle.ilk_ir.specs.System.{PlainSystem, in_ranges}
 use Rattle.ilk_unroll.specs.declared.queries.Wanted.{Wanted}
 use Rattle.ilk_unroll.specs.Goal.{PlainGoal, demand_form_holds_in_copy, demands_form_holds_below_copy, step_count, demands_of}
@@ -27,15 +28,14 @@ below-from run t n h =
     list_all-map (demand_is_met_by_run run) (λ j. demand_form_holds_in_copy j t) (range_with_len 0 n)
     ∙ range-from (λ j. demand_is_met_by_run run (demand_form_holds_in_copy j t)) 0 n (λ j low high. h j (omega arith))
 
-pub each-below-from : (run : List (List ℕ)) (ts : List Tree) (n : ℕ) → ((j : ℕ) → j < n → list_all (λ t. demand_is_met_by_run run (demand_form_holds_in_copy j t)) ts ≡ true)
-    → list_all (demand_is_met_by_run run) (flat_map (λ t. demands_form_holds_below_copy t n) ts) ≡ true
-each-below-from run [] n h = refl
-each-below-from run (t ∷ ts) n h =
-    let P : ℕ → Bool = λ j. list_all (λ u. demand_is_met_by_run run (demand_form_holds_in_copy j u)) ts in
-    list_all-append (demand_is_met_by_run run) (demands_form_holds_below_copy t n) (flat_map (λ u. demands_form_holds_below_copy u n) ts)
-    ∙ and_from _ _
-    (below-from run t n (λ j less. (and_parts (demand_is_met_by_run run (demand_form_holds_in_copy j t)) (P j) (h j less)).0))
-    (each-below-from run ts n (λ j less. (and_parts (demand_is_met_by_run run (demand_form_holds_in_copy j t)) (P j) (h j less)).1))
+-- The forms hold in a copy of the run exactly if their And does.
+pub one-demand : (run : List (List ℕ)) (t : Tree) (ts : List Tree) (j : ℕ) → demand_is_met_by_run run (demand_form_holds_in_copy j (all_of (trees_from_list (t ∷ ts))))
+    ≡ list_all (λ u. demand_is_met_by_run run (demand_form_holds_in_copy j u)) (t ∷ ts)
+one-demand run t ts j = by_case (slice_get run j)
+  where
+    by_case : (o : Option (List ℕ)) → is_some_and o (λ ws. tree_holds ws (all_of (trees_from_list (t ∷ ts)))) ≡ list_all (λ u. is_some_and o (λ ws. tree_holds ws u)) (t ∷ ts)
+    by_case None = refl
+    by_case (Some ws) = all_of-holds ws (t ∷ ts)
 
 -- The parts of a run that a query asks for.
 pub record IsWanted (s : PlainSystem) (g : PlainGoal) (q : Wanted) (first rules : List ℕ) : Type 0 where

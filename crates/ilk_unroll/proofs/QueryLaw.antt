@@ -8,8 +8,8 @@ use Rattle.ilk_cnf.specs.Extends.{ExtensionsAreExactly, PassesAndEqualsGivenValu
 use Rattle.ilk_cnf.specs.Part.{FormulaPart}
 use Rattle.ilk_cnf.proofs.Parts.{in_turn, in_words}
 use Rattle.ilk_ir.specs.System.{PlainSystem, rule_valid, system_valid, in_ranges}
-use Rattle.ilk_forms.specs.Copy.{BitsEncode, numbers_bits, copy_value_bound_bits, copy_bits}
-use Rattle.ilk_forms.proofs.ColumnLaw.{ranges_fit, BitsEncode-new}
+use Rattle.ilk_forms.specs.Copy.{LiteralsEncode, copy_part}
+use Rattle.ilk_forms.proofs.ColumnLaw.{ranges_fit}
 use Rattle.ilk_forms.proofs.DemandLaw.{PartFits}
 use Rattle.ilk_unroll.specs.declared.queries.Wanted.{Wanted}
 use Rattle.ilk_unroll.specs.Goal.{PlainGoal, CopyDemand, goal_valid, step_count, demands_of}
@@ -46,6 +46,17 @@ wanted-from s g q first rules w =
 assignment-is : (s : PlainSystem) (g : PlainGoal) (q : Wanted) (first rules : List ℕ) (run : List (List ℕ)) → run_firing_rules s first rules ≡ Some run → run_assignment s g q first rules ≡ run_bits s g q run rules
 assignment-is s g q first rules run is = ap (λ (o : Option (List (List ℕ))). run_bits s g q (unwrap_or o []) rules) is
 
+three_parts :
+    (b x rest e d : List Bool) (u : List Bool) (S D : List Bool → List Bool) → b ≡ x ++ rest → rest ≡ e ++ d → x ≡ u → e ≡ S x →
+    d ≡ D (x ++ e) → b ≡ (u ++ S u) ++ D (u ++ S u)
+three_parts b x rest e d u S D whole parts one two three =
+    let both : x ++ e ≡ u ++ S u = ap (λ (v : List Bool). x ++ v) two ∙ ap (λ (v : List Bool). v ++ S v) one in
+    whole
+    ∙ ap (λ (v : List Bool). x ++ v) parts
+    ∙ sym (append_assoc x e d)
+    ∙ ap (λ (v : List Bool). (x ++ e) ++ v) three
+    ∙ ap (λ (v : List Bool). v ++ D v) both
+
 pub query-law : (s : PlainSystem) (g : PlainGoal) (q : Wanted) → system_valid s ≡ true → ranges_fit s.ranges ≡ true → goal_valid s.ranges g ≡ true → ExtensionsAreExactly [] (query_part s g q).vars (query_part s g q).clauses (EncodesWantedRun s g q)
 query-law s g q valid fit goal_ok =
     in_words [] d.vars (c.part.clauses ++ (t.clauses ++ d.clauses)) _ (EncodesWantedRun s g q) to from
@@ -78,7 +89,7 @@ query-law s g q valid fit goal_ok =
     inside = copies-are_copies_within_vars count ranges 0 fit
 
     have : CopiesHaveRanges ranges c.tables
-    have = copies-ranges count ranges 0
+    have = copies-ranges count ranges 0 fit
 
     steps_fit : PartFits m t
     steps_fit = steps-fits c.tables ranges s.rules m inside have (rules-valid s valid)
@@ -96,15 +107,15 @@ query-law s g q valid fit goal_ok =
     first = copies-law count ranges [] 0 refl fit
 
     inner : (b : List Bool) → AreCopies count ranges b → List Bool → Type 0
-    inner b h = AreValuesOfConsecutiveParts (AreSteps s.ranges s.rules h.0) (λ e _. PassesAndEqualsGivenValues (list_all (demand_is_met_by_run h.0) ds) (demands_bits s.ranges h.0 ds))
+    inner b h = AreValuesOfConsecutiveParts (AreSteps s.rules c.tables b h.0) (λ e _. PassesAndEqualsGivenValues (list_all (demand_is_met_by_run h.0) ds) (demands_bits c.tables ds (b ++ e)))
 
     part : (b : List Bool) → (h : AreCopies count ranges b) → ExtensionsAreExactly b d.vars (t.clauses ++ d.clauses) (inner b h)
     part b h =
         let long : length b ≡ m = first.sized b h in
         let says : TablesSay b m ranges c.tables h.0 = subst (λ (u : List Bool). TablesSay u m ranges c.tables h.0) (sym h.3) (copies-say count ranges h.0 [] 0 refl fit h.1 h.2) in
         let next = steps-law c.tables h.0 b m ranges s.rules long says (rules-valid s valid) in
-        in_turn b t.vars d.vars t.clauses d.clauses (AreSteps s.ranges s.rules h.0)
-        (λ e _. PassesAndEqualsGivenValues (list_all (demand_is_met_by_run h.0) ds) (demands_bits s.ranges h.0 ds))
+        in_turn b t.vars d.vars t.clauses d.clauses (AreSteps s.rules c.tables b h.0)
+        (λ e _. PassesAndEqualsGivenValues (list_all (demand_is_met_by_run h.0) ds) (demands_bits c.tables ds (b ++ e)))
         (omega (arith, long, steps_fit.low)) demands_fit.low steps_fit.inside next
         (λ e k. demands-law ds c.tables h.0 ranges (b ++ e) t.vars (next.sized e k) more have
         (tables_say-more c.tables h.0 b e m t.vars ranges long steps_fit.low says) ds_valid)
@@ -122,36 +133,22 @@ query-law s g q valid fit goal_ok =
     to b h =
         let r = h.4 in
         a_run b h.3.0 r.3.0 h.3.1 h.3.2 r.3.1 r.4.0
-        (h.2 ∙ ap (λ (u : List Bool). u ++ h.1) h.3.3
-        ∙ ap (λ (u : List Bool). copies_bits ranges h.3.0 ++ u)
-        (r.2 ∙ ap (λ (u : List Bool). u ++ r.1) r.3.2
-        ∙ ap (λ (u : List Bool). steps_bits s.ranges s.rules h.3.0 r.3.0 ++ u) r.4.1))
+        (three_parts b h.0 h.1 r.0 r.1 (copies_bits ranges h.3.0) (steps_bits s.rules c.tables r.3.0) (demands_bits c.tables ds) h.2 r.2 h.3.3 r.3.2 r.4.1)
 
     from : (b : List Bool) → EncodesWantedRun s g q b → AreValuesOfConsecutiveParts (AreCopies count ranges) inner b
     from b h =
         let w = wants s g q h.0 h.1 h.2 in
         let r = run-is s h.1 h.0 w.run (rules-valid s valid) w.in_range w.is in
         let run = w.run in
-        let e : b ≡ run_bits s g q run h.1 = h.3 ∙ assignment-is s g q h.0 h.1 run w.is in (
-          copies_bits ranges run,
-          steps_bits s.ranges s.rules run h.1 ++ demands_bits s.ranges run ds,
-          e,
-          (run, r.many ∙ ap suc w.many, r.in_range, refl),
-          (
-            steps_bits s.ranges s.rules run h.1,
-            demands_bits s.ranges run ds,
-            refl,
-            (h.1, r.joined, refl),
-            (w.met, refl),
-          ),
-        )
-
-abbrev pub first_variable : List ℕ → ℕ → ℕ
-first_variable ranges steps = (copies_part ranges steps 0).part.vars + 1
+        let x = copies_bits ranges run in
+        let y = steps_bits s.rules c.tables h.1 x in
+        let z = demands_bits c.tables ds (x ++ y) in
+        let e : b ≡ x ++ (y ++ z) = h.3 ∙ assignment-is s g q h.0 h.1 run w.is ∙ append_assoc x y z in
+        (x, y ++ z, e, (run, r.many ∙ ap suc w.many, r.in_range, refl), (y, z, refl, (h.1, r.joined, refl), (w.met, refl)))
 
 pub run-says : (s : PlainSystem) (g : PlainGoal) (q : Wanted) (first rules : List ℕ) → system_valid s ≡ true →
     ranges_fit s.ranges ≡ true → Wants s g q first rules →
-    BitsEncode (run_assignment s g q first rules) (first_variable s.ranges (step_count q)) s.ranges first ×
+    LiteralsEncode (run_assignment s g q first rules) (copy_part s.ranges (copies_part s.ranges (step_count q) 0).part.vars).columns s.ranges first ×
     StepsChooseTheseRules (run_assignment s g q first rules)
     (step_choice_variables s.rules (copies_part s.ranges (suc (step_count q)) 0).tables
     (copies_part s.ranges (suc (step_count q)) 0).part.vars) rules
@@ -159,27 +156,20 @@ run-says s g q first rules valid fit w =
     let ranges = s.ranges in
     let count = suc (step_count q) in
     let c = copies_part ranges count 0 in
+    let m = c.part.vars in
+    let one = copy_part ranges (copies_part ranges (step_count q) 0).part.vars in
     let r = run-is s rules first w.run (rules-valid s valid) w.in_range w.is in
     let run = w.run in
     let many : length run ≡ count = r.many ∙ ap suc w.many in
-    let end = steps_bits s.ranges s.rules run rules ++ demands_bits s.ranges run (demands_of g q) in
-    let e : run_assignment s g q first rules ≡ copies_bits ranges run ++ end = assignment-is s g q first rules run w.is in
-    let long : length (copies_bits ranges run) ≡ c.part.vars = (copies-law count ranges [] 0 refl fit).sized (copies_bits ranges run) (run, many, r.in_range, refl) in
+    let x = copies_bits ranges run in
+    let y = steps_bits s.rules c.tables rules x in
+    let z = demands_bits c.tables (demands_of g q) (x ++ y) in
+    let e : run_assignment s g q first rules ≡ x ++ (y ++ z) = assignment-is s g q first rules run w.is ∙ append_assoc x y z in
+    let long : length x ≡ m = (copies-law count ranges [] 0 refl fit).sized x (run, many, r.in_range, refl) in
     let says = copies-say count ranges run [] 0 refl fit many r.in_range in
-    let later = copies_bits ranges r.rest in
-    let followed : length r.rest ≡ step_count q = suc-same (sym (ap length r.begins) ∙ many) in
-    let rest_in : all_in_ranges ranges r.rest ≡ true = (and_parts _ _ (ap (all_in_ranges ranges) (sym r.begins) ∙ r.in_range)).1 in
-    let reach : length later ≡ (copies_part ranges (step_count q) 0).part.vars = (copies-law (step_count q) ranges [] 0 refl fit).sized later (r.rest, followed, rest_in, refl) in
-    let begins : copies_bits ranges run ++ end ≡ later ++ (numbers_bits ranges first ++ (copy_value_bound_bits ranges first ++ end)) =
-    ap (λ (u : List (List ℕ)). copies_bits ranges u ++ end) r.begins ∙ append_assoc later (copy_bits ranges first) end ∙ ap (λ (u : List Bool). later ++ u) (append_assoc (numbers_bits ranges first) (copy_value_bound_bits ranges first) end) in (
-      subst (λ (u : List Bool). BitsEncode u (first_variable ranges (step_count q)) ranges first)
-          (sym (e ∙ begins))
-          (BitsEncode-new ranges first later (copy_value_bound_bits ranges first ++ end)
-          (first_variable ranges (step_count q)) (ap (λ (k : ℕ). k + 1) reach) w.in_range),
-      subst (λ (u : List Bool). StepsChooseTheseRules u (step_choice_variables s.rules c.tables c.part.vars) rules) (sym e)
-          (steps-say c.tables run rules (copies_bits ranges run) (demands_bits s.ranges run (demands_of g q))
-          c.part.vars ranges s.rules long says (rules-valid s valid) r.joined),
+    let all = tables_say-more c.tables run x (y ++ z) m m ranges long (omega arith) says in
+    let begins : TablesSay (x ++ (y ++ z)) m ranges c.tables (first ∷ r.rest) = subst (λ (u : List (List ℕ)). TablesSay (x ++ (y ++ z)) m ranges c.tables u) r.begins all in (
+      subst (λ (u : List Bool). LiteralsEncode u one.columns ranges first) (sym e) begins.0.says,
+      subst (λ (u : List Bool). StepsChooseTheseRules u (step_choice_variables s.rules c.tables m) rules) (sym e)
+          (steps-say c.tables run rules x z m ranges s.rules long says (rules-valid s valid) r.joined),
     )
-  where
-    suc-same : {m n : ℕ} → suc m ≡ suc n → m ≡ n
-    suc-same h = omega arith

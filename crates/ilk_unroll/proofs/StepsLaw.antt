@@ -53,8 +53,8 @@ Joined rules (values ∷ []) chosen = chosen ≡ []
 Joined rules (values ∷ next ∷ run) [] = ⊥
 Joined rules (values ∷ next ∷ run) (rule ∷ chosen) = (values_after_rule rules values rule ≡ Some next) × Joined rules (next ∷ run) chosen
 
-abbrev pub AreSteps : List ℕ → List PlainRule → List (List ℕ) → List Bool → Type 0
-AreSteps ranges rules run b = (chosen : List ℕ) × Joined rules run chosen × (b ≡ steps_bits ranges rules run chosen)
+abbrev pub AreSteps : List PlainRule → List (List VarValueAndBoundLits) → List Bool → List (List ℕ) → List Bool → Type 0
+AreSteps rules tables a run b = (chosen : List ℕ) × Joined rules run chosen × (b ≡ steps_bits rules tables chosen a)
 
 tables-in : (tables : List (List VarValueAndBoundLits)) (run : List (List ℕ)) (a : List Bool) (n : ℕ) (ranges : List ℕ) → TablesSay a n ranges tables run → are_copies_within_vars n tables ≡ true
 tables-in [] run a n ranges h = refl
@@ -66,47 +66,47 @@ tables-ranges [] run a n ranges h = tt
 tables-ranges (table ∷ tables) [] a n ranges h = absurd h
 tables-ranges (table ∷ tables) (values ∷ run) a n ranges h = (h.0.has_ranges, tables-ranges tables run a n ranges h.1)
 
-nothing-law : (a : List Bool) (n : ℕ) (ranges : List ℕ) (rules : List PlainRule) (run : List (List ℕ)) →
-    length a ≡ n → Joined rules run [] → steps_bits ranges rules run [] ≡ [] →
-    ((chosen : List ℕ) → Joined rules run chosen → chosen ≡ []) → ExtensionsAreExactly a n [] (AreSteps ranges rules run)
-nothing-law a n ranges rules run size none empty only =
-    in_words a n [] (EqualsGivenValues []) (AreSteps ranges rules run) (λ b h. ([], none, h ∙ sym empty)) (λ b h. h.2 ∙ ap (steps_bits ranges rules run) (only h.0 h.1) ∙ empty) (only_from_if a n [] [] (no_more_if a n [] true size refl))
+nothing-law : (a : List Bool) (n : ℕ) (rules : List PlainRule) (tables : List (List VarValueAndBoundLits)) (run : List (List ℕ)) →
+    length a ≡ n → Joined rules run [] → steps_bits rules tables [] a ≡ [] →
+    ((chosen : List ℕ) → Joined rules run chosen → chosen ≡ []) → ExtensionsAreExactly a n [] (AreSteps rules tables a run)
+nothing-law a n rules tables run size none empty only =
+    in_words a n [] (EqualsGivenValues []) (AreSteps rules tables a run) (λ b h. ([], none, h ∙ sym empty))
+    (λ b h. h.2 ∙ ap (λ (chosen : List ℕ). steps_bits rules tables chosen a) (only h.0 h.1) ∙ empty)
+    (only_from_if a n [] [] (no_more_if a n [] true size refl))
 
 one-law :
     (now next : List VarValueAndBoundLits) (ws xs : List ℕ) (a : List Bool) (n : ℕ) (ranges : List ℕ)
     (rules : List PlainRule) → length a ≡ n →
     TableSays a n ranges now ws → TableSays a n ranges next xs → list_all (rule_valid ranges) rules ≡ true →
     ExtensionsAreExactly a (step_part rules now next n).vars (step_part rules now next n).clauses
-    (AreStepBits ranges rules ws xs)
+    (AreStepBits now rules a ws xs)
 one-law now next ws xs a n ranges rules size hn hx valid =
     let back : ranges ≡ ranges_of now = sym hn.has_ranges in
-    let p = step_part rules now next n in
-    subst (λ (rs : List ℕ). ExtensionsAreExactly a p.vars p.clauses (AreStepBits rs rules ws xs)) hn.has_ranges (step-law rules now next ws xs a n (record {
+    step-law rules now next ws xs a n (record {
       size = size;
       now_in = hn.within;
       next_in = hx.within;
       same = hx.has_ranges ∙ back;
       now_say = subst (λ (rs : List ℕ). LiteralsEncode a now rs ws) back hn.says;
       next_say = subst (λ (rs : List ℕ). LiteralsEncode a next rs xs) back hx.says;
-    }) (rules_valid-at ranges (ranges_of now) rules hn.has_ranges valid) (ap (in_ranges ws) hn.has_ranges ∙ hn.in_range) (ap (in_ranges xs) hn.has_ranges ∙ hx.in_range))
+    }) (rules_valid-at ranges (ranges_of now) rules hn.has_ranges valid) (ap (in_ranges ws) hn.has_ranges ∙ hn.in_range) (ap (in_ranges xs) hn.has_ranges ∙ hx.in_range)
 
 pub steps-law :
     (tables : List (List VarValueAndBoundLits)) (run : List (List ℕ)) (a : List Bool) (n : ℕ) (ranges : List ℕ)
     (rules : List PlainRule) → length a ≡ n →
     TablesSay a n ranges tables run → list_all (rule_valid ranges) rules ≡ true →
-    ExtensionsAreExactly a (steps_part rules tables n).vars (steps_part rules tables n).clauses (AreSteps ranges rules run)
-steps-law [] [] a n ranges rules size h valid = nothing-law a n ranges rules [] size refl refl (λ chosen k. k)
+    ExtensionsAreExactly a (steps_part rules tables n).vars (steps_part rules tables n).clauses (AreSteps rules tables a run)
+steps-law [] [] a n ranges rules size h valid = nothing-law a n rules [] [] size refl refl (λ chosen k. k)
 steps-law [] (values ∷ run) a n ranges rules size h valid = absurd h
 steps-law (now ∷ tables) [] a n ranges rules size h valid = absurd h
-steps-law (now ∷ []) (values ∷ []) a n ranges rules size h valid = nothing-law a n ranges rules (values ∷ []) size refl refl (λ chosen k. k)
+steps-law (now ∷ []) (values ∷ []) a n ranges rules size h valid = nothing-law a n rules (now ∷ []) (values ∷ []) size refl refl (λ chosen k. k)
 steps-law (now ∷ []) (values ∷ next ∷ run) a n ranges rules size h valid = absurd h.1
 steps-law (now ∷ next ∷ tables) (values ∷ []) a n ranges rules size h valid = absurd h.1
 steps-law (now ∷ next ∷ tables) (ws ∷ xs ∷ run) a n ranges rules size h valid =
-    in_words a rest.vars (p.clauses ++ rest.clauses) _ (AreSteps ranges rules (ws ∷ xs ∷ run)) to
+    in_words a rest.vars (p.clauses ++ rest.clauses) _ (AreSteps rules (now ∷ next ∷ tables) a (ws ∷ xs ∷ run)) to
     (λ b k. split b k.0 k.1 k.2)
-    (in_turn a p.vars rest.vars p.clauses rest.clauses (AreStepBits ranges rules ws xs)
-    (λ b _. AreSteps ranges rules (xs ∷ run)) (omega (arith, size, fits.low)) rest_fits.low
-    fits.inside first
+    (in_turn a p.vars rest.vars p.clauses rest.clauses (AreStepBits now rules a ws xs) After
+    (omega (arith, size, fits.low)) rest_fits.low fits.inside first
     (λ b k. steps-law (next ∷ tables) (xs ∷ run) (a ++ b) p.vars ranges rules (first.sized b k)
     (tables_say-more (next ∷ tables) (xs ∷ run) a b n p.vars ranges size fits.low h.1) valid))
   where
@@ -122,22 +122,35 @@ steps-law (now ∷ next ∷ tables) (ws ∷ xs ∷ run) a n ranges rules size h 
     rest_fits : PartFits p.vars rest
     rest_fits = steps-fits (next ∷ tables) ranges rules p.vars (are_copies_within_vars-more n p.vars (next ∷ tables) fits.low (tables-in (next ∷ tables) (xs ∷ run) a n ranges h.1)) (tables-ranges (next ∷ tables) (xs ∷ run) a n ranges h.1) valid
 
-    first : ExtensionsAreExactly a p.vars p.clauses (AreStepBits ranges rules ws xs)
+    first : ExtensionsAreExactly a p.vars p.clauses (AreStepBits now rules a ws xs)
     first = one-law now next ws xs a n ranges rules size h.0 h.1.0 valid
 
-    to : (b : List Bool) → AreValuesOfConsecutiveParts (AreStepBits ranges rules ws xs) (λ b _. AreSteps ranges rules (xs ∷ run)) b → AreSteps ranges rules (ws ∷ xs ∷ run) b
-    to b k =
-        (k.3.0 ∷ k.4.0, (k.3.1, k.4.1), k.2 ∙ ap (λ (u : List Bool). u ++ k.1) k.3.2 ∙ ap (λ (u : List Bool). step_bits ranges rules ws k.3.0 ++ u) k.4.2)
+    After : (b : List Bool) → AreStepBits now rules a ws xs b → List Bool → Type 0
+    After b k = AreSteps rules (next ∷ tables) (a ++ b) (xs ∷ run)
 
-    split : (b : List Bool) (chosen : List ℕ) → Joined rules (ws ∷ xs ∷ run) chosen → b ≡ steps_bits ranges rules (ws ∷ xs ∷ run) chosen → AreValuesOfConsecutiveParts (AreStepBits ranges rules ws xs) (λ b _. AreSteps ranges rules (xs ∷ run)) b
+    bits : ℕ → List Bool
+    bits rule = step_bits now rules a rule
+
+    later : List ℕ → List Bool → List Bool
+    later chosen b = steps_bits rules (next ∷ tables) chosen (a ++ b)
+
+    to : (b : List Bool) → AreValuesOfConsecutiveParts (AreStepBits now rules a ws xs) After b → AreSteps rules (now ∷ next ∷ tables) a (ws ∷ xs ∷ run) b
+    to b k =
+        let is = k.3.2 in (
+          k.3.0 ∷ k.4.0,
+          (k.3.1, k.4.1),
+          k.2 ∙ ap (λ (u : List Bool). u ++ k.1) is ∙ ap (λ (u : List Bool). bits k.3.0 ++ u) (k.4.2 ∙ ap (later k.4.0) is),
+        )
+
+    split : (b : List Bool) (chosen : List ℕ) → Joined rules (ws ∷ xs ∷ run) chosen → b ≡ steps_bits rules (now ∷ next ∷ tables) chosen a → AreValuesOfConsecutiveParts (AreStepBits now rules a ws xs) After b
     split b [] j e = absurd j
-    split b (rule ∷ chosen) j e = (step_bits ranges rules ws rule, steps_bits ranges rules (xs ∷ run) chosen, e, (rule, j.0, refl), (chosen, j.1, refl))
+    split b (rule ∷ chosen) j e = (bits rule, later chosen (bits rule), e, (rule, j.0, refl), (chosen, j.1, refl))
 
 pub steps-say :
     (tables : List (List VarValueAndBoundLits)) (run : List (List ℕ)) (chosen : List ℕ) (a c : List Bool) (n : ℕ)
     (ranges : List ℕ) (rules : List PlainRule) → length a ≡ n →
     TablesSay a n ranges tables run → list_all (rule_valid ranges) rules ≡ true → Joined rules run chosen →
-    StepsChooseTheseRules (a ++ (steps_bits ranges rules run chosen ++ c)) (step_choice_variables rules tables n) chosen
+    StepsChooseTheseRules (a ++ (steps_bits rules tables chosen a ++ c)) (step_choice_variables rules tables n) chosen
 steps-say [] [] chosen a c n ranges rules size h valid j = j
 steps-say [] (values ∷ run) chosen a c n ranges rules size h valid j = absurd h
 steps-say (now ∷ tables) [] chosen a c n ranges rules size h valid j = absurd h
@@ -147,13 +160,13 @@ steps-say (now ∷ next ∷ tables) (values ∷ []) chosen a c n ranges rules si
 steps-say (now ∷ next ∷ tables) (ws ∷ xs ∷ run) [] a c n ranges rules size h valid j = absurd j
 steps-say (now ∷ next ∷ tables) (ws ∷ xs ∷ run) (rule ∷ chosen) a c n ranges rules size h valid j =
     let p = step_part rules now next n in
-    let e = step_bits ranges rules ws rule in
-    let d = steps_bits ranges rules (xs ∷ run) chosen in
+    let e = step_bits now rules a rule in
+    let d = steps_bits rules (next ∷ tables) chosen (a ++ e) in
     let fits = one-fits now next ranges rules n h.0.within h.1.0.within h.0.has_ranges h.1.0.has_ranges valid in
     let law = one-law now next ws xs a n ranges rules size h.0 h.1.0 valid in
     let long : length (a ++ e) ≡ p.vars = law.sized e (rule, j.0, refl) in
     let whole : a ++ (e ++ (d ++ c)) ≡ a ++ ((e ++ d) ++ c) = ap (λ (u : List Bool). a ++ u) (sym (append_assoc e d c)) in
-    let first : Chooses (a ++ (e ++ (d ++ c))) (n + 1) (length rules) rule = (step-below rules ws xs rule j.0, step-says ranges rules ws a (d ++ c) n rule size) in
+    let first : Chooses (a ++ (e ++ (d ++ c))) (n + 1) (length rules) rule = (step-below rules ws xs rule j.0, step-says now rules a (d ++ c) n rule size) in
     let rest = steps-say (next ∷ tables) (xs ∷ run) chosen (a ++ e) c p.vars ranges rules long (tables_say-more (next ∷ tables) (xs ∷ run) a e n p.vars ranges size fits.low h.1) valid j.1 in (
       subst (λ (u : List Bool). Chooses u (n + 1) (length rules) rule) whole first,
       subst (λ (u : List Bool). StepsChooseTheseRules u (step_choice_variables rules (next ∷ tables) p.vars) chosen) (append_assoc a e (d ++ c) ∙ whole) rest,

@@ -1,11 +1,13 @@
 -- The assignment of a run: the truth value of each variable of its query's formula.
-use Rattle.std.specs.Prelude.{ℕ, ◌≡◌, Bool, true, List, [], ◌∷◌, ◌++◌, unwrap_or, slice_index_or, if◌then◌else◌}
+use Rattle.std.specs.Prelude.{ℕ, suc, ◌≡◌, Bool, true, List, [], ◌∷◌, ◌++◌, unwrap_or, if◌then◌else◌}
 use Rattle.ilk_ir.specs.System.{PlainRule, PlainSystem}
 use Rattle.ilk_forms.specs.Copy.{copy_bits}
-use Rattle.ilk_forms.specs.Truths.{some_lit_or_form_bits}
+use Rattle.ilk_forms.specs.declared.copy.VarValueAndBoundLits.{VarValueAndBoundLits}
+use Rattle.ilk_forms.specs.Demand.{some_lit_or_form_bits}
 use Rattle.ilk_forms.specs.Violated.{form_fails_bits}
 use Rattle.ilk_step.specs.Step.{step_bits}
-use Rattle.ilk_unroll.specs.Goal.{PlainGoal, CopyDemand, demands_of}
+use Rattle.ilk_unroll.specs.Goal.{PlainGoal, CopyDemand, demands_of, step_count}
+use Rattle.ilk_unroll.specs.Query.{copies_part, copy_lits_at}
 use Rattle.ilk_unroll.specs.Run.{run_firing_rules, is_wanted_run}
 use Rattle.ilk_unroll.specs.declared.queries.Wanted.{Wanted}
 
@@ -15,26 +17,34 @@ abbrev pub copies_bits : List ℕ → List (List ℕ) → List Bool
 copies_bits ranges [] = []
 copies_bits ranges (values ∷ run) = copies_bits ranges run ++ copy_bits ranges values
 
--- The truth values of the variables of each step of a run, for its value lists and its chosen
--- rules. The system's variables have these ranges.
-abbrev pub steps_bits : List ℕ → List PlainRule → List (List ℕ) → List ℕ → List Bool
-steps_bits ranges rules [] chosen = []
-steps_bits ranges rules (values ∷ run) [] = []
-steps_bits ranges rules (values ∷ run) (rule ∷ chosen) = step_bits ranges rules values rule ++ steps_bits ranges rules run chosen
+-- The truth values of the variables of each step of a run after assignment `a`, for its chosen
+-- rules. The list has the literals of each copy.
+abbrev pub steps_bits : List PlainRule → List (List VarValueAndBoundLits) → List ℕ → List Bool → List Bool
+steps_bits rules [] chosen a = []
+steps_bits rules (now ∷ tables) [] a = []
+steps_bits rules (now ∷ tables) (rule ∷ chosen) a = step_bits now rules a rule ++ steps_bits rules tables chosen (a ++ step_bits now rules a rule)
 
--- The truth values of the variables that one demand `d` adds, for the value lists of a run.
-abbrev pub demanded_bits : List ℕ → List (List ℕ) → CopyDemand → List Bool
-demanded_bits ranges run d =
-    if d.holds then some_lit_or_form_bits ranges (slice_index_or run d.copy []) d.form else form_fails_bits ranges (slice_index_or run d.copy []) d.form
+-- The truth values of the variables that one demand `d` adds after assignment `a`.
+abbrev pub demanded_bits : List (List VarValueAndBoundLits) → CopyDemand → List Bool → List Bool
+demanded_bits tables d a =
+    if d.holds then some_lit_or_form_bits (copy_lits_at tables d.copy) [] d.form a else form_fails_bits (copy_lits_at tables d.copy) d.form a
 
--- The truth values of the variables that all demands add, for the value lists of a run.
-abbrev pub demands_bits : List ℕ → List (List ℕ) → List CopyDemand → List Bool
-demands_bits ranges run [] = []
-demands_bits ranges run (d ∷ ds) = demanded_bits ranges run d ++ demands_bits ranges run ds
+-- The truth values of the variables that all demands add after assignment `a`.
+abbrev pub demands_bits : List (List VarValueAndBoundLits) → List CopyDemand → List Bool → List Bool
+demands_bits tables [] a = []
+demands_bits tables (d ∷ ds) a = demanded_bits tables d a ++ demands_bits tables ds (a ++ demanded_bits tables d a)
+
+-- The truth values of the copies and steps of a run, for its value lists and rules.
+abbrev pub copies_and_steps_bits : PlainSystem → List (List VarValueAndBoundLits) → List (List ℕ) → List ℕ → List Bool
+copies_and_steps_bits s tables run rules = copies_bits s.ranges run ++ steps_bits s.rules tables rules (copies_bits s.ranges run)
 
 -- The truth values of all variables of a query's formula, for the value lists and rules of a run.
 abbrev pub run_bits : PlainSystem → PlainGoal → Wanted → List (List ℕ) → List ℕ → List Bool
-run_bits s g q run rules = copies_bits s.ranges run ++ (steps_bits s.ranges s.rules run rules ++ demands_bits s.ranges run (demands_of g q))
+run_bits s g q run rules = with_demands (copies_part s.ranges (suc (step_count q)) 0).tables
+  where
+    with_demands : List (List VarValueAndBoundLits) → List Bool
+    with_demands tables =
+        copies_and_steps_bits s tables run rules ++ demands_bits tables (demands_of g q) (copies_and_steps_bits s tables run rules)
 
 -- The assignment that represents, for query `q`, the run that begins with the values `first` and
 -- fires `rules`.

@@ -1,6 +1,6 @@
 -- The forms that a query demands, each with the copy (moment of a run) to which it refers.
 use Rattle.std.specs.Prelude.{ℕ, ◌+◌, Bool, true, false, List, [], ◌∷◌, ◌++◌, ◌&&◌, map, nat_lt, nat_le}
-use Rattle.std.specs.List.{list_all, range_with_len, flat_map}
+use Rattle.std.specs.List.{list_all, range_with_len}
 use Rattle.ilk_ir.specs.Tree.{Tree, all_of, negation, trees_from_list, tree_valid}
 use Rattle.ilk_ir.specs.Form.{tree_of}
 use Rattle.ilk_unroll.specs.declared.queries.Goal.{Goal}
@@ -62,5 +62,5 @@ demands_of g (Hazard n) = demand_form_holds_in_copy 0 g.start ∷ demands_form_h
 demands_of g (Breach n) = demand_form_holds_in_copy 0 g.start ∷ demands_form_holds_below_copy g.wellformed (n + 1) ++ demand_form_fails_in_copy n (all_of (trees_from_list g.families)) ∷ []
 -- From anywhere by `n` steps to a hazard or broken family, through states without either.
 demands_of g (Step n) =
-    demands_form_holds_below_copy g.wellformed n ++ flat_map (λ t. demands_form_holds_below_copy t n) g.families
+    demands_form_holds_below_copy (all_of (trees_from_list (g.wellformed ∷ g.families))) n
     ++ demand_form_fails_in_copy n (all_of (trees_from_list (negation g.hazard ∷ g.families))) ∷ []

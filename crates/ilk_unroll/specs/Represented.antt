@@ -4,7 +4,8 @@ use Rattle.ilk_cnf.specs.Part.{FormulaPart, and_then}
 use Rattle.ilk_cnf.specs.Truth.{satisfies}
 use Rattle.ilk_cnf.specs.Formula.{Formula}
 use Rattle.ilk_ir.specs.System.{PlainSystem, in_ranges}
-use Rattle.ilk_forms.specs.Copy.{BitsEncode}
+use Rattle.ilk_forms.specs.declared.copy.VarValueAndBoundLits.{VarValueAndBoundLits}
+use Rattle.ilk_forms.specs.Copy.{LiteralsEncode}
 use Rattle.ilk_step.specs.declared.choice.Choice.{Choice}
 use Rattle.ilk_unroll.specs.Assignment.{EncodesWantedRun, run_assignment}
 use Rattle.ilk_unroll.specs.Goal.{PlainGoal}
@@ -13,10 +14,10 @@ use Rattle.ilk_unroll.specs.Run.{is_wanted_run}
 use Rattle.ilk_unroll.specs.Tables.{step_choice_variables}
 use Rattle.ilk_unroll.specs.declared.queries.Wanted.{Wanted}
 
--- Holds if the values are within the ranges, and assignment `a` gives their bits to the variables
--- from `first` on.
-abbrev pub BitsEncodeInRangeValues : List Bool → ℕ → List ℕ → List ℕ → Type 0
-BitsEncodeInRangeValues a first ranges values = IsTrue (in_ranges values ranges) × BitsEncode a first ranges values
+-- Holds if the values are within the ranges, and under assignment `a` the literals of a copy say
+-- exactly them.
+abbrev pub EncodesInRangeValues : List Bool → List VarValueAndBoundLits → List ℕ → List ℕ → Type 0
+EncodesInRangeValues a columns ranges values = IsTrue (in_ranges values ranges) × LiteralsEncode a columns ranges values
 
 -- Holds if assignment `a` has a truth value for each variable of the formula, and satisfies it.
 abbrev pub IsSatisfiedBy : Formula → List Bool → Type 0

@@ -4,7 +4,7 @@ use Rattle.std.specs.List.{list_all}
 use Rattle.ilk_base.specs.Option.{is_some_and}
 use Rattle.ilk_ir.specs.Tree.{tree_holds}
 use Rattle.ilk_ir.specs.System.{PlainSystem, in_ranges, after_rule_number}
-use Rattle.ilk_forms.specs.Gathered.{bool_equals}
+use Rattle.ilk_forms.specs.Gates.{bool_equals}
 use Rattle.ilk_unroll.specs.Goal.{PlainGoal, CopyDemand, step_count, demands_of}
 use Rattle.ilk_unroll.specs.declared.queries.Wanted.{Wanted}
 

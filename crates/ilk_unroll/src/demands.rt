@@ -1,5 +1,4 @@
-ghost use Rattle.std.specs.Prelude.{◌≡◌, ◌+◌, ◌<◌, ◌≤◌, ◌∷◌, [], length, map, OnOk, IsTrue};
-ghost use Rattle.std.specs.List.{list_all, flat_map};
+ghost use Rattle.std.specs.Prelude.{◌≡◌, ◌+◌, ◌<◌, ◌≤◌, ◌∷◌, [], length, OnOk, IsTrue};
 ghost use Rattle.ilk_cnf.specs.Part.{with_part};
 ghost use Rattle.ilk_ir.specs.Form.{tree_of, trees_of};
 ghost use Rattle.ilk_ir.specs.Tree.{all_of, more, negation};
@@ -10,7 +9,10 @@ ghost use Rattle.ilk_unroll.specs.Tables.{are_copies_within_vars, is_valid_in_ea
 use crate::queries::{Goal, Wanted};
 use crate::unroll::RunLits;
 use ilk_cnf::Cnf;
-use ilk_forms::{demand_form_or_some_fail, demand_some_form_fails, demand_some_lit_or_form};
+use ilk_forms::{
+    demand_form_and_forms, demand_form_or_some_fail, demand_some_form_fails,
+    demand_some_lit_or_form,
+};
 use ilk_ir::{Form, Forms};
 use std::alloc::{AllocError, Global};
 
@@ -58,26 +60,56 @@ fn demand_below(
     Ok(())
 }
 
-fn demand_each_below(
+fn demand_all_in(
     alloc: Global,
     cnf: &mut Cnf,
     tables: &RunLits,
-    forms: &[Form],
-    count: u32,
+    form: &Form,
+    forms: &Forms,
+    copy: u32,
 ) -> Result<(), AllocError>
-    requires count { count ≤ length tables.now }
+    requires copy { copy < length tables.now }
     requires within { IsTrue (are_copies_within_vars cnf.old.vars tables.now) }
-    requires valid { IsTrue (list_all (is_valid_in_each tables.now) (map tree_of forms.now)) }
+    requires valid { IsTrue
+        (is_valid_in_each tables.now (all_of (more (tree_of form.now) (trees_of forms.now)))) }
     ensures made { OnOk result
         (cnf.new
         ≡ with_part cnf.old
         (demands_part tables.now
-        (flat_map (λ t. demands_form_holds_below_copy t count)
-        (map tree_of forms.now)) cnf.old.vars)) }
+        (demand_form_holds_in_copy copy
+        (all_of (more (tree_of form.now) (trees_of forms.now))) ∷ [])
+        cnf.old.vars)) }
     ensures within { OnOk result (IsTrue (are_copies_within_vars cnf.new.vars tables.now)) }
 {
-    for form in forms {
-        demand_below(alloc, cnf, tables, form, count)?;
+    let table = tables.at(u64::from(copy));
+    demand_form_and_forms(alloc, cnf, table, form, forms.as_slice())?;
+    Ok(())
+}
+
+// Demands that `form` and all of `forms` hold in each copy below `count`, as one form for each.
+fn demand_all_below(
+    alloc: Global,
+    cnf: &mut Cnf,
+    tables: &RunLits,
+    form: &Form,
+    forms: &Forms,
+    count: u32,
+) -> Result<(), AllocError>
+    requires count { count ≤ length tables.now }
+    requires within { IsTrue (are_copies_within_vars cnf.old.vars tables.now) }
+    requires valid { IsTrue
+        (is_valid_in_each tables.now (all_of (more (tree_of form.now) (trees_of forms.now)))) }
+    ensures made { OnOk result
+        (cnf.new
+        ≡ with_part cnf.old
+        (demands_part tables.now
+        (demands_form_holds_below_copy
+        (all_of (more (tree_of form.now) (trees_of forms.now))) count)
+        cnf.old.vars)) }
+    ensures within { OnOk result (IsTrue (are_copies_within_vars cnf.new.vars tables.now)) }
+{
+    for copy in 0..count {
+        demand_all_in(alloc, cnf, tables, form, forms, copy)?;
     }
     Ok(())
 }
@@ -186,9 +218,9 @@ fn add_step_query(
 ) -> Result<(), AllocError>
     requires steps { steps < length tables.now }
     requires within { IsTrue (are_copies_within_vars cnf.old.vars tables.now) }
-    requires wellformed { IsTrue (is_valid_in_each tables.now (tree_of goal.now.wellformed)) }
-    requires each { IsTrue (list_all (is_valid_in_each tables.now)
-        (map tree_of goal.now.families)) }
+    requires kept { IsTrue
+        (is_valid_in_each tables.now
+        (all_of (more (tree_of goal.now.wellformed) (trees_of goal.now.families)))) }
     requires last { IsTrue
         (is_valid_in_each tables.now
         (all_of (more (negation (tree_of goal.now.hazard)) (trees_of goal.now.families)))) }
@@ -198,8 +230,7 @@ fn add_step_query(
         (demands_part tables.now (demands_of (plain_goal goal.now) (Wanted.Step steps))
         cnf.old.vars)) }
 {
-    demand_below(alloc, cnf, tables, &goal.wellformed, steps)?;
-    demand_each_below(alloc, cnf, tables, goal.families.as_slice(), steps)?;
+    demand_all_below(alloc, cnf, tables, &goal.wellformed, &goal.families, steps)?;
     demand_or_violated(alloc, cnf, tables, &goal.hazard, &goal.families, steps)?;
     Ok(())
 }
@@ -219,8 +250,9 @@ pub(crate) fn add_query_demands(
     requires start { IsTrue (is_valid_in_each tables.now (tree_of goal.now.start)) }
     requires hazard { IsTrue (is_valid_in_each tables.now (tree_of goal.now.hazard)) }
     requires wellformed { IsTrue (is_valid_in_each tables.now (tree_of goal.now.wellformed)) }
-    requires each { IsTrue (list_all (is_valid_in_each tables.now)
-        (map tree_of goal.now.families)) }
+    requires kept { IsTrue
+        (is_valid_in_each tables.now
+        (all_of (more (tree_of goal.now.wellformed) (trees_of goal.now.families)))) }
     requires families { IsTrue (is_valid_in_each tables.now (all_of (trees_of goal.now.families))) }
     requires last { IsTrue
         (is_valid_in_each tables.now

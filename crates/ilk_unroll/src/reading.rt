@@ -1,20 +1,22 @@
-ghost use Rattle.std.specs.Prelude.{◌≡◌, ℕ, ◌+◌, ◌<◌, ◌≤◌, ◌^◌, List, length, IfOk, IsTrue};
-ghost use Rattle.ilk_cnf.specs.Truth.{satisfies};
+ghost use Rattle.std.specs.Prelude.{◌≡◌, ℕ, ◌<◌, ◌≤◌, ◌^◌, List, length, map, nat_lt, IfOk, IsTrue};
+ghost use Rattle.std.specs.List.{list_all};
+ghost use Rattle.ilk_cnf.specs.Truth.{is_true, satisfies};
+ghost use Rattle.ilk_ints.specs.Named.{one_hot_bits};
 ghost use Rattle.ilk_ir.specs.System.{plain_system, system_valid};
-ghost use Rattle.ilk_forms.specs.Copy.{copy_bit_count};
+ghost use Rattle.ilk_forms.specs.Leaf.{ranges_of};
 ghost use Rattle.ilk_unroll.specs.Goal.{plain_goal, goal_valid, step_count_is_allowed};
 ghost use Rattle.ilk_unroll.specs.Run.{is_wanted_run};
 ghost use Rattle.ilk_unroll.specs.Query.{query_formula};
 ghost use Rattle.ilk_unroll.specs.Assignment.{run_assignment};
-ghost use Rattle.ilk_unroll.specs.Represented.{BitsEncodeInRangeValues};
+ghost use Rattle.ilk_unroll.specs.Represented.{EncodesInRangeValues};
 ghost use Rattle.ilk_unroll.specs.Tables.{StepsChooseTheseRules, choices_begin_at_or_before};
 
 use crate::queries::{Goal, Wanted};
 use crate::unroll::{StepRuleChoices, unroll};
 use ilk_base::Row;
-use ilk_cnf::{Assignment, Cnf};
-use ilk_ints::{Bounded, bit_count, value_of};
-use ilk_ir::{Ranges, System, Values};
+use ilk_cnf::{Assignment, Cnf, Lit};
+use ilk_forms::CopyLits;
+use ilk_ir::{System, Values};
 use ilk_step::chosen_rule;
 use std::alloc::{AllocError, Global};
 
@@ -28,32 +30,38 @@ pub struct Trace {
     pub rules: Rows,
 }
 
-// Returns the values of integers with these ranges, whose bits begin at variable `from`.
-fn read_values(
-    alloc: Global,
-    ranges: &Ranges,
-    a: &Assignment,
-    from: u64,
-) -> Result<Values, AllocError>
-    requires from_1 { 0 < from }
-    requires numbered { from + copy_bit_count ranges.now ≤ 2 ^ 62 + 1 }
-    requires reached { from + copy_bit_count ranges.now ≤ length a.now + 1 }
-    requires told { (values : List ℕ) × BitsEncodeInRangeValues a.now from ranges.now values }
+// Returns the value whose literal is true. The literals say one value each, and exactly one is
+// true.
+fn read_value(a: &Assignment, values: &[Lit]) -> u8
+    requires few { length values.now ≤ 255 }
+    requires one { (value : ℕ) × (value < length values.now)
+        × (map (is_true a.now) values.now ≡ one_hot_bits value 0 (length values.now)) }
+    ensures { (value : ℕ) → value < length values.now →
+        map (is_true a.now) values.now ≡ one_hot_bits value 0 (length values.now) →
+        result ≡ value }
+{
+    let mut value = 0;
+    for lit in values {
+        if a.is_lit_true(*lit) {
+            return value;
+        }
+        value += 1;
+    }
+    value
+}
+
+// Returns the values that the literals of a copy say.
+fn read_values(alloc: Global, a: &Assignment, table: &CopyLits) -> Result<Values, AllocError>
+    requires bytes { IsTrue (list_all (λ range. nat_lt range 256) (ranges_of table.now)) }
+    requires told { (values : List ℕ)
+        × EncodesInRangeValues a.now table.now (ranges_of table.now) values }
     ensures { IfOk result
-        (λ read. (values : List ℕ) → BitsEncodeInRangeValues a.now from ranges.now values →
-        read ≡ values) }
+        (λ read. (values : List ℕ) →
+        EncodesInRangeValues a.now table.now (ranges_of table.now) values → read ≡ values) }
 {
     let mut values = Values::new(alloc);
-    let mut first = from;
-    for range in ranges.as_slice() {
-        let _ = a.len();
-        let count = bit_count(*range);
-        let n = Bounded {
-            first,
-            range: *range,
-        };
-        values.push(value_of(n, a))?;
-        first += count;
+    for column in table.as_slice() {
+        values.push(read_value(a, column.values.as_slice()))?;
     }
     Ok(values)
 }
@@ -100,7 +108,7 @@ pub fn read_back(
 {
     let mut cnf = Cnf::new(alloc);
     let unrolled = unroll(alloc, &mut cnf, system, q.steps())?;
-    let first = read_values(alloc, &system.ranges, a, unrolled.first)?;
+    let first = read_values(alloc, a, unrolled.tables.at(0))?;
     let rules = read_rules(alloc, &unrolled.choices, a)?;
     let _ = goal;
     Ok(Trace { first, rules })

@@ -3,7 +3,7 @@ ghost use Rattle.std.specs.List.{list_all};
 ghost use Rattle.ilk_cnf.specs.Formula.{with_var_count_and_clauses, with_var_count};
 ghost use Rattle.ilk_cnf.specs.Part.{with_part, clauses_from_lists};
 ghost use Rattle.ilk_ir.specs.System.{plain_rule, plain_system, system_valid};
-ghost use Rattle.ilk_forms.specs.Copy.{copy_bit_count, copy_var_count};
+ghost use Rattle.ilk_forms.specs.Copy.{copy_var_count};
 ghost use Rattle.ilk_unroll.specs.Query.{copies_part, steps_part};
 ghost use Rattle.ilk_unroll.specs.Represented.{run_choice_variables, run_copies, run_part};
 ghost use Rattle.ilk_unroll.specs.Tables.{are_copies_within_vars, CopiesHaveRanges, step_choice_variables, choices_begin_at_or_before};
@@ -25,8 +25,6 @@ pub(crate) type StepRuleChoices = Row<Choice>;
 #[derive(Drop)]
 pub(crate) struct Unrolled {
     pub tables: RunLits,
-    /// The first variable of the copy of the first values.
-    pub first: u64,
     pub choices: StepRuleChoices,
 }
 
@@ -55,6 +53,7 @@ fn add_copies(
         ≡ with_var_count_and_clauses cnf.old cnf.old.vars
         (clauses_from_lists (copies_part ranges.now count 0).part.clauses)) }
 {
+    let _ranges = bytes_of(ranges.as_slice());
     let mut tables = RunLits::new(alloc);
     let mut before = cnf.vars();
     for _ in 0..count {
@@ -111,8 +110,6 @@ pub(crate) fn unroll(
     requires valid { IsTrue (system_valid (plain_system system.now)) }
     ensures tables { IfOk result
         (λ unrolled. unrolled.tables ≡ (run_copies system.now.ranges steps).tables) }
-    ensures first { IfOk result
-        (λ unrolled. unrolled.first ≡ (copies_part system.now.ranges steps 0).part.vars + 1) }
     ensures choices { IfOk result
         (λ unrolled. unrolled.choices ≡ run_choice_variables (plain_system system.now) steps) }
     ensures made { OnOk result
@@ -124,8 +121,6 @@ pub(crate) fn unroll(
     ensures ranges { IfOk result (λ unrolled. CopiesHaveRanges system.now.ranges unrolled.tables) }
     ensures numbered { IfOk result
         (λ unrolled. IsTrue (choices_begin_at_or_before (2 ^ 62) unrolled.choices)) }
-    ensures reach { IfOk result
-        (λ unrolled. unrolled.first + copy_bit_count system.now.ranges ≤ 2 ^ 62 + 1) }
     ensures bytes { OnOk result (IsTrue (list_all (λ range. nat_lt range 256) system.now.ranges)) }
 {
     let _ranges = bytes_of(system.ranges.as_slice());
@@ -136,9 +131,5 @@ pub(crate) fn unroll(
     let tables = add_copies(alloc, cnf, &system.ranges, all - before, steps + 1)?;
     let choices = add_steps(alloc, cnf, system, &tables)?;
     let _ = cnf.vars();
-    Ok(Unrolled {
-        tables,
-        first: before + 1,
-        choices,
-    })
+    Ok(Unrolled { tables, choices })
 }

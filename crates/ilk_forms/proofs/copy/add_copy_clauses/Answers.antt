@@ -1,35 +1,53 @@
-use Rattle.std.proofs.Common.{◌∙◌, ℕ, List, ap, refl, arith}
+use Rattle.std.proofs.Common.{◌≡◌, ◌∙◌, ◌+◌, ◌-◌, ℕ, List, length, suc, refl, ap, arith}
 use Rattle.ilk_cnf.specs.Formula.{Formula, with_var_count}
+use Rattle.ilk_cnf.specs.Part.{with_part}
 use Rattle.ilk_cnf.proofs.Extending.{extends-clauses_from_lists}
-use Rattle.ilk_forms.specs.Copy.{numbers_part, copy_value_bound_var_count, copy_part, AreCopyBits}
-use Rattle.ilk_forms.proofs.ColumnLaw.{numbers-end}
-use Rattle.ilk_forms.proofs.CopyLaw.{columns_fit, copy_made, copy-law, ranges_fit-small}
+use Rattle.ilk_forms.specs.declared.copy.VarValueAndBoundLits.{VarValueAndBoundLits}
+use Rattle.ilk_forms.specs.Copy.{PartWithAllVarLits, copy_part, AreCopyBits}
+use Rattle.ilk_forms.proofs.CopyLaw.{copy-law, ranges_fit-small}
+use Rattle.ilk_forms.proofs.CopyWidth.{class-length, copy-most, no_var_lits-length}
 use Rattle.ilk_forms.proofs.CopySays.{copy-say}
-use Rattle.ilk_forms.proofs.CopyWidth.{added-there}
+use Rattle.ilk_forms.proofs.CopyMade.{class_there, below_step, copy-begins}
 use Rattle.ilk_forms.proofs.copy.add_copy_clauses.Goals as goal
 
-pub add_columns-requires-clause-within : goal.add_columns-requires-clause-within
-add_columns-requires-clause-within c =
-    let n = c.args.before in
-    let end = ap (λ (f : Formula). f.vars) c.in_ok-add_numbers.ensures.made ∙ ap (λ (rs : List ℕ). (numbers_part rs n).vars) c.as_slice.ensures in
-    columns_fit n c.add_numbers.new.used n c.args.ranges.now c.as_slice-2.result.now refl end c.as_slice-2.ensures
+pub loop-i-init : goal.loop-i-init
+loop-i-init c =
+    let ranges = c.as_slice-ranges.result.now in
+    let f = with_var_count c.args.cnf.now c.args.before in
+    let same = copy-begins 256 ranges c.in_ok-table.table c.args.before refl c.in_ok-table.ensures in
+    record {
+      vars = refl;
+      many = ap length c.in_ok-table.ensures ∙ no_var_lits-length ranges;
+      table = ap (λ (p : PartWithAllVarLits). p.columns) same;
+      made = ap (λ (p : PartWithAllVarLits). with_part f p.part) same;
+    }
 
-pub add_columns-requires-clause-there : goal.add_columns-requires-clause-there
-add_columns-requires-clause-there c =
-    let n = c.args.before in
-    let end = ap (λ (f : Formula). f.vars) c.in_ok-add_numbers.ensures.made ∙ ap (λ (rs : List ℕ). (numbers_part rs n).vars) c.as_slice.ensures in
-    omega (arith, end, numbers-end c.args.ranges.now n, ap copy_value_bound_var_count c.as_slice-2.ensures, c.in_ok-add_numbers.ensures.vars, c.requires)
+pub add_range_class-requires-clause-there : goal.add_range_class-requires-clause-there
+add_range_class-requires-clause-there c =
+    let i = c.loop-i.i in
+    let ranges = c.as_slice-ranges.result.now in
+    let left : 256 - i ≡ suc (255 - i) = omega (arith, c.loop-i-test.true) in
+    let made = ap (λ (f : Formula). f.vars) c.loop-i.invariant.made in
+    let same = ap (λ (rs : List ℕ). (copy_part rs c.args.before).part.vars) c.as_slice-ranges.ensures in
+    class_there (256 - i) (255 - i) c.loop-i.used c.loop-i.cnf.vars ranges c.loop-i.table left
+    (omega (arith, made, same, c.loop-i.invariant.vars, copy-most c.args.ranges.now c.args.before, c.requires))
 
-pub returns-clause-made : goal.returns-clause-made
-returns-clause-made c =
-    let n = c.args.before in
-    let ranges = c.args.ranges.now in
-    let last = c.add_columns.new.cnf in
-    let used = c.add_columns.new.used in
-    let made = copy_made (with_var_count c.args.cnf.now n) (with_var_count c.add_numbers.new.cnf c.add_numbers.new.used)
-    (with_var_count last used) ranges c.as_slice.result.now c.as_slice-2.result.now n refl c.as_slice.ensures
-    c.as_slice-2.ensures c.in_ok-add_numbers.ensures.made c.in_ok-table.ensures.made in
-    added-there c.args.cnf.now last n used (copy_part ranges n).part (c.in_ok-table.ensures.vars ∙ c.in_ok-add_numbers.ensures.vars) made
+pub loop-i-preserved : goal.loop-i-preserved
+loop-i-preserved c =
+    let i = c.loop-i.i in
+    let ranges = c.as_slice-ranges.result.now in
+    let before = c.loop-i.invariant in
+    let made = c.in_ok-add_range_class.ensures in
+    let left : 256 - i ≡ suc (255 - i) = omega (arith, c.loop-i-test.true) in
+    let next : 256 - (i + 1) ≡ 255 - i = omega arith in
+    let step = below_step (256 - i) (255 - i) (256 - (i + 1)) ranges c.loop-i.table c.add_range_class.new.table (with_var_count c.loop-i.cnf c.loop-i.used)
+    (with_var_count c.add_range_class.new.cnf c.add_range_class.new.used) left next made.table made.made in
+    record {
+      vars = made.vars ∙ before.vars;
+      many = ap length made.table ∙ class-length (255 - i) ranges c.loop-i.table c.loop-i.used before.many;
+      table = step.0 ∙ before.table;
+      made = step.1 ∙ before.made;
+    }
 
 pub returns-clause-law : goal.returns-clause-law
 returns-clause-law c =

@@ -5,7 +5,6 @@ use Rattle.ilk_cnf.specs.Part.{with_part}
 use Rattle.ilk_cnf.proofs.Extending.{extends-clauses_from_lists}
 use Rattle.ilk_ir.specs.System.{plain_rule}
 use Rattle.ilk_forms.proofs.Reading.{has_lits_within_vars-more}
-use Rattle.ilk_forms.specs.Leaf.{ranges_of}
 use Rattle.ilk_step.specs.Choice.{Chooses}
 use Rattle.ilk_forms.proofs.Few.{with_part-few}
 use Rattle.ilk_step.specs.Size.{total_guard_tree_size, settings_count, copy_literals_count}
@@ -103,7 +102,7 @@ returns-clause-law c =
     let next = c.args.next.now in
     let rs = map plain_rule c.args.rules.now in
     let p = step_part rs now next n in
-    extends-clauses_from_lists a p.vars p.clauses (AreStepBits (ranges_of now) rs ws xs)
+    extends-clauses_from_lists a p.vars p.clauses (AreStepBits now rs a ws xs)
     (step-law rs now next ws xs a n
     (record {
       size = size;
@@ -118,10 +117,10 @@ pub returns-clause-exact : goal.returns-clause-exact
 returns-clause-exact c =
     λ a b ws xs r size is.
     let n = c.args.cnf.now.vars in
-    let ranges = ranges_of c.args.now.now in
+    let now = c.args.now.now in
     let rs = map plain_rule c.args.rules.now in
-    let whole : Chooses (a ++ (step_bits ranges rs ws r ++ b)) (n + 1) (length rs) r = (step-below rs ws xs r is, step-says ranges rs ws a b n r size) in
-    subst (λ (m : ℕ). Chooses (a ++ (step_bits ranges rs ws r ++ b)) (n + 1) m r) (length-map c.args.rules.now plain_rule) whole
+    let whole : Chooses (a ++ (step_bits now rs a r ++ b)) (n + 1) (length rs) r = (step-below rs ws xs r is, step-says now rs a b n r size) in
+    subst (λ (m : ℕ). Chooses (a ++ (step_bits now rs a r ++ b)) (n + 1) m r) (length-map c.args.rules.now plain_rule) whole
 
 pub returns-clause-vars : goal.returns-clause-vars
 returns-clause-vars c =

@@ -10,7 +10,7 @@ use Rattle.ilk_unroll.specs.Assignment.{run_assignment, EncodesWantedRun}
 use Rattle.ilk_unroll.proofs.CopiesLaw.{copies-few, is_valid_in_each-from}
 use Rattle.ilk_unroll.proofs.DemandsLaw.{goal-valid}
 use Rattle.ilk_unroll.proofs.QueryLaw.{query-law}
-use Rattle.ilk_unroll.proofs.QueryMade.{query_made, forms-valid, few-wanted, tables-many}
+use Rattle.ilk_unroll.proofs.QueryMade.{query_made, few-wanted, tables-many}
 use Rattle.ilk_unroll.proofs.formula.query.Goals as goal
 
 pub unroll-requires-clause-steps : goal.unroll-requires-clause-steps
@@ -37,15 +37,15 @@ add_query_demands-requires-clause-wellformed c =
     let g = plain_goal c.args.goal.now in
     is_valid_in_each-from c.args.system.now.ranges c.in_ok-unrolled.unrolled.tables g.wellformed c.in_ok-unrolled.ensures.ranges (goal-valid c.args.system.now.ranges g c.requires.goal).wellformed
 
-pub add_query_demands-requires-clause-each : goal.add_query_demands-requires-clause-each
-add_query_demands-requires-clause-each c =
+pub add_query_demands-requires-clause-kept : goal.add_query_demands-requires-clause-kept
+add_query_demands-requires-clause-kept c =
     let g = plain_goal c.args.goal.now in
-    forms-valid c.args.system.now.ranges c.in_ok-unrolled.unrolled.tables g.families c.in_ok-unrolled.ensures.ranges (goal-valid c.args.system.now.ranges g c.requires.goal).families
+    is_valid_in_each-from c.args.system.now.ranges c.in_ok-unrolled.unrolled.tables (all_of (trees_from_list (g.wellformed ∷ g.families))) c.in_ok-unrolled.ensures.ranges (goal-valid c.args.system.now.ranges g c.requires.goal).kept
 
 pub add_query_demands-requires-clause-families : goal.add_query_demands-requires-clause-families
 add_query_demands-requires-clause-families c =
     let g = plain_goal c.args.goal.now in
-    is_valid_in_each-from c.args.system.now.ranges c.in_ok-unrolled.unrolled.tables (all_of (trees_from_list g.families)) c.in_ok-unrolled.ensures.ranges (goal-valid c.args.system.now.ranges g c.requires.goal).kept
+    is_valid_in_each-from c.args.system.now.ranges c.in_ok-unrolled.unrolled.tables (all_of (trees_from_list g.families)) c.in_ok-unrolled.ensures.ranges (goal-valid c.args.system.now.ranges g c.requires.goal).families
 
 pub add_query_demands-requires-clause-last : goal.add_query_demands-requires-clause-last
 add_query_demands-requires-clause-last c =

@@ -12,7 +12,7 @@ use Rattle.ilk_unroll.specs.Tables.{step_choice_variables, choices_begin_at_or_b
 use Rattle.ilk_unroll.proofs.StepsLaw.{choices-numbered}
 use Rattle.ilk_unroll.proofs.CopiesLaw.{one-more}
 use Rattle.ilk_unroll.proofs.QueryLaw.{rules-valid}
-use Rattle.ilk_unroll.proofs.QueryMade.{no_formula, copies_made, first_copies, unrolled_made, unrolled-inside, unrolled-within, unrolled-reach}
+use Rattle.ilk_unroll.proofs.QueryMade.{no_formula, copies_made, unrolled_made, unrolled-inside, unrolled-within}
 use Rattle.ilk_unroll.proofs.unroll.unroll.Goals as goal
 use Rattle.ilk_unroll.proofs.unroll.unroll.Goals.{In_ok-tables}
 
@@ -36,20 +36,17 @@ many c = omega arith
 seen : (c : In_ok-tables) → c.in_ok-tables.tables ≡ (copies_part c.args.system.now.ranges (suc c.args.steps) 0).tables
 seen c = c.in_ok-tables.ensures.tables ∙ ap (λ (k : ℕ). (copies_part c.args.system.now.ranges k 0).tables) (many c)
 
-made : (c : In_ok-tables) → c.add_copies.new.cnf ≡ with_part no_formula (copies_part c.args.system.now.ranges (suc c.args.steps) 0).part
-made c = copies_made c.args.system.now.ranges c.args.steps (c.args.steps + 1) c.args.cnf.now
-    c.take_copies.new.cnf c.reserve_copy_vars.new.cnf c.add_copies.new.cnf c.requires.empty
-    c.in_ok-take_copies.ensures c.in_ok-reserve_copy_vars.ensures.taken (many c) c.in_ok-tables.ensures.made
-
 fit : (c : In_ok-tables) → ranges_fit c.args.system.now.ranges ≡ true
 fit c = ranges_fit-bytes c.args.system.now.ranges c.as_slice.result.now c.as_slice.ensures c.bytes_of-ranges.ensures.bytes
+
+made : (c : In_ok-tables) → c.add_copies.new.cnf ≡ with_part no_formula (copies_part c.args.system.now.ranges (suc c.args.steps) 0).part
+made c = copies_made c.args.system.now.ranges c.args.steps (c.args.steps + 1) c.args.cnf.now
+    c.take_copies.new.cnf c.reserve_copy_vars.new.cnf c.add_copies.new.cnf (fit c) c.requires.empty
+    c.in_ok-take_copies.ensures c.in_ok-reserve_copy_vars.ensures.taken (many c) c.in_ok-tables.ensures.made
 
 inside : (c : In_ok-tables) →
     (are_copies_within_vars c.add_copies.new.cnf.vars c.in_ok-tables.tables ≡ true) × CopiesHaveRanges c.args.system.now.ranges c.in_ok-tables.tables
 inside c = unrolled-inside c.args.system.now.ranges c.args.steps c.add_copies.new.cnf c.in_ok-tables.tables (fit c) (seen c) (made c)
-
-begins : (c : In_ok-tables) → c.vars-before.result ≡ (copies_part c.args.system.now.ranges c.args.steps 0).part.vars
-begins c = first_copies c.args.system.now.ranges c.args.steps c.vars-before.result c.args.cnf.now c.take_copies.new.cnf c.requires.empty c.in_ok-take_copies.ensures c.vars-before.ensures.count
 
 pub add_steps-requires-clause-within : goal.add_steps-requires-clause-within
 add_steps-requires-clause-within c = (inside (goal.at.add_steps-requires-clause-within c).In_ok-tables).0
@@ -59,9 +56,6 @@ add_steps-requires-clause-ranges c = (inside (goal.at.add_steps-requires-clause-
 
 pub returns-clause-tables : goal.returns-clause-tables
 returns-clause-tables c = seen (goal.at.returns-clause-tables c).In_ok-tables
-
-pub returns-clause-first : goal.returns-clause-first
-returns-clause-first c = ap (λ (n : ℕ). n + 1) (begins (goal.at.returns-clause-first c).In_ok-tables)
 
 pub returns-clause-choices : goal.returns-clause-choices
 returns-clause-choices c =
@@ -96,13 +90,6 @@ returns-clause-numbered c =
     let vars = ap (λ (f : Formula). f.vars) c.in_ok-choices.ensures.made in
     let high : (steps_part s.rules tables g.vars).vars ≤ 2 ^ 62 = omega (arith, vars, c.vars.ensures.count, c.vars.ensures.numbered) in
     ap (choices_begin_at_or_before (2 ^ 62)) c.in_ok-choices.ensures.choices ∙ choices-numbered tables s.ranges s.rules g.vars (2 ^ 62) are.0 are.1 (rules-valid s c.requires.valid) high
-
-pub returns-clause-reach : goal.returns-clause-reach
-returns-clause-reach c =
-    let s = plain_system c.args.system.now in
-    let here = (goal.at.returns-clause-reach c).In_ok-tables in
-    let reach = unrolled-reach s c.args.steps c.add_copies.new.cnf c.add_steps.new.cnf c.in_ok-tables.tables c.requires.valid (fit here) (seen here) (made here) c.in_ok-choices.ensures.made in
-    omega (arith, reach, begins here, c.vars.ensures.count, c.vars.ensures.numbered)
 
 pub returns-clause-bytes : goal.returns-clause-bytes
 returns-clause-bytes c = ap (list_all (λ (x : ℕ). ltb x 256)) (sym c.as_slice.ensures) ∙ c.bytes_of-ranges.ensures.bytes
