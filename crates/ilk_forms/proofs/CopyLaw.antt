@@ -1,7 +1,7 @@
 -- A copy has exactly the values in range, and each further variable has one value.
-use Rattle.std.proofs.Common.{◌≡◌, ℕ, ◌+◌, ◌^◌, ◌<◌, ◌≤◌, zero, suc, Bool, true, false, cond, List, [], ◌∷◌, ◌++◌, length, refl, sym, ap, ◌∙◌, subst, arith, ltb, eqb}
+use Rattle.std.proofs.Common.{◌≡◌, ℕ, ◌^◌, ◌<◌, ◌≤◌, zero, suc, Bool, true, false, cond, List, [], ◌∷◌, ◌++◌, length, refl, sym, ap, ◌∙◌, subst, arith, ltb, eqb}
 use Rattle.std.specs.List.{list_all}
-use Rattle.std.proofs.lemmas.Bool.{and_parts, and_from, false≢true, eqb-true, eqb-false, eq-eqb, ltb-true, lt-ltb}
+use Rattle.std.proofs.lemmas.Bool.{and_parts, and_from, false≢true, eqb-true, eqb-false, ltb-true, lt-ltb}
 use Rattle.ilk_cnf.specs.Extends.{ExtensionsAreExactly, EqualsGivenValues, AreValuesOfConsecutiveParts}
 use Rattle.ilk_cnf.proofs.Parts.{in_turn, in_words}
 use Rattle.ilk_cnf.proofs.Extending.{no_more_if, only_from_if}
@@ -11,7 +11,7 @@ use Rattle.ilk_ir.specs.System.{in_ranges}
 use Rattle.ilk_forms.specs.declared.copy.VarValueAndBoundLits.{VarValueAndBoundLits}
 use Rattle.ilk_forms.specs.declared.copy.TheConstants.{MAX_RANGES}
 use Rattle.ilk_forms.specs.Copy.{system_var_part, range_class_part, ranges_below_part, no_var_lits, copy_part, system_var_bits, range_class_bits, ranges_below_bits, copy_bits, AreCopyBits}
-use Rattle.ilk_forms.proofs.ColumnLaw.{ranges_fit, AreVarBits, system_var-low, system_var-in, system_var-law, class-low, class-in, below-low, copy-low}
+use Rattle.ilk_forms.proofs.ColumnLaw.{ranges_fit, AreVarBits, system_var-low, system_var-in, system_var-law, class-low, class-in, below-low}
 use Rattle.ilk_forms.proofs.CopyWidth.{class-length, no_var_lits-length}
 
 pub ranges_fit-small : (ranges : List ℕ) → list_all (λ range. ltb range 256) ranges ≡ true → ranges_fit ranges ≡ true
@@ -127,7 +127,8 @@ merge-class r (range ∷ ranges) [] xs h k = refl
 merge-class r (range ∷ ranges) (w ∷ ws) [] h k = absurd k
 merge-class r (range ∷ ranges) (w ∷ ws) (x ∷ xs) h k = by_case (eqb range r) refl (merge-class r ranges ws xs h.1 k.1)
   where
-    by_case : (b : Bool) → eqb range r ≡ b → range_class_bits r ranges (merge r ranges ws xs) ≡ range_class_bits r ranges ws → range_class_bits r (range ∷ ranges) (merge r (range ∷ ranges) (w ∷ ws) (x ∷ xs)) ≡ range_class_bits r (range ∷ ranges) (w ∷ ws)
+    by_case : (b : Bool) → eqb range r ≡ b → range_class_bits r ranges (merge r ranges ws xs) ≡ range_class_bits r ranges ws →
+        range_class_bits r (range ∷ ranges) (merge r (range ∷ ranges) (w ∷ ws) (x ∷ xs)) ≡ range_class_bits r (range ∷ ranges) (w ∷ ws)
     by_case true e rest = rw e (ap (λ (u : List Bool). system_var_bits range w ++ u) rest)
     by_case false e rest = rw e rest
 
@@ -137,7 +138,8 @@ merge-other s r (range ∷ ranges) [] xs less h k = absurd h
 merge-other s r (range ∷ ranges) (w ∷ ws) [] less h k = absurd k
 merge-other s r (range ∷ ranges) (w ∷ ws) (x ∷ xs) less h k = by_case (eqb range s) (eqb range r) refl refl (merge-other s r ranges ws xs less h.1 k.1)
   where
-    by_case : (b d : Bool) → eqb range s ≡ b → eqb range r ≡ d → range_class_bits s ranges (merge r ranges ws xs) ≡ range_class_bits s ranges xs → range_class_bits s (range ∷ ranges) (merge r (range ∷ ranges) (w ∷ ws) (x ∷ xs)) ≡ range_class_bits s (range ∷ ranges) (x ∷ xs)
+    by_case : (b d : Bool) → eqb range s ≡ b → eqb range r ≡ d → range_class_bits s ranges (merge r ranges ws xs) ≡ range_class_bits s ranges xs →
+        range_class_bits s (range ∷ ranges) (merge r (range ∷ ranges) (w ∷ ws) (x ∷ xs)) ≡ range_class_bits s (range ∷ ranges) (x ∷ xs)
     by_case true true e f rest = absurd (omega (arith, eqb-true range s e, eqb-true range r f))
     by_case true false e f rest = rw (e, f) (ap (λ (u : List Bool). system_var_bits range x ++ u) rest)
     by_case false d e f rest = rw e rest
@@ -164,7 +166,8 @@ merge-in r (range ∷ ranges) (w ∷ ws) (x ∷ xs) h k = (λ low. by_case (eqb 
 abbrev AreBelowBits : ℕ → List ℕ → List Bool → Type 0
 AreBelowBits k ranges b = (ws : List ℕ) × InBelow k ws ranges × (b ≡ ranges_below_bits k ranges ws)
 
-pub below-law : (k : ℕ) (ranges : List ℕ) (columns : List VarValueAndBoundLits) (a : List Bool) (n : ℕ) → length a ≡ n → length columns ≡ length ranges → k ≤ 256 → ExtensionsAreExactly a (ranges_below_part k ranges columns n).part.vars (ranges_below_part k ranges columns n).part.clauses (AreBelowBits k ranges)
+pub below-law : (k : ℕ) (ranges : List ℕ) (columns : List VarValueAndBoundLits) (a : List Bool) (n : ℕ) → length a ≡ n → length columns ≡ length ranges → k ≤ 256 →
+    ExtensionsAreExactly a (ranges_below_part k ranges columns n).part.vars (ranges_below_part k ranges columns n).part.clauses (AreBelowBits k ranges)
 below-law zero ranges columns a n size same few = in_words a n [] (EqualsGivenValues []) (AreBelowBits zero ranges) (λ b h. (ranges, none ranges, h)) (λ b h. h.2) (only_from_if a n [] [] (no_more_if a n [] true size refl))
   where
     none : (rs : List ℕ) → InBelow zero rs rs
@@ -187,7 +190,9 @@ below-law (suc r) ranges columns a n size same few =
         let ws = h.3.0 in
         let xs = h.4.0 in
         let both = merge r ranges ws xs in
-        (both, merge-in r ranges ws xs h.3.1 h.4.1, h.2 ∙ ap (λ (u : List Bool). u ++ h.1) (h.3.2 ∙ sym (merge-class r ranges ws xs h.3.1 h.4.1)) ∙ ap (λ (u : List Bool). range_class_bits r ranges both ++ u) (h.4.2 ∙ sym (merge-below r r ranges ws xs (omega arith) h.3.1 h.4.1)))
+        let first : h.0 ≡ range_class_bits r ranges both = h.3.2 ∙ sym (merge-class r ranges ws xs h.3.1 h.4.1) in
+        let rest : h.1 ≡ ranges_below_bits r ranges both = h.4.2 ∙ sym (merge-below r r ranges ws xs (omega arith) h.3.1 h.4.1) in
+        (both, merge-in r ranges ws xs h.3.1 h.4.1, h.2 ∙ ap (λ (u : List Bool). u ++ h.1) first ∙ ap (λ (u : List Bool). range_class_bits r ranges both ++ u) rest)
 
     from : (b : List Bool) → AreBelowBits (suc r) ranges b → AreValuesOfConsecutiveParts (AreClassBits r ranges) (λ b _. AreBelowBits r ranges) b
     from b h =

@@ -1,10 +1,10 @@
 -- The formula and the table of literals that the loops of a copy make.
-use Rattle.std.proofs.Common.{◌≡◌, ℕ, ◌+◌, ◌<◌, ◌≤◌, suc, Bool, true, false, List, [], ◌∷◌, ◌++◌, length, get_or, set, take, drop, refl, sym, ap, ◌∙◌, subst, arith, eqb, append_assoc}
+use Rattle.std.proofs.Common.{◌≡◌, ℕ, ◌+◌, ◌<◌, ◌≤◌, suc, true, false, List, [], ◌∷◌, ◌++◌, length, get_or, set, take, drop, refl, sym, ap, ◌∙◌, arith, eqb, append_assoc}
 use Rattle.std.proofs.lemmas.List.{drop_more, take_more, take_more_set, drop-set-lt, length-set}
 use Rattle.std.proofs.lemmas.Bool.{eq-eqb, ne_eqb}
 use Rattle.ilk_cnf.specs.Literal.{Literal}
 use Rattle.ilk_cnf.specs.Formula.{Formula, with_var_count_and_clauses, with_var_count}
-use Rattle.ilk_cnf.specs.Part.{FormulaPart, with_part, clauses_from_lists}
+use Rattle.ilk_cnf.specs.Part.{with_part, clauses_from_lists}
 use Rattle.ilk_cnf.proofs.Gates.{with_part-and_then}
 use Rattle.ilk_ints.specs.Bits.{bit_count}
 use Rattle.ilk_ints.specs.Number.{number_part, non_value_clauses}
@@ -49,7 +49,8 @@ class-at r v n ranges table less many is =
     ∙ taken (eq-eqb (get_or ranges v 0) r is)
     ∙ ap (λ (k : ℕ). prepend_var (system_var_part k n) (range_class_part r (drop (v + 1) ranges) (drop (v + 1) table))) is
   where
-    taken : eqb (get_or ranges v 0) r ≡ true → range_class_part r (get_or ranges v 0 ∷ drop (v + 1) ranges) (get_or table v no_lits ∷ drop (v + 1) table) n ≡ prepend_var (system_var_part (get_or ranges v 0) n) (range_class_part r (drop (v + 1) ranges) (drop (v + 1) table))
+    taken : eqb (get_or ranges v 0) r ≡ true →
+        range_class_part r (get_or ranges v 0 ∷ drop (v + 1) ranges) (get_or table v no_lits ∷ drop (v + 1) table) n ≡ prepend_var (system_var_part (get_or ranges v 0) n) (range_class_part r (drop (v + 1) ranges) (drop (v + 1) table))
     taken h = rw h refl
 
 class-past : (r v n : ℕ) (ranges : List ℕ) (table : List VarValueAndBoundLits) → v < length ranges → length table ≡ length ranges → (get_or ranges v 0 ≡ r → ⊥) →
@@ -136,8 +137,3 @@ unfolding copy_part
 copy-begins k ranges table n is none =
     ap (λ (j : ℕ). ranges_below_part j ranges table n) (sym is)
     ∙ ap (λ (us : List VarValueAndBoundLits). ranges_below_part MAX_RANGES ranges us n) none
-
-pub added-there : (f h : Formula) (n m : ℕ) (p : FormulaPart) → h.vars ≡ f.vars → with_var_count h m ≡ with_part (with_var_count f n) p → h ≡ with_var_count_and_clauses f f.vars (clauses_from_lists p.clauses)
-added-there f h n m p same made =
-    ap (λ (k : ℕ). let g : Formula = record { vars = k; clauses = h.clauses } in g) same
-    ∙ ap (λ (cs : List (List Literal)). let g : Formula = record { vars = f.vars; clauses = cs } in g) (ap (λ (k : Formula). k.clauses) made)

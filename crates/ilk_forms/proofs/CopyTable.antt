@@ -14,7 +14,7 @@ use Rattle.ilk_ints.proofs.TableParts.{bit_count-enough, value_lits_part-lits_in
 use Rattle.ilk_forms.specs.declared.copy.VarValueAndBoundLits.{VarValueAndBoundLits}
 use Rattle.ilk_forms.specs.declared.copy.TheConstants.{MAX_RANGES}
 use Rattle.ilk_forms.specs.Copy.{PartWithAllVarLits, var_lits_part, system_var_part, range_class_part, ranges_below_part, no_var_lits, copy_part}
-use Rattle.ilk_forms.proofs.ColumnLaw.{ranges_fit, system_var-low, class-low, below-low}
+use Rattle.ilk_forms.proofs.ColumnLaw.{ranges_fit, system_var-low, class-low}
 use Rattle.ilk_forms.specs.Leaf.{has_lits_within_vars, ranges_of}
 use Rattle.ilk_forms.proofs.Reading.{has_lits_within_vars-more}
 

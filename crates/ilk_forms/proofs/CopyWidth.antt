@@ -1,10 +1,7 @@
 -- The number of variables of a copy.
-use Rattle.std.proofs.Common.{◌≡◌, ℕ, ◌+◌, ◌<◌, ◌≤◌, zero, suc, Bool, true, false, List, [], ◌∷◌, length, cond, refl, sym, ap, ◌∙◌, arith, ltb, eqb, inl, inr}
+use Rattle.std.proofs.Common.{◌≡◌, ℕ, ◌+◌, ◌≤◌, zero, suc, Bool, true, false, List, [], ◌∷◌, length, cond, refl, sym, ap, ◌∙◌, arith, ltb, eqb}
 use Rattle.std.proofs.lemmas.Bool.{and_parts, eqb-true, eqb-false, ltb-true, ltb-false, lt-ltb, le-ltb}
 use Rattle.std.proofs.lemmas.List.{length-map}
-use Rattle.ilk_cnf.specs.Literal.{Literal}
-use Rattle.ilk_cnf.specs.Formula.{Formula, with_var_count_and_clauses, with_var_count}
-use Rattle.ilk_cnf.specs.Part.{FormulaPart, with_part, clauses_from_lists}
 use Rattle.ilk_ints.specs.Bits.{bit_count}
 use Rattle.ilk_ints.specs.Named.{value_bound_var_count}
 use Rattle.ilk_ints.proofs.TableParts.{named-end}
@@ -41,7 +38,8 @@ class-end r [] columns n same = omega arith
 class-end r (range ∷ ranges) [] n same = absurd (omega arith)
 class-end r (range ∷ ranges) (column ∷ columns) n same = by_case (eqb range r) refl (λ m. class-end r ranges columns m (omega arith))
   where
-    by_case : (b : Bool) → eqb range r ≡ b → ((m : ℕ) → (range_class_part r ranges columns m).part.vars ≡ m + class_width r ranges) → (range_class_part r (range ∷ ranges) (column ∷ columns) n).part.vars ≡ n + (cond (eqb range r) (var_width range) 0 + class_width r ranges)
+    by_case : (b : Bool) → eqb range r ≡ b → ((m : ℕ) → (range_class_part r ranges columns m).part.vars ≡ m + class_width r ranges) →
+        (range_class_part r (range ∷ ranges) (column ∷ columns) n).part.vars ≡ n + (cond (eqb range r) (var_width range) 0 + class_width r ranges)
     by_case true h rest = rw h (omega (arith, system_var-end range n, rest (system_var_part range n).part.vars))
     by_case false h rest = rw h (omega (arith, rest n))
 

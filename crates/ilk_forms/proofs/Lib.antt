@@ -13,8 +13,8 @@ pub mod GatheredLaw
 pub mod GatheredSteps
 pub mod TruthsMean
 pub mod DemandLaw
-pub mod Steps
+pub mod DemandSteps
 pub mod ViolatedLaw
+pub mod ViolatedSteps
 pub mod Few
 pub mod CopyTable
-pub mod FormViolated

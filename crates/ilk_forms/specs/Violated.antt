@@ -1,7 +1,7 @@
 -- The demand that a form fails. The parts of And at its top, or else the form itself, are instances
 -- (conditions); one clause says that some instance is violated.
 use Rattle.std.specs.Prelude.{ℕ, Bool, true, List, [], length, map}
-use Rattle.ilk_cnf.specs.Literal.{Literal, negated_lit}
+use Rattle.ilk_cnf.specs.Literal.{negated_lit}
 use Rattle.ilk_cnf.specs.Part.{FormulaPart, and_then}
 use Rattle.ilk_ir.specs.Tree.{Tree}
 use Rattle.ilk_forms.specs.declared.copy.VarValueAndBoundLits.{VarValueAndBoundLits}

@@ -8,6 +8,7 @@ ghost use Rattle.ilk_ir.specs.Tree.{all_of, more, tree_holds, each_holds, tree_v
 ghost use Rattle.ilk_ir.specs.System.{in_ranges};
 ghost use Rattle.ilk_forms.specs.Copy.{LiteralsEncode};
 ghost use Rattle.ilk_forms.specs.Leaf.{has_lits_within_vars, ranges_of};
+ghost use Rattle.ilk_forms.specs.Gates.{gates_within};
 ghost use Rattle.ilk_forms.specs.Gathered.{forms_to_and_or_lits};
 ghost use Rattle.ilk_forms.specs.Demand.{one_clause_part, some_demand, demand_of, demand_each, some_lit_or_form_part, some_lit_or_form_bits};
 ghost use Rattle.ilk_forms.specs.Size.{tree_size};
@@ -49,6 +50,7 @@ fn demand_some(
     forms: &[Form],
 ) -> Result<(), AllocError>
     requires within { IsTrue (has_lits_within_vars cnf.old.vars table.now) }
+    requires gates { IsTrue (gates_within cnf.old.vars gates.old) }
     requires first { IsTrue (is_clause_over cnf.old.vars first.now) }
     requires valid { IsTrue (each_valid (ranges_of table.now) (trees_of forms.now)) }
     ensures made { OnOk result
@@ -79,6 +81,7 @@ fn demand_of(
     form: &Form,
 ) -> Result<(), AllocError>
     requires within { IsTrue (has_lits_within_vars cnf.old.vars table.now) }
+    requires gates { IsTrue (gates_within cnf.old.vars gates.old) }
     requires first { IsTrue (is_clause_over cnf.old.vars first.now) }
     requires valid { IsTrue (tree_valid (ranges_of table.now) (tree_of form.now)) }
     ensures made { OnOk result
@@ -122,6 +125,7 @@ fn demand_each(
     forms: &[Form],
 ) -> Result<(), AllocError>
     requires within { IsTrue (has_lits_within_vars cnf.old.vars table.now) }
+    requires gates { IsTrue (gates_within cnf.old.vars gates.old) }
     requires first { IsTrue (is_clause_over cnf.old.vars first.now) }
     requires valid { IsTrue (each_valid (ranges_of table.now) (trees_of forms.now)) }
     ensures made { OnOk result

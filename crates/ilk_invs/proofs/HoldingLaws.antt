@@ -1,9 +1,9 @@
 -- The condition of V3 holds if and only if the state keeps V3.
-use Rattle.std.proofs.Common.{◌≡◌, ℕ, zero, suc, ◌+◌, ◌-◌, ◌<◌, ◌≤◌, Bool, true, false, not, ◌&&◌, ◌||◌, cond, Some, List, [], ◌∷◌, ◌++◌, drop, filter, length, map, nat_le, nat_lt, slice_get, take, inl, inr, refl, ◌∙◌, ap, arith}
+use Rattle.std.proofs.Common.{◌≡◌, ℕ, zero, suc, ◌+◌, ◌-◌, ◌<◌, ◌≤◌, Bool, true, false, not, ◌&&◌, ◌||◌, cond, Some, List, [], ◌∷◌, drop, filter, length, map, nat_le, nat_lt, slice_get, take, inl, inr, refl, ◌∙◌, ap, arith}
 use Rattle.std.proofs.Math.Bool.{and-true}
 use Rattle.std.specs.Prelude.{if◌then◌else◌}
-use Rattle.std.specs.List.{flat_map, list_all, range_with_len}
-use Rattle.std.proofs.lemmas.Bool.{cases_Bool}
+use Rattle.std.specs.List.{enumerate_from, flat_map, list_all, range_with_len}
+use Rattle.std.proofs.lemmas.Bool.{and_from, cases_Bool}
 use Rattle.std.proofs.lemmas.Bool.Decides.{nat_tests}
 use Rattle.std.proofs.lemmas.List.Folds.{list_all-append, list_all-map}
 use Rattle.std.proofs.lemmas.Option.{same_Some}
@@ -11,7 +11,8 @@ use Rattle.ilk_base.proofs.Lists.{get-dropped, item_at, taken-before}
 use Rattle.ilk_base.proofs.ListTests.{all-at, list_all-alike, list_all-flat_map}
 use Rattle.ilk_base.proofs.Once.{EachOnce}
 use Rattle.ilk_base.proofs.Ranges.{passing_within}
-use Rattle.ilk_ir.specs.Tree.{negation, tree_holds}
+use Rattle.ilk_base.proofs.Tested.{all-pass}
+use Rattle.ilk_ir.specs.Tree.{Tree, negation, tree_holds}
 use Rattle.ilk_plant.specs.Plant.{IsPlant, PlantLists}
 use Rattle.ilk_plant.specs.Shape.{HasShape}
 use Rattle.ilk_plant.specs.State.{has_lock_state}
@@ -25,10 +26,10 @@ use Rattle.ilk_model.specs.Holding.{all_path_indices_pass_test, is_holding_state
 use Rattle.ilk_layout.specs.Image.{image_of}
 use Rattle.ilk_layout.specs.Conditions.{lock_is}
 use Rattle.ilk_layout.proofs.ConditionValues.{lock-holds}
-use Rattle.ilk_invs.specs.Held.{section_held_by, route_holds_sections, rel_below, seen_below}
+use Rattle.ilk_invs.specs.Held.{path_section_held, section_held_by, route_holds_sections, seen_below}
 use Rattle.ilk_invs.specs.HoldFamilies.{possible_holders, path_lock_matches_seen, held_sections_have_locks, is_possible_holder, none_before_if_holding, none_holding, route_holding, v3_locks_match_routes_tree}
-use Rattle.ilk_invs.specs.Parts.{each_of, conditions_of_each_path_index, conditions_of_each_route}
-use Rattle.ilk_invs.proofs.HeldLaws.{below-next, section_held_by-holds, route_holds_sections-holds, rel_below-holds, seen_below-holds}
+use Rattle.ilk_invs.specs.Parts.{each_of, conditions_of_each_path_index, conditions_of_each_route, implication}
+use Rattle.ilk_invs.proofs.HeldLaws.{below-next, path_section_held-holds, section_held_by-holds, route_holds_sections-holds, seen_below-holds}
 use Rattle.ilk_invs.proofs.PartLaws.{each-place, each-route, each_of-holds, state_of_route, where-holds}
 use Rattle.ilk_invs.proofs.Tests.{dropped-at}
 use Rattle.ilk_routes.proofs.Shape.{beside-known}
@@ -102,17 +103,17 @@ at-dropped n xs j x past at =
 
 module _ (p : PlantLists) (plant : IsPlant p) (s : State) (shape : HasShape p s) where
   lock_place-holds : (r : ℕ) (now : RouteState) (i x : ℕ) → slice_get s.routes r ≡ Some now → x < length p.sections →
-      list_all (tree_holds (image_of p s)) (path_lock_matches_seen p r i x) ≡ (not (nat_le now.rel i) || has_lock_state s x (path_section_lock now i))
+      list_all (tree_holds (image_of p s)) (path_lock_matches_seen p r i x) ≡ (not (is_holding_state now && nat_le now.rel i) || has_lock_state s x (path_section_lock now i))
   lock_place-holds r now i x at within =
-      let rel = rel_below-holds p s shape r now (i + 1) at ∙ below-next now.rel i in
+      let held = path_section_held-holds p s shape r now i at in
       let seen : tree_holds (image_of p s) (seen_below r (i + 1)) ≡ not (nat_lt i now.seen) = seen_below-holds p s shape r now (i + 1) at ∙ below-next now.seen i ∙ turned now.seen i in
-      joined (tree_holds (image_of p s) (rel_below r (i + 1)))
+      joined (tree_holds (image_of p s) (path_section_held r i))
       (tree_holds (image_of p s) (seen_below r (i + 1)))
       (tree_holds (image_of p s) (lock_is p x LockedLock))
-      (tree_holds (image_of p s) (lock_is p x UsedLock)) (nat_le now.rel i) (nat_lt i now.seen)
-      (has_lock_state s x LockedLock) (has_lock_state s x UsedLock) rel seen
+      (tree_holds (image_of p s) (lock_is p x UsedLock)) (is_holding_state now && nat_le now.rel i) (nat_lt i now.seen)
+      (has_lock_state s x LockedLock) (has_lock_state s x UsedLock) held seen
       (lock-holds p s shape x LockedLock within) (lock-holds p s shape x UsedLock within)
-      ∙ ap (λ v. not (nat_le now.rel i) || v) (chosen (nat_lt i now.seen) refl)
+      ∙ ap (λ v. not (is_holding_state now && nat_le now.rel i) || v) (chosen (nat_lt i now.seen) refl)
     where
       turned : (a b : ℕ) → nat_le a b ≡ not (nat_lt b a)
       turned a b = grind (arith, nat_tests)
@@ -138,32 +139,42 @@ module _ (p : PlantLists) (plant : IsPlant p) (s : State) (shape : HasShape p s)
 
   held_sections_have_locks-holds : (r : ℕ) (route : Route) (now : RouteState) → slice_get p.routes r ≡ Some route →
       slice_get s.routes r ≡ Some now →
-      list_all (tree_holds (image_of p s)) (held_sections_have_locks p r route ∷ [])
+      list_all (tree_holds (image_of p s)) (held_sections_have_locks p r route)
       ≡ (if is_holding_state now then has_required_locks s route now else true)
   held_sections_have_locks-holds r route now known at =
       let of = plant.routes_known r route known in
       let places = each-place (image_of p s) route (path_lock_matches_seen p r)
-      (λ i x. not (nat_le now.rel i) || has_lock_state s x (path_section_lock now i))
+      (λ i x. not (is_holding_state now && nat_le now.rel i) || has_lock_state s x (path_section_lock now i))
       (λ i x found. lock_place-holds r now i x at
       (all-at (λ x. x < length p.sections) route.path i x of.path found)) in
       let beside =
-      list_all-map (tree_holds (image_of p s)) (λ x. lock_is p x LockedLock) (sections_outside_path route)
-      ∙ list_all-alike (λ x. tree_holds (image_of p s) (lock_is p x LockedLock))
-      (λ x. has_lock_state s x LockedLock) (sections_outside_path route)
-      (λ i x found. lock-holds p s shape x LockedLock (beside-known p route of i x found)) in
-      and-true (tree_holds (image_of p s) (held_sections_have_locks p r route))
-      ∙ where-holds (image_of p s) (route_holds_sections r) (each_of (conditions_of_each_path_index route (path_lock_matches_seen p r) ++ map (λ x. lock_is p x LockedLock) (sections_outside_path route))) (is_holding_state now)
-      (has_required_locks s route now)
-      (route_holds_sections-holds p s shape r now at)
-      (each_of-holds (image_of p s) (conditions_of_each_path_index route (path_lock_matches_seen p r) ++ map (λ x. lock_is p x LockedLock) (sections_outside_path route))
-      ∙ list_all-append (tree_holds (image_of p s)) (conditions_of_each_path_index route (path_lock_matches_seen p r)) (map (λ x. lock_is p x LockedLock) (sections_outside_path route))
-      ∙ ap (λ v. v && list_all (tree_holds (image_of p s)) (map (λ x. lock_is p x LockedLock) (sections_outside_path route))) places
-      ∙ ap (λ v. all_path_indices_pass_test route (λ i x. not (nat_le now.rel i) || has_lock_state s x (path_section_lock now i)) && v) beside)
+      list_all-map (tree_holds (image_of p s)) locked_if_holding (sections_outside_path route)
+      ∙ list_all-alike (λ x. tree_holds (image_of p s) (locked_if_holding x))
+      (λ x. if is_holding_state now then has_lock_state s x LockedLock else true) (sections_outside_path route)
+      (λ i x found.
+      where-holds (image_of p s) (route_holds_sections r) (lock_is p x LockedLock) (is_holding_state now) (has_lock_state s x LockedLock)
+      (route_holds_sections-holds p s shape r now at) (lock-holds p s shape x LockedLock (beside-known p route of i x found))) in
+      list_all-append (tree_holds (image_of p s)) (conditions_of_each_path_index route (path_lock_matches_seen p r)) (map locked_if_holding (sections_outside_path route))
+      ∙ ap (λ v. v && list_all (tree_holds (image_of p s)) (map locked_if_holding (sections_outside_path route))) places
+      ∙ ap (λ v. all_path_indices_pass_test route (λ i x. not (is_holding_state now && nat_le now.rel i) || has_lock_state s x (path_section_lock now i)) && v) beside
+      ∙ by_holding (is_holding_state now)
+    where
+      locked_if_holding : ℕ → Tree
+      locked_if_holding x = implication (route_holds_sections r) (lock_is p x LockedLock)
+
+      by_holding : (b : Bool) →
+          (all_path_indices_pass_test route (λ i x. not (b && nat_le now.rel i) || has_lock_state s x (path_section_lock now i))
+          && list_all (λ x. if b then has_lock_state s x LockedLock else true) (sections_outside_path route))
+          ≡ (if b then has_required_locks s route now else true)
+      by_holding true = refl
+      by_holding false =
+          and_from (list_all (λ _. true) (enumerate_from 0 route.path)) (list_all (λ _. true) (sections_outside_path route))
+          (all-pass (λ _. true) (enumerate_from 0 route.path) (λ i place found. refl)) (all-pass (λ _. true) (sections_outside_path route) (λ i x found. refl))
 
   pub v3-law : tree_holds (image_of p s) (v3_locks_match_routes_tree p) ≡ meets_v3_locks_match_routes p s
   v3-law =
-      each_of-holds (image_of p s) (conditions_of_each_route p (λ r route. held_sections_have_locks p r route ∷ []))
-      ∙ each-route p s shape (image_of p s) (λ r route. held_sections_have_locks p r route ∷ []) (λ route now. if is_holding_state now then has_required_locks s route now else true) held_sections_have_locks-holds
+      each_of-holds (image_of p s) (conditions_of_each_route p (held_sections_have_locks p))
+      ∙ each-route p s shape (image_of p s) (held_sections_have_locks p) (λ route now. if is_holding_state now then has_required_locks s route now else true) held_sections_have_locks-holds
 
   route_holding-holds : (x r : ℕ) → r < length p.routes → tree_holds (image_of p s) (each_of (route_holding p x r)) ≡ route_holds p s r x
   route_holding-holds x r within =

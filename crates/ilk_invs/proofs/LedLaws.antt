@@ -22,17 +22,17 @@ use Rattle.ilk_routes.specs.Boards.{has_aspect}
 use Rattle.ilk_routes.specs.Modes.{same_mode}
 use Rattle.ilk_model.specs.Families.{head_is_led_by_route}
 use Rattle.ilk_model.specs.Hazard.{hazard}
-use Rattle.ilk_model.specs.Holding.{is_vacant, route_runs_in_direction, any_path_index_passes_test}
+use Rattle.ilk_model.specs.Holding.{is_locked_or_occupied, is_vacant, route_runs_in_direction, any_path_index_passes_test}
 use Rattle.ilk_layout.specs.Image.{image_of}
 use Rattle.ilk_layout.specs.Occupancy.{occupancy_or_crash}
 use Rattle.ilk_layout.specs.declared.values.Occupancy.TheVariants.{Vacant, Taken, Crash}
 use Rattle.ilk_layout.specs.Conditions.{is_board_aspect, mode_is, no_train_at}
 use Rattle.ilk_layout.proofs.ConditionValues.{board-holds, mode-holds, occupancy-holds}
-use Rattle.ilk_invs.specs.Held.{seen_below}
-use Rattle.ilk_invs.specs.Parts.{each_of, conditions_of_each_path_index, conditions_of_each_route, some_of}
-use Rattle.ilk_invs.specs.TrainFamilies.{body_at, head_at, route_set_for_head_at, route_set_and_clear_past, no_section_seen_past}
-use Rattle.ilk_invs.proofs.HeldLaws.{below-next, seen_below-holds}
-use Rattle.ilk_invs.proofs.PartLaws.{any-if, each_of-holds, some-place, some-route, vacant-all}
+use Rattle.ilk_invs.specs.Held.{route_locked_or_occupied, seen_below}
+use Rattle.ilk_invs.specs.Parts.{conditions_of_each_path_index, conditions_of_each_route, some_of}
+use Rattle.ilk_invs.specs.TrainFamilies.{body_at, head_at, route_set_for_head_at, route_entered, route_set_and_clear_past, no_section_seen_past}
+use Rattle.ilk_invs.proofs.HeldLaws.{below-next, route_locked_or_occupied-holds, seen_below-holds}
+use Rattle.ilk_invs.proofs.PartLaws.{any-if, each_of-holds, marked_pair-holds, some-place, some-route, vacant-all}
 use Rattle.ilk_invs.proofs.Tests.{dropped-at, list_any-never}
 use Rattle.ilk_invs.proofs.OccupancyLaws.{down-values, has_head_in, has_train_in, head-values, up-values}
 
@@ -73,6 +73,23 @@ module _ (p : PlantLists) (plant : IsPlant p) (s : State) (shape : HasShape p s)
         rw ends (sym within))
   ]
 
+  route_entered-holds : (r : ℕ) (route : Route) (now : RouteState) → slice_get p.routes r ≡ Some route → slice_get s.routes r ≡ Some now →
+      tree_holds (image_of p s) (route_entered p r route) ≡ (same_mode now.mode Occupied || (same_mode now.mode Locked && has_aspect s route.source Closed))
+  route_entered-holds r route now known at =
+      let occupied = mode-holds p s shape r now Occupied at in
+      let closed = board-holds p s shape route.source Closed (plant.routes_known r route known).source in
+      let either : tree_holds (image_of p s) (some_of (mode_is r Occupied ∷ is_board_aspect p route.source Closed ∷ [])) ≡ (same_mode now.mode Occupied || has_aspect s route.source Closed) =
+      rw (occupied, closed) (ap (λ v. same_mode now.mode Occupied || v) (or-false (has_aspect s route.source Closed))) in
+      marked_pair-holds (image_of p s) (route_locked_or_occupied r) (some_of (mode_is r Occupied ∷ is_board_aspect p route.source Closed ∷ [])) (is_locked_or_occupied now) (same_mode now.mode Occupied || has_aspect s route.source Closed)
+      (route_locked_or_occupied-holds p s shape r now at) either
+      ∙ entered (same_mode now.mode Locked) (same_mode now.mode Occupied) (has_aspect s route.source Closed)
+    where
+      entered : (l o c : Bool) → ((l || o) && (o || c)) ≡ (o || (l && c))
+      entered true true c = refl
+      entered true false c = refl
+      entered false true c = refl
+      entered false false c = refl
+
   route_set_and_clear_past-holds : (r : ℕ) (route : Route) (now : RouteState) (i : ℕ) → slice_get p.routes r ≡ Some route →
       slice_get s.routes r ≡ Some now →
       tree_holds (image_of p s) (route_set_and_clear_past p r route i)
@@ -82,34 +99,13 @@ module _ (p : PlantLists) (plant : IsPlant p) (s : State) (shape : HasShape p s)
       && (nat_le now.seen (i + 1) && list_all (is_vacant s) (drop (i + 1) route.path)))
   route_set_and_clear_past-holds r route now i known at =
       let of = plant.routes_known r route known in
-      let occupied = mode-holds p s shape r now Occupied at in
-      let locked = mode-holds p s shape r now Locked at in
-      let closed = board-holds p s shape route.source Closed of.source in
+      let entered = route_entered-holds r route now known at in
       let seen = no_section_seen_past-holds r route now i known at in
       let vacant = vacant-all p s shape calm (drop (i + 1) route.path) (λ k x found. all-at (λ x. x < length p.sections) route.path ((i + 1) + k) x of.path (dropped-at (i + 1) route.path k x found)) in
-      each_of-holds (image_of p s) (some_of (mode_is r Occupied ∷ each_of (mode_is r Locked ∷ is_board_aspect p route.source Closed ∷ []) ∷ []) ∷ (no_section_seen_past r route i ++ map (no_train_at p) (drop (i + 1) route.path)))
-      ∙ ap
-      (λ v.
-      tree_holds (image_of p s)
-      (some_of
-      (mode_is r Occupied
-      ∷ each_of (mode_is r Locked ∷ is_board_aspect p route.source Closed ∷ []) ∷ [])) && v)
-      (list_all-append (tree_holds (image_of p s)) (no_section_seen_past r route i)
-      (map (no_train_at p) (drop (i + 1) route.path)))
-      ∙ joined (tree_holds (image_of p s) (mode_is r Occupied)) (tree_holds (image_of p s) (mode_is r Locked))
-      (tree_holds (image_of p s) (is_board_aspect p route.source Closed))
-      (list_all (tree_holds (image_of p s)) (no_section_seen_past r route i))
-      (list_all (tree_holds (image_of p s)) (map (no_train_at p) (drop (i + 1) route.path))) _ _ _ _ _
-      occupied locked closed seen vacant
-    where
-      joined : (a b c d e a2 b2 c2 d2 e2 : Bool) → a ≡ a2 → b ≡ b2 → c ≡ c2 → d ≡ d2 → e ≡ e2 → ((a || ((b && (c && true)) || false)) && (d && e)) ≡ ((a2 || (b2 && c2)) && (d2 && e2))
-      joined a b c d e a2 b2 c2 d2 e2 one two three four five =
-          ap (λ v. (a || v) && (d && e)) (or-false (b && (c && true)) ∙ ap (λ v. b && v) (and-true c))
-          ∙ ap (λ v. (v || (b && c)) && (d && e)) one
-          ∙ ap (λ v. (a2 || (v && c)) && (d && e)) two
-          ∙ ap (λ v. (a2 || (b2 && v)) && (d && e)) three
-          ∙ ap (λ v. (a2 || (b2 && c2)) && (v && e)) four
-          ∙ ap (λ v. (a2 || (b2 && c2)) && (d2 && v)) five
+      each_of-holds (image_of p s) (route_entered p r route ∷ (no_section_seen_past r route i ++ map (no_train_at p) (drop (i + 1) route.path)))
+      ∙ ap (λ v. tree_holds (image_of p s) (route_entered p r route) && v)
+      (list_all-append (tree_holds (image_of p s)) (no_section_seen_past r route i) (map (no_train_at p) (drop (i + 1) route.path)))
+      ∙ rw (entered, seen, vacant) refl
 
   route_set_for_head_at-holds : (d : Dir) (x r : ℕ) (route : Route) (now : RouteState) →
       slice_get p.routes r ≡ Some route → slice_get s.routes r ≡ Some now →

@@ -1,10 +1,9 @@
 -- The condition of V6 holds for a state's image if and only if the state keeps V6.
-use Rattle.std.proofs.Common.{◌≡◌, ℕ, Bool, true, false, not, ◌&&◌, ◌||◌, map, slice_get, Some, refl, sym, ◌∙◌, ap}
+use Rattle.std.proofs.Common.{◌≡◌, ℕ, Bool, true, false, not, ◌&&◌, ◌||◌, slice_get, Some, refl, sym, ◌∙◌, ap}
 use Rattle.std.specs.Prelude.{if◌then◌else◌}
-use Rattle.std.specs.List.{list_all}
+use Rattle.std.specs.List.{flat_map, list_all}
 use Rattle.std.proofs.lemmas.Bool.{false≢true, false_from_ne_true}
-use Rattle.std.proofs.lemmas.List.Folds.{list_all-map}
-use Rattle.ilk_base.proofs.ListTests.{list_all-alike}
+use Rattle.ilk_base.proofs.ListTests.{list_all-alike, list_all-flat_map}
 use Rattle.ilk_ir.specs.Tree.{tree_holds}
 use Rattle.ilk_plant.specs.Network.{contains_section}
 use Rattle.ilk_plant.specs.Plant.{PlantLists}
@@ -24,11 +23,11 @@ use Rattle.ilk_layout.specs.Image.{image_of}
 use Rattle.ilk_layout.specs.Conditions.{is_listed_point_commanded, is_listed_point_detected, mode_is}
 use Rattle.ilk_layout.proofs.Listed.{is_listed_point_commanded-holds, is_listed_point_detected-holds}
 use Rattle.ilk_layout.proofs.ConditionValues.{mode-holds}
-use Rattle.ilk_invs.specs.Held.{section_on_unreleased_path, route_locked_or_occupied}
+use Rattle.ilk_invs.specs.Held.{section_retained_by}
 use Rattle.ilk_invs.specs.Parts.{conditions_of_each_route}
 use Rattle.ilk_invs.specs.PointFamily.{listed_points_on_path, point_matches_route_mode, v6_points_match_modes_tree}
-use Rattle.ilk_invs.proofs.HeldLaws.{section_on_unreleased_path-holds, route_locked_or_occupied-holds}
-use Rattle.ilk_invs.proofs.PartLaws.{each-route, each_of-holds}
+use Rattle.ilk_invs.proofs.HeldLaws.{section_retained_by-holds}
+use Rattle.ilk_invs.proofs.PartLaws.{each-route, each_of-holds, where-holds}
 use Rattle.ilk_invs.proofs.Tests.{list_all-filter}
 
 pub not-kept : (route : Route) (now : RouteState) (x : ℕ) → contains_section x route.path ≡ false → is_unreleased_on_path route now x ≡ false
@@ -37,80 +36,38 @@ not-kept route now x away = false_from_ne_true (is_unreleased_on_path route now 
 module _ (p : PlantLists) (s : State) (shape : HasShape p s) where
   point_matches_route_mode-holds : (r : ℕ) (route : Route) (now : RouteState) (listed : Listed) →
       slice_get p.routes r ≡ Some route → slice_get s.routes r ≡ Some now →
-      tree_holds (image_of p s) (point_matches_route_mode p r route listed)
+      list_all (tree_holds (image_of p s)) (point_matches_route_mode p r route listed)
       ≡
-      ((not (same_mode now.mode Allocating) || is_point_commanded_as_listed p s listed)
-      &&
-      (not (is_locked_or_occupied now && is_unreleased_on_path route now listed.point)
-      || (is_point_commanded_as_listed p s listed && is_point_detected_as_listed p s listed)))
+      ((if same_mode now.mode Allocating then is_point_commanded_as_listed p s listed else true)
+      && is_point_set_if_locked_or_occupied p s route now listed)
   point_matches_route_mode-holds r route now listed known at =
-      let mode = mode-holds p s shape r now Allocating at in
-      let either_mode = route_locked_or_occupied-holds p s shape r now at in
-      let kept = section_on_unreleased_path-holds p s shape r route now listed.point known at in
+      let retained = section_retained_by-holds p s shape r route now listed.point known at in
       let commanded = is_listed_point_commanded-holds p s shape listed in
-      let lies = is_listed_point_detected-holds p s shape listed in
-      simplified (tree_holds (image_of p s) (mode_is r Allocating))
-      (tree_holds (image_of p s) (route_locked_or_occupied r))
-      (tree_holds (image_of p s) (section_on_unreleased_path r route listed.point))
-      (tree_holds (image_of p s) (is_listed_point_commanded p listed))
-      (tree_holds (image_of p s) (is_listed_point_detected p listed))
-      ∙ ap
-      (λ b. (not b || tree_holds (image_of p s) (is_listed_point_commanded p listed))
-      &&
-      (not
-      (tree_holds (image_of p s) (route_locked_or_occupied r)
-      && tree_holds (image_of p s) (section_on_unreleased_path r route listed.point))
-      ||
-      (tree_holds (image_of p s) (is_listed_point_commanded p listed)
-      && tree_holds (image_of p s) (is_listed_point_detected p listed)))) mode
-      ∙ ap
-      (λ b.
-      (not (same_mode now.mode Allocating)
-      || tree_holds (image_of p s) (is_listed_point_commanded p listed))
-      &&
-      (not (b && tree_holds (image_of p s) (section_on_unreleased_path r route listed.point))
-      ||
-      (tree_holds (image_of p s) (is_listed_point_commanded p listed)
-      && tree_holds (image_of p s) (is_listed_point_detected p listed)))) either_mode
-      ∙ ap
-      (λ b.
-      (not (same_mode now.mode Allocating)
-      || tree_holds (image_of p s) (is_listed_point_commanded p listed))
-      &&
-      (not (is_locked_or_occupied now && b)
-      ||
-      (tree_holds (image_of p s) (is_listed_point_commanded p listed)
-      && tree_holds (image_of p s) (is_listed_point_detected p listed)))) kept
-      ∙ ap (λ b. (not (same_mode now.mode Allocating) || b) && (not (is_locked_or_occupied now && is_unreleased_on_path route now listed.point) || (b && tree_holds (image_of p s) (is_listed_point_detected p listed)))) commanded
-      ∙ ap (λ b. (not (same_mode now.mode Allocating) || is_point_commanded_as_listed p s listed) && (not (is_locked_or_occupied now && is_unreleased_on_path route now listed.point) || (is_point_commanded_as_listed p s listed && b))) lies
+      let allocating = where-holds (image_of p s) (mode_is r Allocating) (is_listed_point_commanded p listed) (same_mode now.mode Allocating)
+      (is_point_commanded_as_listed p s listed) (mode-holds p s shape r now Allocating at) commanded in
+      let set = where-holds (image_of p s) (section_retained_by r route listed.point) (is_listed_point_commanded p listed) (is_locked_or_occupied now && is_unreleased_on_path route now listed.point)
+      (is_point_commanded_as_listed p s listed) retained commanded in
+      let lies = where-holds (image_of p s) (section_retained_by r route listed.point) (is_listed_point_detected p listed) (is_locked_or_occupied now && is_unreleased_on_path route now listed.point)
+      (is_point_detected_as_listed p s listed) retained (is_listed_point_detected-holds p s shape listed) in
+      rw (allocating, set, lies) (joined (if same_mode now.mode Allocating then is_point_commanded_as_listed p s listed else true) (is_locked_or_occupied now && is_unreleased_on_path route now listed.point)
+      (is_point_commanded_as_listed p s listed) (is_point_detected_as_listed p s listed))
     where
-      simplified : (a m k c l : Bool) → ((not a || (c || false)) && ((not (m && (k && true)) || ((c && (l && true)) || false)) && true)) ≡ ((not a || c) && (not (m && k) || (c && l)))
-      simplified true true true true true = refl
-      simplified true true true true false = refl
-      simplified true true true false l = refl
-      simplified true true false true l = refl
-      simplified true true false false l = refl
-      simplified true false k true l = refl
-      simplified true false k false l = refl
-      simplified false true true true true = refl
-      simplified false true true true false = refl
-      simplified false true true false l = refl
-      simplified false true false c l = refl
-      simplified false false k c l = refl
+      joined : (a k c l : Bool) → (a && ((if k then c else true) && ((if k then l else true) && true))) ≡ (a && (if k then c && l else true))
+      joined true true true true = refl
+      joined true true true false = refl
+      joined true true false l = refl
+      joined true false c l = refl
+      joined false k c l = refl
 
   point-of : (r : ℕ) (route : Route) (now : RouteState) (listed : Listed) →
       slice_get p.routes r ≡ Some route → slice_get s.routes r ≡ Some now →
-      (not (contains_section listed.point route.path) || tree_holds (image_of p s) (point_matches_route_mode p r route listed))
+      (not (contains_section listed.point route.path) || list_all (tree_holds (image_of p s)) (point_matches_route_mode p r route listed))
       ≡ (is_point_commanded_if_allocating p s route now listed && is_point_set_if_locked_or_occupied p s route now listed)
   point-of r route now listed known at = by_path (contains_section listed.point route.path) refl
     where
-      on_path : (a m k c l : Bool) → ((not a || c) && (not (m && k) || (c && l))) ≡ ((if a && true then c else true) && (if m && k then c && l else true))
-      on_path true true true c l = refl
-      on_path true true false c l = refl
-      on_path true false k c l = refl
-      on_path false true true c l = refl
-      on_path false true false c l = refl
-      on_path false false k c l = refl
+      on_path : (a c : Bool) → (if a then c else true) ≡ (if a && true then c else true)
+      on_path true c = refl
+      on_path false c = refl
 
       off_path : (a m c l : Bool) → true ≡ ((if a && false then c else true) && (if m && false then l else true))
       off_path true true c l = refl
@@ -118,31 +75,30 @@ module _ (p : PlantLists) (s : State) (shape : HasShape p s) where
       off_path false true c l = refl
       off_path false false c l = refl
 
-      by_path : (b : Bool) → contains_section listed.point route.path ≡ b → (not (contains_section listed.point route.path) || tree_holds (image_of p s) (point_matches_route_mode p r route listed))
+      by_path : (b : Bool) → contains_section listed.point route.path ≡ b → (not (contains_section listed.point route.path) || list_all (tree_holds (image_of p s)) (point_matches_route_mode p r route listed))
           ≡ (is_point_commanded_if_allocating p s route now listed && is_point_set_if_locked_or_occupied p s route now listed)
       by_path true e =
-          rw e (point_matches_route_mode-holds r route now listed known at ∙ on_path (same_mode now.mode Allocating) (is_locked_or_occupied now) (is_unreleased_on_path route now listed.point) (is_point_commanded_as_listed p s listed)
-          (is_point_detected_as_listed p s listed))
+          rw e (point_matches_route_mode-holds r route now listed known at ∙ ap (λ v. v && is_point_set_if_locked_or_occupied p s route now listed) (on_path (same_mode now.mode Allocating) (is_point_commanded_as_listed p s listed)))
       by_path false e =
           let none = not-kept route now listed.point e in
           rw (e, none) (off_path (same_mode now.mode Allocating) (is_locked_or_occupied now) (is_point_commanded_as_listed p s listed) (is_point_commanded_as_listed p s listed && is_point_detected_as_listed p s listed))
 
   v6-of : (r : ℕ) (route : Route) (now : RouteState) → slice_get p.routes r ≡ Some route →
       slice_get s.routes r ≡ Some now →
-      list_all (tree_holds (image_of p s)) (map (point_matches_route_mode p r route) (listed_points_on_path route))
+      list_all (tree_holds (image_of p s)) (flat_map (point_matches_route_mode p r route) (listed_points_on_path route))
       ≡ list_all (λ listed. is_point_commanded_if_allocating p s route now listed && is_point_set_if_locked_or_occupied p s route now listed)
       route.points
   v6-of r route now known at =
-      list_all-map (tree_holds (image_of p s)) (point_matches_route_mode p r route) (listed_points_on_path route)
-      ∙ list_all-filter (λ listed. tree_holds (image_of p s) (point_matches_route_mode p r route listed)) (λ listed. contains_section listed.point route.path) route.points
+      list_all-flat_map (tree_holds (image_of p s)) (point_matches_route_mode p r route) (listed_points_on_path route)
+      ∙ list_all-filter (λ listed. list_all (tree_holds (image_of p s)) (point_matches_route_mode p r route listed)) (λ listed. contains_section listed.point route.path) route.points
       ∙ list_all-alike
       (λ listed. not (contains_section listed.point route.path)
-      || tree_holds (image_of p s) (point_matches_route_mode p r route listed))
+      || list_all (tree_holds (image_of p s)) (point_matches_route_mode p r route listed))
       (λ listed. is_point_commanded_if_allocating p s route now listed && is_point_set_if_locked_or_occupied p s route now listed) route.points
       (λ i listed found. point-of r route now listed known at)
 
   pub v6-law : tree_holds (image_of p s) (v6_points_match_modes_tree p) ≡ meets_v6_points_match_modes p s
   v6-law =
-      each_of-holds (image_of p s) (conditions_of_each_route p (λ r route. map (point_matches_route_mode p r route) (listed_points_on_path route)))
-      ∙ each-route p s shape (image_of p s) (λ r route. map (point_matches_route_mode p r route) (listed_points_on_path route))
+      each_of-holds (image_of p s) (conditions_of_each_route p (λ r route. flat_map (point_matches_route_mode p r route) (listed_points_on_path route)))
+      ∙ each-route p s shape (image_of p s) (λ r route. flat_map (point_matches_route_mode p r route) (listed_points_on_path route))
       (λ route now. list_all (λ listed. is_point_commanded_if_allocating p s route now listed && is_point_set_if_locked_or_occupied p s route now listed) route.points) v6-of

@@ -11,6 +11,21 @@ use Rattle.ilk_plant.specs.Plant.{PlantLists}
 use Rattle.ilk_plant.specs.declared.table.Route.{Route}
 use Rattle.ilk_invs.specs.Parts.{conditions_for_optional_value}
 
+pub form_pushed : (start next : List Form) (form : Form) (t : Tree) → next ≡ start ++ form ∷ [] → tree_of form ≡ t → map tree_of next ≡ map tree_of start ++ t ∷ []
+form_pushed start next form t grown is =
+    ap (map tree_of) grown ∙ map-append tree_of start (form ∷ []) ∙ ap (λ u. map tree_of start ++ u ∷ []) is
+
+pub three_forms_pushed :
+    (start one two three : List Form) (first second third : Form) (t u v : Tree) →
+    one ≡ start ++ first ∷ [] → two ≡ one ++ second ∷ [] → three ≡ two ++ third ∷ [] →
+    tree_of first ≡ t → tree_of second ≡ u → tree_of third ≡ v →
+    map tree_of three ≡ map tree_of start ++ t ∷ u ∷ v ∷ []
+three_forms_pushed start one two three first second third t u v a b c is_t is_u is_v =
+    form_pushed two three third v c is_v
+    ∙ ap (λ ts. ts ++ v ∷ []) (form_pushed one two second u b is_u ∙ ap (λ ts. ts ++ u ∷ []) (form_pushed start one first t a is_t))
+    ∙ append_assoc (map tree_of start ++ t ∷ []) (u ∷ []) (v ∷ [])
+    ∙ append_assoc (map tree_of start) (t ∷ []) (u ∷ v ∷ [])
+
 pub one_form_more : (f : ℕ → Tree) (n : ℕ) (start : List Tree) (now next : List Form) (form : Form) →
     map tree_of now ≡ start ++ map f (range_with_len 0 n) → next ≡ now ++ form ∷ [] → tree_of form ≡ f n →
     map tree_of next ≡ start ++ map f (range_with_len 0 (n + 1))
@@ -56,7 +71,8 @@ all_passing test n xs is i d within =
     let below = passing_within test 0 n i (get_or xs i d) at in
     omega (arith, below)
 
-pub three_pushed : (f : ℕ → Tree) (start one two three first : List Tree) (xs ys : List ℕ) → start ≡ [] → one ≡ start ++ first → two ≡ one ++ map f xs → three ≡ two ++ map f ys → three ≡ first ++ map f (xs ++ ys)
-three_pushed f start one two three first xs ys none a b c =
-    c ∙ ap (λ ts. ts ++ map f ys) (b ∙ ap (λ ts. ts ++ map f xs) (a ∙ ap (λ ts. ts ++ first) none))
-    ∙ append_assoc first (map f xs) (map f ys) ∙ ap (λ ts. first ++ ts) (sym (map-append f xs ys))
+pub three_pushed : (f : ℕ → Tree) (start one two three first : List Tree) (xs ys : List ℕ) → one ≡ start ++ first → two ≡ one ++ map f xs → three ≡ two ++ map f ys → three ≡ start ++ (first ++ map f (xs ++ ys))
+three_pushed f start one two three first xs ys a b c =
+    c ∙ ap (λ ts. ts ++ map f ys) (b ∙ ap (λ ts. ts ++ map f xs) a)
+    ∙ append_assoc (start ++ first) (map f xs) (map f ys) ∙ ap (λ ts. (start ++ first) ++ ts) (sym (map-append f xs ys))
+    ∙ append_assoc start first (map f (xs ++ ys))

@@ -32,10 +32,10 @@ use Rattle.ilk_layout.specs.Occupancy.{occupancy_or_crash}
 use Rattle.ilk_layout.specs.declared.values.Occupancy.TheVariants.{Taken}
 use Rattle.ilk_layout.proofs.Calm.{body-of, occupancy-in, taken-in}
 use Rattle.ilk_layout.proofs.Plants.{body-known}
-use Rattle.ilk_invs.specs.Held.{section_on_unreleased_path, route_locked_or_occupied}
-use Rattle.ilk_invs.specs.Parts.{each_of, conditions_of_each_route, some_of}
+use Rattle.ilk_invs.specs.Held.{section_retained_by}
+use Rattle.ilk_invs.specs.Parts.{conditions_of_each_route, some_of}
 use Rattle.ilk_invs.specs.TrainFamilies.{body_at, head_at, route_retains_at, body_has_route_set_at, route_set_for_head_at, head_has_route_set_at, v7_heads_have_routes_tree, v8_bodies_have_routes_tree}
-use Rattle.ilk_invs.proofs.HeldLaws.{section_on_unreleased_path-holds, route_locked_or_occupied-holds}
+use Rattle.ilk_invs.proofs.HeldLaws.{section_retained_by-holds}
 use Rattle.ilk_invs.proofs.PartLaws.{any-if, each_of-holds, some-route, some_of-holds}
 use Rattle.ilk_invs.proofs.PointLaws.{not-kept}
 use Rattle.ilk_invs.proofs.LedLaws.{body_at-holds, head_at-holds, led-holds}
@@ -47,10 +47,8 @@ module _ (p : PlantLists) (plant : IsPlant p) (s : State) (shape : HasShape p s)
       list_any (tree_holds (image_of p s)) (route_retains_at p d x r route)
       ≡ (route_runs_in_direction p d route && is_locked_or_occupied now && is_unreleased_on_path route now x)
   route_retains_at-holds d x r route now known at =
-      any-if (image_of p s) (each_of (route_locked_or_occupied r ∷ section_on_unreleased_path r route x ∷ [])) (route_runs_in_direction p d route && contains_section x route.path)
-      ∙ ap (λ v. (route_runs_in_direction p d route && contains_section x route.path) && (v && (tree_holds (image_of p s) (section_on_unreleased_path r route x) && true))) (route_locked_or_occupied-holds p s shape r now at)
-      ∙ ap (λ v. (route_runs_in_direction p d route && contains_section x route.path) && (is_locked_or_occupied now && v)) (and-true (tree_holds (image_of p s) (section_on_unreleased_path r route x)) ∙
-      section_on_unreleased_path-holds p s shape r route now x known at)
+      any-if (image_of p s) (section_retained_by r route x) (route_runs_in_direction p d route && contains_section x route.path)
+      ∙ ap (λ v. (route_runs_in_direction p d route && contains_section x route.path) && v) (section_retained_by-holds p s shape r route now x known at)
       ∙ by_path (contains_section x route.path) refl
     where
       with_path : (a b c : Bool) → ((a && true) && (b && c)) ≡ (a && b && c)

@@ -1,4 +1,4 @@
-use Rattle.std.proofs.Common.{◌≡◌, ℕ, ◌+◌, ◌-◌, ◌<◌, ◌≤◌, Bool, true, false, Option, Some, None, List, [], ◌∷◌, ◌++◌, drop, length, map, slice_get, refl, ◌∙◌, ap, arith, if◌then◌else◌}
+use Rattle.std.proofs.Common.{◌≡◌, ℕ, ◌+◌, ◌<◌, ◌≤◌, Bool, true, false, Option, Some, None, List, [], ◌∷◌, ◌++◌, drop, length, map, slice_get, refl, ◌∙◌, ap, arith, if◌then◌else◌}
 use Rattle.std.specs.List.{enumerate_from, flat_map, list_all, range_with_len}
 use Rattle.std.proofs.lemmas.List.Folds.{list_all-append, list_all-map}
 use Rattle.std.proofs.lemmas.Option.{slice_get_within}
@@ -16,8 +16,8 @@ use Rattle.ilk_routes.specs.Claims.{sections_outside_path}
 use Rattle.ilk_layout.specs.Variables.{ranges_of_plant}
 use Rattle.ilk_layout.specs.Conditions.{mode_is, no_train_at, is_released_count, is_seen_count}
 use Rattle.ilk_layout.proofs.Valid.{mode_is-valid, no_train_at-valid, is_released_count-valid, is_seen_count-valid}
-use Rattle.ilk_invs.specs.Held.{section_held_by, route_holds_sections, section_on_unreleased_path, route_locked_or_occupied, rel_below, seen_below}
-use Rattle.ilk_invs.specs.Parts.{conditions_for_optional_value, each_of, conditions_of_each_path_index, conditions_of_each_route, some_of, implication}
+use Rattle.ilk_invs.specs.Held.{path_section_held, section_held_by, section_retained_by, route_holds_sections, section_on_unreleased_path, route_locked_or_occupied, rel_below, seen_below}
+use Rattle.ilk_invs.specs.Parts.{as_one_literal, conditions_for_optional_value, each_of, conditions_of_each_path_index, conditions_of_each_route, some_of, implication}
 use Rattle.ilk_invs.specs.RouteFamilies.{path_vacant}
 
 module _ (p : PlantLists) (plant : IsPlant p) where
@@ -95,7 +95,7 @@ module _ (p : PlantLists) (plant : IsPlant p) where
       let below = (range_within (length route.path + 1) i c at).1 in
       if-valid (contains_section x (drop c route.path)) (is_released_count r c ∷ []) (one-valid (is_released_count r c) (is_released_count-valid p r c route known (omega (arith, below))))))
 
-  route_locked_or_occupied-valid : (r : ℕ) → r < length p.routes → tree_valid (ranges_of_plant p) (route_locked_or_occupied r) ≡ true
+  pub route_locked_or_occupied-valid : (r : ℕ) → r < length p.routes → tree_valid (ranges_of_plant p) (route_locked_or_occupied r) ≡ true
   route_locked_or_occupied-valid r within =
       some_of-valid (mode_is r Free ∷ mode_is r Marked ∷ mode_is r Allocating ∷ [])
       (three-valid (mode_is r Free) (mode_is r Marked) (mode_is r Allocating)
@@ -106,19 +106,24 @@ module _ (p : PlantLists) (plant : IsPlant p) where
   route_holds_sections-valid r within =
       some_of-valid (mode_is r Free ∷ mode_is r Marked ∷ []) (two-valid (mode_is r Free) (mode_is r Marked) (mode_is-valid p r Free within) (mode_is-valid p r Marked within))
 
-  pub is_kept-valid : (r : ℕ) (route : Route) (x : ℕ) → slice_get p.routes r ≡ Some route → tree_valid (ranges_of_plant p) (each_of (route_locked_or_occupied r ∷ section_on_unreleased_path r route x ∷ [])) ≡ true
-  is_kept-valid r route x known =
+  pub section_retained_by-valid : (r : ℕ) (route : Route) (x : ℕ) → slice_get p.routes r ≡ Some route → tree_valid (ranges_of_plant p) (section_retained_by r route x) ≡ true
+  section_retained_by-valid r route x known =
       each_of-valid (route_locked_or_occupied r ∷ section_on_unreleased_path r route x ∷ []) (two-valid (route_locked_or_occupied r) (section_on_unreleased_path r route x) (route_locked_or_occupied-valid r (slice_get_within p.routes r route known))
       (section_on_unreleased_path-valid r route x known))
 
   pub section_held_by-valid : (r : ℕ) (route : Route) (x : ℕ) → slice_get p.routes r ≡ Some route → tree_valid (ranges_of_plant p) (section_held_by r route x) ≡ true
   section_held_by-valid r route x known = by_test (contains_section x (sections_outside_path route))
     where
-      by_test : (b : Bool) → tree_valid (ranges_of_plant p) (if b then route_holds_sections r else each_of (route_holds_sections r ∷ section_on_unreleased_path r route x ∷ [])) ≡ true
+      by_test : (b : Bool) → tree_valid (ranges_of_plant p) (if b then route_holds_sections r else as_one_literal (each_of (route_holds_sections r ∷ section_on_unreleased_path r route x ∷ []))) ≡ true
       by_test true = route_holds_sections-valid r (slice_get_within p.routes r route known)
       by_test false =
           each_of-valid (route_holds_sections r ∷ section_on_unreleased_path r route x ∷ []) (two-valid (route_holds_sections r) (section_on_unreleased_path r route x) (route_holds_sections-valid r (slice_get_within
           p.routes r route known)) (section_on_unreleased_path-valid r route x known))
+
+  pub path_section_held-valid : (r i : ℕ) (route : Route) → slice_get p.routes r ≡ Some route → i < length route.path → tree_valid (ranges_of_plant p) (path_section_held r i) ≡ true
+  path_section_held-valid r i route known less =
+      each_of-valid (route_holds_sections r ∷ rel_below r (i + 1) ∷ []) (two-valid (route_holds_sections r) (rel_below r (i + 1)) (route_holds_sections-valid r (slice_get_within p.routes r route known))
+      (rel_below-valid r (i + 1) route known (omega (arith, less))))
 
   pub path_known : (r : ℕ) (route : Route) (i x : ℕ) → slice_get p.routes r ≡ Some route → slice_get route.path i ≡ Some x → x < length p.sections
   path_known r route i x known at = all-at (λ x. x < length p.sections) route.path i x (plant.routes_known r route known).path at

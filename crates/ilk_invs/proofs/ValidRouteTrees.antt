@@ -1,4 +1,4 @@
-use Rattle.std.proofs.Common.{◌≡◌, ℕ, zero, suc, ◌+◌, ◌-◌, ◌/◌, ◌<◌, ◌≤◌, ◌==◌, Bool, true, false, Some, List, [], ◌∷◌, ◌++◌, drop, length, map, nat_le, slice_get, take, refl, ◌∙◌, arith, if◌then◌else◌}
+use Rattle.std.proofs.Common.{◌≡◌, ℕ, zero, suc, ◌+◌, ◌/◌, ◌<◌, ◌≤◌, ◌==◌, Bool, true, false, Some, List, [], ◌∷◌, ◌++◌, drop, length, map, nat_le, slice_get, take, ◌∙◌, arith, if◌then◌else◌}
 use Rattle.std.specs.List.{enumerate_from, flat_map, list_all, range_with_len}
 use Rattle.std.proofs.lemmas.List.Folds.{list_all-map}
 use Rattle.std.proofs.lemmas.Option.{slice_get_within}
@@ -15,14 +15,14 @@ use Rattle.ilk_layout.specs.Variables.{ranges_of_plant}
 use Rattle.ilk_layout.specs.Conditions.{is_board_aspect, is_listed_point_commanded, is_listed_point_detected, lock_is, mode_is, is_released_count, is_seen_count}
 use Rattle.ilk_layout.proofs.Listed.{is_listed_point_commanded-valid}
 use Rattle.ilk_layout.proofs.Valid.{is_board_aspect-valid, is_listed_point_detected-valid, lock_is-valid, mode_is-valid, is_released_count-valid, is_seen_count-valid}
-use Rattle.ilk_invs.specs.Held.{section_held_by, route_holds_sections, section_on_unreleased_path, route_locked_or_occupied, rel_below, seen_below}
+use Rattle.ilk_invs.specs.Held.{path_section_held, section_held_by, section_retained_by, route_holds_sections, rel_below, seen_below}
 use Rattle.ilk_invs.specs.declared.hold_family.TheConstants.{MAX_ORDERED_HOLDERS}
 use Rattle.ilk_invs.specs.HoldFamilies.{at_most_one_by_halves, at_most_one_in_order, at_most_one_holder, possible_holders, path_lock_matches_seen, held_sections_have_locks, none_before_if_holding, none_holding, not_held_by_both_groups, route_holding, v2_sections_held_once_tree, v3_locks_match_routes_tree}
 use Rattle.ilk_invs.specs.Parts.{each_of, conditions_of_each_path_index, conditions_of_each_route, some_of, implication}
 use Rattle.ilk_invs.specs.PointFamily.{listed_points_on_path, point_matches_route_mode, v6_points_match_modes_tree}
 use Rattle.ilk_invs.specs.RouteFamilies.{counts_are_consistent, open_only_for_route, path_vacant, v1_consistent_counts_tree, v4_allocating_paths_vacant_tree, v5_open_needs_locked_tree}
 use Rattle.ilk_routes.proofs.Shape.{beside-known}
-use Rattle.ilk_invs.proofs.ValidParts.{conditions_for_optional_value-valid, each_of-valid, flat_map-valid, section_held_by-valid, if-valid, route_holds_sections-valid, is_kept-valid, joined-valid, map-valid, more-valid, one-valid, path_known, path_vacant-valid, places-valid, rel_below-valid, routes-valid, seen_below-valid, some_of-valid, three-valid, two-valid, implication-valid}
+use Rattle.ilk_invs.proofs.ValidParts.{conditions_for_optional_value-valid, each_of-valid, flat_map-valid, section_held_by-valid, if-valid, route_holds_sections-valid, joined-valid, map-valid, more-valid, one-valid, path_known, path_section_held-valid, path_vacant-valid, places-valid, rel_below-valid, routes-valid, section_retained_by-valid, seen_below-valid, some_of-valid, three-valid, two-valid, implication-valid}
 
 module _ (p : PlantLists) (plant : IsPlant p) where
   pub v1-valid : tree_valid (ranges_of_plant p) (v1_consistent_counts_tree p) ≡ true
@@ -113,35 +113,28 @@ module _ (p : PlantLists) (plant : IsPlant p) where
 
   pub v3-valid : tree_valid (ranges_of_plant p) (v3_locks_match_routes_tree p) ≡ true
   v3-valid =
-      each_of-valid p plant (conditions_of_each_route p (λ r route. held_sections_have_locks p r route ∷ [])) (routes-valid p plant (λ r route. held_sections_have_locks p r route ∷ []) (λ r route known.
-      one-valid p plant (held_sections_have_locks p r route) (implication-valid p plant (route_holds_sections r)
-      (each_of
-      (conditions_of_each_path_index route (path_lock_matches_seen p r)
-      ++ map (λ x. lock_is p x LockedLock) (sections_outside_path route)))
-      (route_holds_sections-valid p plant r (slice_get_within p.routes r route known))
-      (each_of-valid p plant
-      (conditions_of_each_path_index route (path_lock_matches_seen p r)
-      ++ map (λ x. lock_is p x LockedLock) (sections_outside_path route)) (joined-valid p plant
-      (conditions_of_each_path_index route (path_lock_matches_seen p r))
-      (map (λ x. lock_is p x LockedLock) (sections_outside_path route))
+      each_of-valid p plant (conditions_of_each_route p (held_sections_have_locks p)) (routes-valid p plant (held_sections_have_locks p) (λ r route known.
+      joined-valid p plant (conditions_of_each_path_index route (path_lock_matches_seen p r))
+      (map (λ x. implication (route_holds_sections r) (lock_is p x LockedLock)) (sections_outside_path route))
       (places-valid p plant route (path_lock_matches_seen p r) (λ i x at. of_place r route i x known at (slice_get_within route.path i x at)))
-      (map-valid p plant (λ x. lock_is p x LockedLock) (sections_outside_path route) (λ i x at. lock_is-valid p x LockedLock (beside-known p route (plant.routes_known r route known) i x at))))))))
+      (map-valid p plant (λ x. implication (route_holds_sections r) (lock_is p x LockedLock)) (sections_outside_path route) (λ i x at.
+      implication-valid p plant (route_holds_sections r) (lock_is p x LockedLock)
+      (route_holds_sections-valid p plant r (slice_get_within p.routes r route known))
+      (lock_is-valid p x LockedLock (beside-known p route (plant.routes_known r route known) i x at))))))
     where
       of_place : (r : ℕ) (route : Route) (i x : ℕ) → slice_get p.routes r ≡ Some route → slice_get route.path i ≡ Some x → i < length route.path → list_all (tree_valid (ranges_of_plant p)) (path_lock_matches_seen p r i x) ≡ true
       of_place r route i x known at less =
-          let rel = rel_below-valid p plant r (i + 1) route known (omega (arith, less)) in
+          let held = path_section_held-valid p plant r i route known less in
           let seen = seen_below-valid p plant r (i + 1) route known (omega (arith, less)) in
           let inside = path_known p plant r route i x known at in
-          two-valid p plant (some_of (negation (rel_below r (i + 1)) ∷ negation (seen_below r (i + 1)) ∷ lock_is p x LockedLock ∷ [])) (some_of (negation (rel_below r (i + 1)) ∷ seen_below r (i + 1) ∷ lock_is p x UsedLock ∷ []))
-          (some_of-valid p plant
-          (negation (rel_below r (i + 1)) ∷ negation (seen_below r (i + 1)) ∷ lock_is p x LockedLock
-          ∷ [])
-          (three-valid p plant (negation (rel_below r (i + 1))) (negation (seen_below r (i + 1)))
-          (lock_is p x LockedLock) rel seen (lock_is-valid p x LockedLock inside)))
-          (some_of-valid p plant
-          (negation (rel_below r (i + 1)) ∷ seen_below r (i + 1) ∷ lock_is p x UsedLock ∷ [])
-          (three-valid p plant (negation (rel_below r (i + 1))) (seen_below r (i + 1))
-          (lock_is p x UsedLock) rel seen (lock_is-valid p x UsedLock inside)))
+          two-valid p plant (some_of (negation (path_section_held r i) ∷ negation (seen_below r (i + 1)) ∷ lock_is p x LockedLock ∷ []))
+          (some_of (negation (path_section_held r i) ∷ seen_below r (i + 1) ∷ lock_is p x UsedLock ∷ []))
+          (some_of-valid p plant (negation (path_section_held r i) ∷ negation (seen_below r (i + 1)) ∷ lock_is p x LockedLock ∷ [])
+          (three-valid p plant (negation (path_section_held r i)) (negation (seen_below r (i + 1)))
+          (lock_is p x LockedLock) held seen (lock_is-valid p x LockedLock inside)))
+          (some_of-valid p plant (negation (path_section_held r i) ∷ seen_below r (i + 1) ∷ lock_is p x UsedLock ∷ [])
+          (three-valid p plant (negation (path_section_held r i)) (seen_below r (i + 1))
+          (lock_is p x UsedLock) held seen (lock_is-valid p x UsedLock inside)))
 
   pub v4-valid : tree_valid (ranges_of_plant p) (v4_allocating_paths_vacant_tree p) ≡ true
   v4-valid =
@@ -172,22 +165,17 @@ module _ (p : PlantLists) (plant : IsPlant p) where
 
   pub v6-valid : tree_valid (ranges_of_plant p) (v6_points_match_modes_tree p) ≡ true
   v6-valid =
-      each_of-valid p plant (conditions_of_each_route p (λ r route. map (point_matches_route_mode p r route) (listed_points_on_path route))) (routes-valid p plant (λ r route. map (point_matches_route_mode p r route)
+      each_of-valid p plant (conditions_of_each_route p (λ r route. flat_map (point_matches_route_mode p r route) (listed_points_on_path route))) (routes-valid p plant (λ r route. flat_map (point_matches_route_mode p r route)
       (listed_points_on_path route)) (λ r route known.
-      map-valid p plant (point_matches_route_mode p r route) (listed_points_on_path route) (λ i listed at. of_point r route listed known)))
+      flat_map-valid p plant (point_matches_route_mode p r route) (listed_points_on_path route) (λ i listed at. of_point r route listed known)))
     where
-      of_point : (r : ℕ) (route : Route) (listed : Listed) → slice_get p.routes r ≡ Some route → tree_valid (ranges_of_plant p) (point_matches_route_mode p r route listed) ≡ true
+      of_point : (r : ℕ) (route : Route) (listed : Listed) → slice_get p.routes r ≡ Some route → list_all (tree_valid (ranges_of_plant p)) (point_matches_route_mode p r route listed) ≡ true
       of_point r route listed known =
           let commanded = is_listed_point_commanded-valid p listed in
-          let set = each_of-valid p plant (is_listed_point_commanded p listed ∷ is_listed_point_detected p listed ∷ []) (two-valid p plant (is_listed_point_commanded p listed) (is_listed_point_detected p listed) commanded
-          (is_listed_point_detected-valid p listed)) in
-          each_of-valid p plant
-          (implication (mode_is r Allocating) (is_listed_point_commanded p listed)
-          ∷ implication (each_of (route_locked_or_occupied r ∷ section_on_unreleased_path r route listed.point ∷ []))
-          (each_of (is_listed_point_commanded p listed ∷ is_listed_point_detected p listed ∷ [])) ∷ [])
-          (two-valid p plant (implication (mode_is r Allocating) (is_listed_point_commanded p listed))
-          (implication (each_of (route_locked_or_occupied r ∷ section_on_unreleased_path r route listed.point ∷ []))
-          (each_of (is_listed_point_commanded p listed ∷ is_listed_point_detected p listed ∷ [])))
+          let retained = section_retained_by-valid p plant r route listed.point known in
+          three-valid p plant (implication (mode_is r Allocating) (is_listed_point_commanded p listed))
+          (implication (section_retained_by r route listed.point) (is_listed_point_commanded p listed))
+          (implication (section_retained_by r route listed.point) (is_listed_point_detected p listed))
           (implication-valid p plant (mode_is r Allocating) (is_listed_point_commanded p listed) (mode_is-valid p r Allocating (slice_get_within p.routes r route known)) commanded)
-          (implication-valid p plant (each_of (route_locked_or_occupied r ∷ section_on_unreleased_path r route listed.point ∷ [])) (each_of (is_listed_point_commanded p listed ∷ is_listed_point_detected p listed ∷ []))
-          (is_kept-valid p plant r route listed.point known) set))
+          (implication-valid p plant (section_retained_by r route listed.point) (is_listed_point_commanded p listed) retained commanded)
+          (implication-valid p plant (section_retained_by r route listed.point) (is_listed_point_detected p listed) retained (is_listed_point_detected-valid p listed))

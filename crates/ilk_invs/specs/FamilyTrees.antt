@@ -1,6 +1,7 @@
 -- The nine families of the invariant as conditions on the values of a plant's variables. Each is an
--- And of instances: for a route, a board, a route and one of its boards or points, or a section and
--- a direction. In V2 an instance is for a section and one route, or two halves of its routes.
+-- And of instances: for a route, a board, a route and one of its sections, boards or points, or a
+-- section and a direction. In V2 an instance is for a section and one route, or two halves of its
+-- routes.
 use Rattle.std.specs.Prelude.{ℕ, ◌-◌, List, [], ◌∷◌, slice_get, unwrap_or}
 use Rattle.ilk_ir.specs.Tree.{Tree, no}
 use Rattle.ilk_plant.specs.Plant.{PlantLists}

@@ -1,7 +1,7 @@
 -- Runs of events that a query asks for correspond to runs of rules that it asks for.
 use Rattle.std.proofs.Common.{◌≡◌, ℕ, zero, suc, ◌+◌, ◌≤◌, true, not, ◌&&◌, Some, List, [], ◌∷◌, ◌++◌, length, map, slice_get, take, refl, sym, ap, ◌∙◌, arith}
 use Rattle.std.specs.Prelude.{is_some, is_none, option_and_then}
-use Rattle.std.specs.List.{flat_map, list_all}
+use Rattle.std.specs.List.{list_all}
 use Rattle.std.proofs.lemmas.Bool.{and_from, and_parts}
 use Rattle.std.proofs.lemmas.List.Folds.{list_all-append}
 use Rattle.std.proofs.lemmas.Option.{same_Some}
@@ -10,7 +10,7 @@ use Rattle.ilk_base.proofs.Options.{bind_some, mapped-Some, some-and}
 use Rattle.ilk_base.proofs.Lists.{item_at, take-next}
 use Rattle.ilk_base.proofs.Tested.{list_all-weaken}
 use Rattle.ilk_ir.specs.System.{PlainSystem, after_rule_number}
-use Rattle.ilk_ir.specs.Tree.{all_of, negation, tree_holds, trees_from_list}
+use Rattle.ilk_ir.specs.Tree.{Tree, all_of, each_holds, negation, tree_holds, trees_from_list}
 use Rattle.ilk_plant.specs.Plant.{PlantLists}
 use Rattle.ilk_plant.specs.Shape.{HasShape}
 use Rattle.ilk_plant.specs.Start.{start}
@@ -108,12 +108,22 @@ module _ (p : PlantLists) (steps : RulesStepLikeEvents p) (g : PlainGoal) (goal 
   IsBeginning (Breach n) s = s ≡ start p
   IsBeginning (Step n) s = HasShape p s
 
-  wellformed-first : (n : ℕ) (lists : List (List ℕ)) (more : List CopyDemand) → n ≤ length lists → list_all (demand_is_met_by_run lists) (demands_form_holds_below_copy g.wellformed n ++ more) ≡ true → list_all (form_holds_for_values g.wellformed)
-      (take n lists) ≡ true
-  wellformed-first n lists more within met =
-      sym (below-met lists g.wellformed n within)
-      ∙ (and_parts (list_all (demand_is_met_by_run lists) (demands_form_holds_below_copy g.wellformed n)) (list_all (demand_is_met_by_run lists) more)
-      (sym (list_all-append (demand_is_met_by_run lists) (demands_form_holds_below_copy g.wellformed n) more) ∙ met)).0
+  form-first : (form : Tree) (n : ℕ) (lists : List (List ℕ)) (more : List CopyDemand) → n ≤ length lists →
+      list_all (demand_is_met_by_run lists) (demands_form_holds_below_copy form n ++ more) ≡ true →
+      list_all (form_holds_for_values form) (take n lists) ≡ true
+  form-first form n lists more within met =
+      sym (below-met lists form n within)
+      ∙ (and_parts (list_all (demand_is_met_by_run lists) (demands_form_holds_below_copy form n)) (list_all (demand_is_met_by_run lists) more)
+      (sym (list_all-append (demand_is_met_by_run lists) (demands_form_holds_below_copy form n) more) ∙ met)).0
+
+  kept-first : (n : ℕ) (lists : List (List ℕ)) (more : List CopyDemand) → n ≤ length lists →
+      list_all (demand_is_met_by_run lists) (demands_form_holds_below_copy (all_of (trees_from_list (g.wellformed ∷ g.families))) n ++ more) ≡ true →
+      list_all (form_holds_for_values g.wellformed) (take n lists) ≡ true
+  kept-first n lists more within met =
+      let all = all_of (trees_from_list (g.wellformed ∷ g.families)) in
+      list_all-weaken (form_holds_for_values all) (form_holds_for_values g.wellformed)
+      (λ values holds. (and_parts (form_holds_for_values g.wellformed values) (each_holds values (trees_from_list g.families)) holds).0)
+      (take n lists) (form-first all n lists more within met)
 
   record Led (q : Wanted) (s : State) (rules : List ℕ) : Type 0 where
     events : List Event
@@ -150,7 +160,7 @@ module _ (p : PlantLists) (steps : RulesStepLikeEvents p) (g : PlainGoal) (goal 
       let size = run-many (system_of_plant p) (image_of p s) rules w.run w.is in
       let count = w.many in
       let rest = (and_parts (demand_is_met_by_run w.run (demand_form_holds_in_copy 0 g.start)) (list_all (demand_is_met_by_run w.run) (demands_form_holds_below_copy g.wellformed n ++ demand_form_holds_in_copy n g.hazard ∷ [])) w.met).1 in
-      let l = led (Hazard n) s rules shape w (wellformed-first n w.run (demand_form_holds_in_copy n g.hazard ∷ []) (omega arith) rest) in
+      let l = led (Hazard n) s rules shape w (form-first g.wellformed n w.run (demand_form_holds_in_copy n g.hazard ∷ []) (omega arith) rest) in
       let many = l.many in
       let end = item_at l.states n (omega arith) in
       let parts = and_parts _ _ (sym (hazard-met p steps g goal n l.states s end.0 l.shaped l.first end.1 (omega arith)) ∙ l.met) in
@@ -163,7 +173,7 @@ module _ (p : PlantLists) (steps : RulesStepLikeEvents p) (g : PlainGoal) (goal 
       let count = w.many in
       let broken : CopyDemand = demand_form_fails_in_copy n (all_of (trees_from_list g.families)) in
       let rest = (and_parts (demand_is_met_by_run w.run (demand_form_holds_in_copy 0 g.start)) (list_all (demand_is_met_by_run w.run) (demands_form_holds_below_copy g.wellformed (n + 1) ++ broken ∷ [])) w.met).1 in
-      let well = wellformed-first (n + 1) w.run (broken ∷ []) (omega arith) rest in
+      let well = form-first g.wellformed (n + 1) w.run (broken ∷ []) (omega arith) rest in
       let found = item_at w.run n (omega arith) in
       let fewer =
       (and_parts (list_all (form_holds_for_values g.wellformed) (take n w.run)) (form_holds_for_values g.wellformed found.0)
@@ -183,11 +193,8 @@ module _ (p : PlantLists) (steps : RulesStepLikeEvents p) (g : PlainGoal) (goal 
       let w = wants (system_of_plant p) g (Step n) (image_of p s) rules wanted in
       let size = run-many (system_of_plant p) (image_of p s) rules w.run w.is in
       let count = w.many in
-      let left : CopyDemand = demand_form_fails_in_copy n (all_of (trees_from_list (negation g.hazard ∷ g.families))) in
-      let families : List CopyDemand = flat_map (λ form. demands_form_holds_below_copy form n) g.families in
-      let before = (and_parts (list_all (demand_is_met_by_run w.run) (demands_form_holds_below_copy g.wellformed n ++ families)) (list_all (demand_is_met_by_run w.run) (left ∷ []))
-      (sym (list_all-append (demand_is_met_by_run w.run) (demands_form_holds_below_copy g.wellformed n ++ families) (left ∷ [])) ∙ w.met)).0 in
-      let l = led (Step n) s rules shape w (wellformed-first n w.run families (omega arith) before) in
+      let broken : CopyDemand = demand_form_fails_in_copy n (all_of (trees_from_list (negation g.hazard ∷ g.families))) in
+      let l = led (Step n) s rules shape w (kept-first n w.run (broken ∷ []) (omega arith) w.met) in
       let many = l.many in
       let end = item_at l.states n (omega arith) in
       let leaves : first_breaks_invariant_at p n l.states ≡ true = sym (step-met p steps g goal n l.states end.0 l.shaped end.1 (omega arith)) ∙ l.met in
@@ -222,15 +229,8 @@ module _ (p : PlantLists) (steps : RulesStepLikeEvents p) (g : PlainGoal) (goal 
       let w = wants (system_of_plant p) g (Step (suc n)) first rules wanted in
       let size = run-many (system_of_plant p) first rules w.run w.is in
       let count = w.many in
-      let left : CopyDemand = demand_form_fails_in_copy (suc n) (all_of (trees_from_list (negation g.hazard ∷ g.families))) in
-      let families : List CopyDemand = flat_map (λ form. demands_form_holds_below_copy form (suc n)) g.families in
-      let before =
-      (and_parts (list_all (demand_is_met_by_run w.run) (demands_form_holds_below_copy g.wellformed (suc n) ++ families))
-      (list_all (demand_is_met_by_run w.run) (left ∷ []))
-      (sym
-      (list_all-append (demand_is_met_by_run w.run) (demands_form_holds_below_copy g.wellformed (suc n) ++ families)
-      (left ∷ [])) ∙ w.met)).0 in
-      let well = wellformed-first (suc n) w.run families (omega arith) before in
+      let broken : CopyDemand = demand_form_fails_in_copy (suc n) (all_of (trees_from_list (negation g.hazard ∷ g.families))) in
+      let well = kept-first (suc n) w.run (broken ∷ []) (omega arith) w.met in
       let begin = run-begins first rules w.run w.is in
       let here : list_all (form_holds_for_values g.wellformed) (first ∷ take n begin.0) ≡ true = ap (λ (u : List (List ℕ)). list_all (form_holds_for_values g.wellformed) (take (suc n) u)) (sym begin.1) ∙ well in
       (goal.wellformed first w.in_range).0 (and_parts (form_holds_for_values g.wellformed first) (list_all (form_holds_for_values g.wellformed) (take n begin.0)) here).0

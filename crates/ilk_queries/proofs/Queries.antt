@@ -1,9 +1,9 @@
 -- A query's demands on values and rules are its demands on states and events.
-use Rattle.std.proofs.Common.{◌≡◌, ℕ, zero, suc, ◌+◌, ◌≤◌, Bool, true, false, not, ◌&&◌, Option, Some, None, List, [], ◌∷◌, ◌++◌, length, map, slice_get, take, refl, sym, subst, ap, ◌∙◌}
+use Rattle.std.proofs.Common.{◌≡◌, ℕ, zero, suc, ◌+◌, ◌≤◌, true, not, ◌&&◌, Option, Some, None, List, [], ◌∷◌, ◌++◌, length, map, slice_get, take, refl, sym, subst, ap, ◌∙◌}
 use Rattle.std.specs.Prelude.{is_some, is_none}
-use Rattle.std.specs.List.{flat_map, list_all}
+use Rattle.std.specs.List.{list_all}
 use Rattle.std.proofs.lemmas.List.Folds.{list_all-append}
-use Rattle.std.proofs.lemmas.List.{length-map, take-map}
+use Rattle.std.proofs.lemmas.List.{length-map}
 use Rattle.std.proofs.lemmas.Option.{same_Some, slice_get-map}
 use Rattle.std.proofs.Math.Bool.{and-true}
 use Rattle.ilk_ir.specs.Tree.{all_of, negation, tree_holds, trees_from_list}
@@ -18,8 +18,8 @@ use Rattle.ilk_unroll.specs.Run.{demand_is_met_by_run}
 use Rattle.ilk_unroll.specs.declared.queries.Wanted.TheVariants.{Hazard, Breach, Step}
 use Rattle.ilk_queries.specs.Asked.{first_breaks_invariant_at, meets_invariant}
 use Rattle.ilk_queries.specs.Lifting.{AllHaveShape, GoalFormsMatchPlant, RulesStepLikeEvents, form_holds_for_values, state_has_no_hazard}
-use Rattle.ilk_queries.proofs.Demands.{all-below-met, all-hold, below-met, fails-met, holds-met, swapped}
-use Rattle.ilk_queries.proofs.Walks.{wellformed-before}
+use Rattle.ilk_queries.proofs.Demands.{all-hold, below-met, fails-met, holds-met}
+use Rattle.ilk_queries.proofs.Walks.{wellformed-before, wellformed-state}
 use Rattle.ilk_model.specs.Meets.{meets_all_families}
 
 pub shaped-at : (p : PlantLists) (states : List State) (n : ℕ) (t : State) → AllHaveShape p states → slice_get states n ≡ Some t → HasShape p t
@@ -47,43 +47,39 @@ module _ (p : PlantLists) (steps : RulesStepLikeEvents p) (g : PlainGoal) (goal 
       ∙ ap (λ b. b && (demand_is_met_by_run lists (demand_form_holds_in_copy n g.hazard) && true)) below
       ∙ ap (λ b. list_all (state_has_no_hazard p) (take n states) && b) (and-true _ ∙ end))
 
-  families-before : (n : ℕ) (states : List State) → AllHaveShape p states →
-      (list_all (state_has_no_hazard p) (take n states)
-      && list_all (λ values. list_all (tree_holds values) g.families) (map (image_of p) (take n states)))
-      ≡ list_all (meets_invariant p) (take n states)
-  families-before zero states shaped = refl
-  families-before (suc n) [] shaped = refl
-  families-before (suc n) (s ∷ states) shaped = four (state_has_no_hazard p s) _ _ _
-      ∙ ap
-      (λ b. b
-      &&
-      (list_all (state_has_no_hazard p) (take n states)
-      && list_all (λ values. list_all (tree_holds values) g.families)
-      (map (image_of p) (take n states))))
-      (here s shaped.0)
-      ∙ ap (λ b. meets_invariant p s && b) (families-before n states shaped.1)
+  families-if-safe : (t : State) → HasShape p t → (state_has_no_hazard p t && list_all (tree_holds (image_of p t)) g.families) ≡ meets_invariant p t
+  families-if-safe t shape = by_hazard (hazard p t) refl
     where
-      four : (a b c d : Bool) → ((a && b) && (c && d)) ≡ ((a && c) && (b && d))
-      four true true c d = refl
-      four true false true d = refl
-      four true false false d = refl
-      four false b c d = refl
+      by_hazard : (o : Option HazardAt) → hazard p t ≡ o → (is_none o && list_all (tree_holds (image_of p t)) g.families) ≡ (is_none o && meets_all_families p t)
+      by_hazard None none = goal.kept t shape none
+      by_hazard (Some h) some = refl
 
-      here : (s : State) → HasShape p s → (state_has_no_hazard p s && list_all (tree_holds (image_of p s)) g.families) ≡ meets_invariant p s
-      here s shape = by_hazard (hazard p s) refl
-        where
-          by_hazard : (o : Option HazardAt) → hazard p s ≡ o → (is_none o && list_all (tree_holds (image_of p s)) g.families) ≡ (is_none o && meets_all_families p s)
-          by_hazard None none = goal.kept s shape none
-          by_hazard (Some h) some = refl
+  kept-form : (t : State) → HasShape p t → form_holds_for_values (all_of (trees_from_list (g.wellformed ∷ g.families))) (image_of p t) ≡ meets_invariant p t
+  kept-form t shape =
+      all-hold (image_of p t) (g.wellformed ∷ g.families)
+      ∙ ap (λ b. b && list_all (tree_holds (image_of p t)) g.families) (wellformed-state p steps g goal t shape)
+      ∙ families-if-safe t shape
+
+  kept-before : (n : ℕ) (states : List State) → AllHaveShape p states →
+      list_all (form_holds_for_values (all_of (trees_from_list (g.wellformed ∷ g.families)))) (take n (map (image_of p) states))
+      ≡ list_all (meets_invariant p) (take n states)
+  kept-before zero states shaped = refl
+  kept-before (suc n) [] shaped = refl
+  kept-before (suc n) (s ∷ states) shaped =
+      let here = kept-form s shaped.0 in
+      let rest = kept-before n states shaped.1 in
+      rw (here, rest) refl
 
   invariant-form : (t : State) → HasShape p t → form_holds_for_values (all_of (trees_from_list (negation g.hazard ∷ g.families))) (image_of p t) ≡ meets_invariant p t
   invariant-form t shape =
       all-hold (image_of p t) (negation g.hazard ∷ g.families)
-      ∙ ap (λ b. not b && list_all (tree_holds (image_of p t)) g.families) (goal.hazards t shape) ∙ by_hazard (hazard p t) refl
+      ∙ ap (λ b. not b && list_all (tree_holds (image_of p t)) g.families) (goal.hazards t shape)
+      ∙ ap (λ b. b && list_all (tree_holds (image_of p t)) g.families) (none-or-some (hazard p t))
+      ∙ families-if-safe t shape
     where
-      by_hazard : (o : Option HazardAt) → hazard p t ≡ o → (not (is_some o) && list_all (tree_holds (image_of p t)) g.families) ≡ (is_none o && meets_all_families p t)
-      by_hazard None none = goal.kept t shape none
-      by_hazard (Some h) some = refl
+      none-or-some : (o : Option HazardAt) → not (is_some o) ≡ is_none o
+      none-or-some None = refl
+      none-or-some (Some h) = refl
 
   pub breach-met : (n : ℕ) (states : List State) (s t : State) → AllHaveShape p states →
       slice_get states 0 ≡ Some s → slice_get states n ≡ Some t → n + 1 ≤ length states →
@@ -111,18 +107,13 @@ module _ (p : PlantLists) (steps : RulesStepLikeEvents p) (g : PlainGoal) (goal 
       (Step n)) ≡ first_breaks_invariant_at p n states
   step-met n states t shaped last within =
       let lists : List (List ℕ) = map (image_of p) states in
-      let left : CopyDemand = demand_form_fails_in_copy n (all_of (trees_from_list (negation g.hazard ∷ g.families))) in
-      let families : List CopyDemand = flat_map (λ form. demands_form_holds_below_copy form n) g.families in
+      let all = all_of (trees_from_list (g.wellformed ∷ g.families)) in
+      let broken : CopyDemand = demand_form_fails_in_copy n (all_of (trees_from_list (negation g.hazard ∷ g.families))) in
       let atn : slice_get lists n ≡ Some (image_of p t) = slice_get-map (image_of p) states n ∙ rw last refl in
       let long : n ≤ length lists = subst (λ k. n ≤ k) (sym (length-map states (image_of p))) within in
-      let below = below-met lists g.wellformed n long ∙ wellformed-before p steps g goal n states shaped in
-      let kept : list_all (demand_is_met_by_run lists) families ≡ list_all (λ values. list_all (tree_holds values) g.families) (map (image_of p) (take n states)) =
-      all-below-met lists g.families n long ∙ swapped (take n lists) g.families ∙ ap (list_all (λ values. list_all (tree_holds values) g.families)) (take-map (image_of p) n states) in
+      let below = below-met lists all n long ∙ kept-before n states shaped in
       let end = fails-met lists n (image_of p t) (all_of (trees_from_list (negation g.hazard ∷ g.families))) atn ∙ ap not (invariant-form t (shaped-at p states n t shaped last)) in
       let right : first_breaks_invariant_at p n states ≡ (list_all (meets_invariant p) (take n states) && not (meets_invariant p t)) = rw last refl in
-      list_all-append (demand_is_met_by_run lists) (demands_form_holds_below_copy g.wellformed n ++ families) (left ∷ [])
-      ∙ ap (λ b. b && (demand_is_met_by_run lists left && true))
-      (list_all-append (demand_is_met_by_run lists) (demands_form_holds_below_copy g.wellformed n) families
-      ∙ ap (λ b. b && list_all (demand_is_met_by_run lists) families) below
-      ∙ ap (λ b. list_all (state_has_no_hazard p) (take n states) && b) kept ∙ families-before n states shaped)
+      list_all-append (demand_is_met_by_run lists) (demands_form_holds_below_copy all n) (broken ∷ [])
+      ∙ ap (λ b. b && (demand_is_met_by_run lists broken && true)) below
       ∙ ap (λ b. list_all (meets_invariant p) (take n states) && b) (and-true _ ∙ end) ∙ sym right

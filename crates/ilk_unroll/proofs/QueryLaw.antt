@@ -1,5 +1,5 @@
 -- The satisfying assignments of a query's formula are exactly those of the runs that it asks for.
-use Rattle.std.proofs.Common.{◌≡◌, ℕ, ◌+◌, suc, Bool, true, ◌&&◌, List, [], ◌∷◌, ◌++◌, length, eqb, unwrap_or, Option, Some, refl, sym, ap, ◌∙◌, subst, arith, append_assoc}
+use Rattle.std.proofs.Common.{◌≡◌, ℕ, suc, Bool, true, ◌&&◌, List, [], ◌∷◌, ◌++◌, length, eqb, unwrap_or, Option, Some, refl, sym, ap, ◌∙◌, subst, arith, append_assoc}
 use Rattle.std.specs.List.{list_all}
 use Rattle.std.proofs.lemmas.Bool.{and_from, and_parts, eqb-true, eq-eqb}
 use Rattle.ilk_base.specs.Option.{is_some_and}

@@ -80,7 +80,8 @@ dropped [] (suc j) x rest e = absurd cc
 dropped (y ∷ xs) zero x rest e = (let same : y ≡ x = cc in ap Some same)
 dropped (y ∷ xs) (suc j) x rest e = dropped xs j x rest e
 
-pub few-values : (columns : List VarValueAndBoundLits) (i : ℕ) (column : VarValueAndBoundLits) (rest : List VarValueAndBoundLits) → list_all (λ range. nat_lt range 256) (ranges_of columns) ≡ true → drop i columns ≡ column ∷ rest → length column.values ≤ 255
+pub few-values : (columns : List VarValueAndBoundLits) (i : ℕ) (column : VarValueAndBoundLits) (rest : List VarValueAndBoundLits) →
+    list_all (λ range. nat_lt range 256) (ranges_of columns) ≡ true → drop i columns ≡ column ∷ rest → length column.values ≤ 255
 few-values columns i column rest h split =
     let each = sym (list_all-map (λ (range : ℕ). nat_lt range 256) (λ (c : VarValueAndBoundLits). length c.values) columns) ∙ h in
     let less = ltb-true (length column.values) 256 (list_all-slice_get (λ (c : VarValueAndBoundLits). nat_lt (length c.values) 256) columns i column each (dropped columns i column rest split)) in

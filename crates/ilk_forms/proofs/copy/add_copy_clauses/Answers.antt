@@ -2,7 +2,6 @@ use Rattle.std.proofs.Common.{◌≡◌, ◌∙◌, ◌+◌, ◌-◌, ℕ, List,
 use Rattle.ilk_cnf.specs.Formula.{Formula, with_var_count}
 use Rattle.ilk_cnf.specs.Part.{with_part}
 use Rattle.ilk_cnf.proofs.Extending.{extends-clauses_from_lists}
-use Rattle.ilk_forms.specs.declared.copy.VarValueAndBoundLits.{VarValueAndBoundLits}
 use Rattle.ilk_forms.specs.Copy.{PartWithAllVarLits, copy_part, AreCopyBits}
 use Rattle.ilk_forms.proofs.CopyLaw.{copy-law, ranges_fit-small}
 use Rattle.ilk_forms.proofs.CopyWidth.{class-length, copy-most, no_var_lits-length}

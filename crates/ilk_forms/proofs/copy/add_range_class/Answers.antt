@@ -1,4 +1,4 @@
-use Rattle.std.proofs.Common.{◌≡◌, ◌∙◌, ℕ, List, sym, subst, ap, arith}
+use Rattle.std.proofs.Common.{◌∙◌, ℕ, List, sym, subst, ap, arith}
 use Rattle.ilk_cnf.specs.Formula.{Formula, with_var_count}
 use Rattle.ilk_cnf.specs.Part.{with_part}
 use Rattle.ilk_forms.specs.declared.copy.VarValueAndBoundLits.{VarValueAndBoundLits}

@@ -73,4 +73,3 @@ returns-clause-made c =
     ∙ with_part-and_then h v.part (λ m. (bound_lits_part first range v.lits m).part)
     ∙ ap (λ (k : Formula). with_part k (var_lits_part first range k.vars).part) bits
     ∙ with_part-and_then f (number_part range f.vars) (λ m. (var_lits_part first range m).part)
-
