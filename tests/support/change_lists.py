@@ -33,7 +33,7 @@ WITNESSES = (
     ("A third kind of section", "the linear section", ("inear",),
      r"(?<!= )\bLinear(?:Draft)? down up\b|::Linear \{[^{}]*\} (?:=>|\|)|[\"']linear[\"'](?:, \"point\"|: \(|:\n)"),
     ("A family of the invariant", "the family V9", ("9",), r"[Vv]9"),
-    ("A command, that takes options that there are", "the command drive", ("rive",), r"\bDrive\b|[\"']drive\b"),
+    ("A command with existing options", "the command drive", ("rive",), r"\bDrive\b|[\"']drive\b"),
     ("Another value for a limit", "the depth", ("16", "MAX_DEPTH"),
      r"MAX_DEPTH|(?<=\w )[≤>] 16\b|\b(?:nat_le|le-leb|leb-true) \S+ 16\b|\b(?:at most|1 to) 16\b"),
     ("A new limit, of what a route lists", "the most protecting boards", ("MAX_PROTECTING_BOARDS",),
