@@ -6,7 +6,7 @@ use Rattle.ilk_plant.specs.Plant.{IsPlant, PlantLists}
 use Rattle.ilk_strict.proofs.Strict.{strict_from_list}
 use Rattle.ilk_drive.proofs.Drives.{drive-safe}
 use Rattle.ilk_drive.specs.Scene.{scene_from_text}
-use Rattle.ilk_drive.specs.Told.{EndsWithoutHazard}
+use Rattle.ilk_drive.specs.Told.{IsOutcomeWithoutHazard}
 use Rattle.ilk_drive.specs.declared.outcome.Rest.{Rest}
 use Rattle.ilk_drive.specs.declared.outcome.Rest.TheVariants as rest
 use Rattle.ilk_drive.specs.declared.scene.Scene.{Scene}
@@ -19,7 +19,7 @@ use Rattle.ilk_answers.specs.Drives.{AnswersParsedScenario, drive_end_status}
 use Rattle.ilk_answers.specs.declared.reply.Reply.{Reply}
 use Rattle.ilk_answers.specs.declared.status.Status.TheVariants.{Rejected, Refused as IsRefused, Unsafe}
 
-safe-status : (r : Rest) → EndsWithoutHazard r → drive_end_status r ≢ Unsafe
+safe-status : (r : Rest) → IsOutcomeWithoutHazard r → drive_end_status r ≢ Unsafe
 safe-status rest.Driven safe e = absurd (cc)
 safe-status (rest.Stuck at) safe e = absurd (cc)
 safe-status (rest.Hazard at) safe e = absurd (safe at refl)

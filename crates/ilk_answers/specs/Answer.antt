@@ -118,9 +118,9 @@ AnswersExtraCommand (Rup kind number) p extra made = AnswersRefutationText p kin
 AnswersExtraCommand Drive p extra made = AnswersScenarioText p extra made
 
 -- Holds if a reply answers `make` or `demo` on a generated line of `stations` stations.
-abbrev pub AnswersWithoutConf : ℕ → StationsCommand → Reply → Type 0
-AnswersWithoutConf stations Make made = made ≡ stations_conf_reply stations
-AnswersWithoutConf stations (Demo depth conflicts cert) made = AnswersDemoWithRightVerdict stations depth conflicts made
+abbrev pub AnswersMakeOrDemo : ℕ → StationsCommand → Reply → Type 0
+AnswersMakeOrDemo stations Make made = made ≡ stations_conf_reply stations
+AnswersMakeOrDemo stations (Demo depth conflicts cert) made = AnswersDemoWithRightVerdict stations depth conflicts made
 
 -- Holds if a reply answers a command on plant `p` and an extra input. If the first argument is
 -- false, the input is too long, and the reply has to refuse it by F1.
@@ -148,7 +148,7 @@ abbrev pub IsAnswerTo : Option Command → Option (List ℕ) → Option (List �
 IsAnswerTo None conf extra made = made ≡ reply Usage []
 IsAnswerTo (Some (Conf columns command)) conf extra made =
     IfSome conf (λ bytes. AnswersOnPlantOrRefuses command (plant_or_refusals_of_conf (stages_of columns command) bytes) extra made)
-IsAnswerTo (Some (Stations stations command)) conf extra made = AnswersWithoutConf stations command made
+IsAnswerTo (Some (Stations stations command)) conf extra made = AnswersMakeOrDemo stations command made
 
 -- The plan of a command; without a command nothing is read and no certificate is written.
 abbrev pub command_plan_or_empty : Option Command → CommandPlan

@@ -1,5 +1,5 @@
 ghost use Rattle.std.specs.Prelude.{◌^◌, ◌<◌, ℕ, List, false, IfOk, IsTrue, length};
-ghost use Rattle.ilk_answers.specs.Answer.{AnswersConfCommandWithoutExtra, AnswersExtraCommand, AnswersWithoutConf};
+ghost use Rattle.ilk_answers.specs.Answer.{AnswersConfCommandWithoutExtra, AnswersExtraCommand, AnswersMakeOrDemo};
 ghost use Rattle.ilk_answers.specs.Reader.{ReaderHasReadExtraInput, has_query_within_limits};
 ghost use Rattle.ilk_answers.specs.Reply.{HasAllowedStatusAndCertificate};
 ghost use Rattle.ilk_words.specs.Limits.{within_demo_option_limits, within_plain_option_limits, within_station_limits};
@@ -20,7 +20,7 @@ use ilk_words::{ConfCommand, ConfCommandWithoutExtra, StationsCommand};
 use std::alloc::{AllocError, Global};
 
 /// Returns the reply of `command` on `plant`, for a command that reads only a configuration.
-pub fn answer_without_extra(
+pub fn answer_on_plant_without_extra(
     alloc: Global,
     command: &ConfCommandWithoutExtra,
     plant: &Plant,
@@ -81,7 +81,7 @@ pub fn answer_without_conf(
 ) -> Result<Reply, AllocError>
     requires stations { IsTrue (within_station_limits stations) }
     requires options { IsTrue (within_demo_option_limits command.now) }
-    ensures reply { IfOk result (AnswersWithoutConf stations command.now) }
+    ensures reply { IfOk result (AnswersMakeOrDemo stations command.now) }
     ensures planned { IfOk result
         (HasAllowedStatusAndCertificate (may_certify_stations command.now)) }
 {

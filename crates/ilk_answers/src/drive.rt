@@ -32,7 +32,7 @@ fn driven_reply(alloc: Global, plant: &Plant, driven: Driven) -> Result<Reply, A
     let mut report = drive_end_and_length_line(alloc, plant, rest, events.len())?.into_bytes();
     let run = run_text_from_start(alloc, plant, events)?;
     report.extend_from_slice(run.as_slice())?;
-    Ok(Reply::with_report_bytes(alloc, drive_end_status(rest), report))
+    Ok(Reply::from_status_and_report_bytes(alloc, drive_end_status(rest), report))
 }
 
 /// Returns the reply of `drive` to the scenario `text`: how the simulation ended and its run, or

@@ -5,7 +5,7 @@
 //! `plant_or_refusals_of_conf` turns a configuration into a plant, or into all its refusals
 //! (`checks`, `refusals`). `refuse` is the reply to refusals.
 //!
-//! `answer_without_extra` is the reply of a command without extra input: the verdict (`verify`),
+//! `answer_on_plant_without_extra` is the reply of a command without extra input: the verdict (`verify`),
 //! the table of routes (`table`) or a formula (`export`). `answer` is the reply to a certificate
 //! (`audit`), a run (`replay`), another solver's refutation (`rup`) or a scenario (`drive`).
 //! `answer_without_conf` is the reply of a command that reads no configuration (`made`).
@@ -36,7 +36,7 @@ mod status;
 mod table;
 mod verify;
 
-pub use answering::{answer, answer_without_conf, answer_without_extra};
+pub use answering::{answer, answer_on_plant_without_extra, answer_without_conf};
 pub use configuration::plant_or_refusals_of_conf;
 pub use content::PendingOutput;
 pub use reader::ExtraInputReader;

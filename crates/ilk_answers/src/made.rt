@@ -21,7 +21,7 @@ pub(crate) fn stations_conf_reply(alloc: Global, n: u32) -> Result<Reply, AllocE
 {
     let mut text = stations(alloc, n)?;
     text.push(b'\n')?;
-    Ok(Reply::with_report_bytes(alloc, Status::Good, text))
+    Ok(Reply::from_status_and_report_bytes(alloc, Status::Good, text))
 }
 
 fn demo_verdict_line(

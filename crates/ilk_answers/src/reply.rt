@@ -23,11 +23,11 @@ impl Reply {
     pub fn with_report(alloc: Global, status: Status, report: String) -> Reply
         ensures { result ≡ reply status (string_bytes report) }
     {
-        Reply::with_report_bytes(alloc, status, report.into_bytes())
+        Reply::from_status_and_report_bytes(alloc, status, report.into_bytes())
     }
 
     /// Creates a reply with a report, given as bytes, and no certificate.
-    pub fn with_report_bytes(alloc: Global, status: Status, report: Vec<u8>) -> Reply
+    pub fn from_status_and_report_bytes(alloc: Global, status: Status, report: Vec<u8>) -> Reply
         ensures { result ≡ reply status report.items }
     {
         Reply {

@@ -44,7 +44,7 @@ pub(crate) fn table_reply(alloc: Global, plant: &Plant) -> Result<Reply, AllocEr
         Walks::Routes(table) => {
             let mut text = conf_v2_text_with_table(alloc, plant, &table)?;
             text.push(b'\n')?;
-            Ok(Reply::with_report_bytes(alloc, Status::Good, text))
+            Ok(Reply::from_status_and_report_bytes(alloc, Status::Good, text))
         }
         Walks::TooLong { board } => {
             let line = overlong_way_from_board_line(alloc, board)?;

@@ -28,7 +28,7 @@ use Rattle.ilk_strict.proofs.Invariant.{forever-safe}
 use Rattle.ilk_strict.specs.IsStrict.{IsStrict}
 use Rattle.ilk_drive.specs.Drive.{IsDriveFrom, IsDriveOf, StateAndCommandsLeft, DriveStep, initial_drive_state, is_done_empty_and_free, final_state_outcome, next_step_unless_hazard}
 use Rattle.ilk_drive.specs.Progress.{IsStepOrUnchanged}
-use Rattle.ilk_drive.specs.Told.{IsRunFromStart, EndsWithoutHazard, replay_result_of_outcome}
+use Rattle.ilk_drive.specs.Told.{IsRunFromStart, IsOutcomeWithoutHazard, replay_result_of_outcome}
 use Rattle.ilk_drive.specs.declared.outcome.Driven.{Driven}
 use Rattle.ilk_drive.specs.declared.outcome.Rest.{Rest}
 use Rattle.ilk_drive.specs.declared.outcome.Rest.TheVariants.{Driven as IsDriven, Stuck, Hazard}
@@ -141,7 +141,7 @@ calm-rests : (b : Bool) (n : ℕ) (at : HazardAt) → (if b then IsDriven else S
 calm-rests true n at e = cc
 calm-rests false n at e = cc
 
-pub drive-safe : (p : PlantLists) → IsPlant p → IsStrict p → (scene : List Event) (driven : Driven) → IsDriveOf p scene driven → EndsWithoutHazard driven.rest
+pub drive-safe : (p : PlantLists) → IsPlant p → IsStrict p → (scene : List Event) (driven : Driven) → IsDriveOf p scene driven → IsOutcomeWithoutHazard driven.rest
 drive-safe p plant strict scene driven drives at e =
     let end = ends-at p driven.events (initial_drive_state p scene) driven.rest drives in
     let meets = forever-safe p plant strict driven.events end.last.state end.ran in

@@ -23,5 +23,5 @@ replay_result_of_outcome Driven = NoHazard
 replay_result_of_outcome (Stuck n) = NoHazard
 
 -- Holds if a drive with this result doesn't end in a hazard.
-abbrev pub EndsWithoutHazard : Rest → Type 0
-EndsWithoutHazard rest = (at : HazardAt) → rest ≢ Hazard at
+abbrev pub IsOutcomeWithoutHazard : Rest → Type 0
+IsOutcomeWithoutHazard rest = (at : HazardAt) → rest ≢ Hazard at

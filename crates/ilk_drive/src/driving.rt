@@ -11,7 +11,7 @@ ghost use Rattle.ilk_strict.specs.IsStrict.{IsStrict};
 ghost use Rattle.ilk_drive.specs.Drive.{IsDriveOf, command_step, first_automatic, is_done_empty_and_free, final_state_outcome, next_step_unless_hazard};
 ghost use Rattle.ilk_drive.specs.Progress.{IsStepOrUnchanged, state_after_first_automatic, state_and_commands_left_after};
 ghost use Rattle.ilk_drive.specs.Places.{ContainsEnabledAutomaticIndices, ContainsEnabledAutomaticIndicesExcept, IsAutomaticEnablingGraphOf, IsStateAfterOptionalEvent, IsFirstAutomaticIfAny, IsLowerBoundOf};
-ghost use Rattle.ilk_drive.specs.Told.{IsRunFromStart, EndsWithoutHazard};
+ghost use Rattle.ilk_drive.specs.Told.{IsRunFromStart, IsOutcomeWithoutHazard};
 ghost use Rattle.ilk_drive.specs.declared.limits.TheConstants.{MAX_EVENTS_PER_COMMAND};
 ghost use Rattle.ilk_base.specs.Numbers.{has_number};
 
@@ -254,7 +254,8 @@ pub fn drive(alloc: Global, plant: &Plant, scene: &Row<Event>) -> Result<Driven,
         (run_from_start plant.now driven.events)) }
     ensures few { IfOk result
         (λ driven. length driven.events ≤ MAX_EVENTS_PER_COMMAND * length scene.now) }
-    ensures strict { IsStrict plant.now → IfOk result (λ driven. EndsWithoutHazard driven.rest) }
+    ensures strict { IsStrict plant.now →
+        IfOk result (λ driven. IsOutcomeWithoutHazard driven.rest) }
 {
     plant.prove_is_plant();
     plant.prove_sound_acyclic_drafts();

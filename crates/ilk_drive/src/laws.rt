@@ -10,7 +10,7 @@ ghost use Rattle.ilk_strict.specs.IsStrict.{IsStrict};
 ghost use Rattle.ilk_drive.specs.Drive.{IsDriveOf};
 ghost use Rattle.ilk_drive.specs.Scene.{scene_from_text};
 ghost use Rattle.ilk_drive.specs.SceneText.{HasNoBadLine, IsFirstBadLineOfScene, IsSceneText, IsTextOfScene};
-ghost use Rattle.ilk_drive.specs.Told.{IsRunFromStart, EndsWithoutHazard, replay_result_of_outcome};
+ghost use Rattle.ilk_drive.specs.Told.{IsRunFromStart, IsOutcomeWithoutHazard, replay_result_of_outcome};
 ghost use Rattle.ilk_drive.specs.declared.limits.TheConstants.{MAX_EVENTS_PER_COMMAND};
 ghost use Rattle.ilk_drive.specs.declared.outcome.Driven.{Driven};
 ghost use Rattle.ilk_drive.specs.declared.scene.Scene.TheVariants.{Bad, Scene as IsScene};
@@ -28,7 +28,7 @@ pub fn drives_are_unique_bounded_runs(plant: &Plant)
     ensures few { (scene : List Event) (driven : Driven) → IsDriveOf plant.now scene driven →
         length driven.events ≤ MAX_EVENTS_PER_COMMAND * length scene }
     ensures strict { IsStrict plant.now → (scene : List Event) (driven : Driven) →
-        IsDriveOf plant.now scene driven → EndsWithoutHazard driven.rest }
+        IsDriveOf plant.now scene driven → IsOutcomeWithoutHazard driven.rest }
 {
     plant.prove_is_plant();
     plant.prove_sound_acyclic_drafts();

@@ -25,7 +25,7 @@ use Rattle.ilk_queries.specs.Lifting.{GoalFormsMatchPlant, RulesStepLikeEvents, 
 use Rattle.ilk_queries.proofs.Answered.{first-values, to-asked}
 use Rattle.ilk_queries.proofs.Lifted.{lifted}
 use Rattle.ilk_unroll.specs.Evidence.{HasRun}
-use Rattle.ilk_induct.specs.Right.{IsShortestBreachWithoutHazard, NeitherBreachNorInductive, IsRightSystemVerdict, IsRunOfQuery, IsShortestHazardLength}
+use Rattle.ilk_induct.specs.Right.{IsShortestBreachWithoutHazard, NeitherBreachNorInductive, IsExactSystemVerdict, IsRunOfQuery, IsShortestHazardLength}
 use Rattle.ilk_induct.specs.declared.verdict.Verdict.TheVariants as system
 use Rattle.ilk_engine.specs.Right.{IsRightVerdict, broken_family_after, hazard_after}
 use Rattle.ilk_engine.specs.declared.verdict.Verdict.TheVariants.{Safe, Unsafe, Breach, NotInductive}
@@ -45,7 +45,7 @@ module _ (p : PlantLists) (lead : RulesStepLikeEvents p) (g : PlainGoal) (goal :
     least : IsShortestHazardLength (HasQueriedRun p) depth (length events)
     ends : ends_in_hazard p (start p) events ≡ true
 
-  led-to-hazard : (depth : ℕ) (trace : Trace) → depth ≤ 16 → IsRightSystemVerdict (system_of_plant p) g depth (system.Unsafe trace) → HasLedToHazard depth trace
+  led-to-hazard : (depth : ℕ) (trace : Trace) → depth ≤ 16 → IsExactSystemVerdict (system_of_plant p) g depth (system.Unsafe trace) → HasLedToHazard depth trace
   led-to-hazard depth trace few right =
       let within = right.0.hazard.within in
       let l = lifted p lead g goal (Hazard (length trace.rules)) trace.first trace.rules (le-leb (length trace.rules) 16 (omega arith)) right.1 in
@@ -56,16 +56,16 @@ module _ (p : PlantLists) (lead : RulesStepLikeEvents p) (g : PlainGoal) (goal :
         ends = subst (λ (s : State). ends_in_hazard p s l.events ≡ true) l.run.0 l.run.2;
       }
 
-  pub unsafe-fires : (depth : ℕ) (trace : Trace) → depth ≤ 16 → IsRightSystemVerdict (system_of_plant p) g depth (system.Unsafe trace) → is_some (events_by_rules p trace.rules) ≡ true
+  pub unsafe-fires : (depth : ℕ) (trace : Trace) → depth ≤ 16 → IsExactSystemVerdict (system_of_plant p) g depth (system.Unsafe trace) → is_some (events_by_rules p trace.rules) ≡ true
   unsafe-fires depth trace few right = ap is_some (led-to-hazard depth trace few right).by_rules
 
-  pub unsafe-ends : (depth : ℕ) (trace : Trace) (events : List Event) → depth ≤ 16 → IsRightSystemVerdict (system_of_plant p) g depth (system.Unsafe trace) → events_by_rules p trace.rules ≡ Some events → ends_in_hazard p (start p) events ≡ true
+  pub unsafe-ends : (depth : ℕ) (trace : Trace) (events : List Event) → depth ≤ 16 → IsExactSystemVerdict (system_of_plant p) g depth (system.Unsafe trace) → events_by_rules p trace.rules ≡ Some events → ends_in_hazard p (start p) events ≡ true
   unsafe-ends depth trace events few right by =
       let led = led-to-hazard depth trace few right in
       subst (λ (es : List Event). ends_in_hazard p (start p) es ≡ true) (same_Some led.events events (sym led.by_rules ∙ by)) led.ends
 
   pub unsafe-right : (depth : ℕ) (trace : Trace) (events : List Event) (at : HazardAt) → depth ≤ 16 →
-      IsRightSystemVerdict (system_of_plant p) g depth (system.Unsafe trace) → events_by_rules p trace.rules ≡ Some events →
+      IsExactSystemVerdict (system_of_plant p) g depth (system.Unsafe trace) → events_by_rules p trace.rules ≡ Some events →
       hazard_after p events ≡ Some at → IsRightVerdict p depth (Unsafe events at)
   unsafe-right depth trace events at few right by is =
       let led = led-to-hazard depth trace few right in
@@ -79,7 +79,7 @@ module _ (p : PlantLists) (lead : RulesStepLikeEvents p) (g : PlainGoal) (goal :
     least : IsShortestBreachWithoutHazard (HasQueriedRun p) depth (length events)
     ends : ends_in_breach p (start p) events ≡ true
 
-  led-to-breach : (depth : ℕ) (trace : Trace) → depth ≤ 16 → IsRightSystemVerdict (system_of_plant p) g depth (system.Breach trace) → HasLedToBreach depth trace
+  led-to-breach : (depth : ℕ) (trace : Trace) → depth ≤ 16 → IsExactSystemVerdict (system_of_plant p) g depth (system.Breach trace) → HasLedToBreach depth trace
   led-to-breach depth trace few right =
       let within = right.0.breach.within in
       let l = lifted p lead g goal (BreachQuery (length trace.rules)) trace.first trace.rules (le-leb (length trace.rules) 16 (omega arith)) right.1 in
@@ -90,16 +90,16 @@ module _ (p : PlantLists) (lead : RulesStepLikeEvents p) (g : PlainGoal) (goal :
         ends = subst (λ (s : State). ends_in_breach p s l.events ≡ true) l.run.0 l.run.2;
       }
 
-  pub breach-fires : (depth : ℕ) (trace : Trace) → depth ≤ 16 → IsRightSystemVerdict (system_of_plant p) g depth (system.Breach trace) → is_some (events_by_rules p trace.rules) ≡ true
+  pub breach-fires : (depth : ℕ) (trace : Trace) → depth ≤ 16 → IsExactSystemVerdict (system_of_plant p) g depth (system.Breach trace) → is_some (events_by_rules p trace.rules) ≡ true
   breach-fires depth trace few right = ap is_some (led-to-breach depth trace few right).by_rules
 
-  pub breach-ends : (depth : ℕ) (trace : Trace) (events : List Event) → depth ≤ 16 → IsRightSystemVerdict (system_of_plant p) g depth (system.Breach trace) → events_by_rules p trace.rules ≡ Some events → ends_in_breach p (start p) events ≡ true
+  pub breach-ends : (depth : ℕ) (trace : Trace) (events : List Event) → depth ≤ 16 → IsExactSystemVerdict (system_of_plant p) g depth (system.Breach trace) → events_by_rules p trace.rules ≡ Some events → ends_in_breach p (start p) events ≡ true
   breach-ends depth trace events few right by =
       let led = led-to-breach depth trace few right in
       subst (λ (es : List Event). ends_in_breach p (start p) es ≡ true) (same_Some led.events events (sym led.by_rules ∙ by)) led.ends
 
   pub breach-right : (depth : ℕ) (trace : Trace) (events : List Event) (family : ℕ) → depth ≤ 16 →
-      IsRightSystemVerdict (system_of_plant p) g depth (system.Breach trace) → events_by_rules p trace.rules ≡ Some events →
+      IsExactSystemVerdict (system_of_plant p) g depth (system.Breach trace) → events_by_rules p trace.rules ≡ Some events →
       broken_family_after p events ≡ Some family → IsRightVerdict p depth (Breach events family)
   breach-right depth trace events family few right by is =
       let led = led-to-breach depth trace few right in
@@ -111,10 +111,10 @@ module _ (p : PlantLists) (lead : RulesStepLikeEvents p) (g : PlainGoal) (goal :
   begins-at-image zero trace some run = absurd (omega (arith, some))
   begins-at-image (suc n) trace some run = first-values p lead g goal (Step (suc n)) trace.first trace.rules run
 
-  pub first-in-range : (depth : ℕ) (trace : Trace) → IsRightSystemVerdict (system_of_plant p) g depth (system.NotInductive trace) → in_ranges trace.first (ranges_of_plant p) ≡ true
+  pub first-in-range : (depth : ℕ) (trace : Trace) → IsExactSystemVerdict (system_of_plant p) g depth (system.NotInductive trace) → in_ranges trace.first (ranges_of_plant p) ≡ true
   first-in-range depth trace right = (wants (system_of_plant p) g (Step depth) trace.first trace.rules right.1).in_range
 
-  pub first-wellformed : (depth : ℕ) (trace : Trace) → WellformedIffSafeStateImage p → 0 < depth → IsRightSystemVerdict (system_of_plant p) g depth (system.NotInductive trace) → is_wellformed p trace.first ≡ true
+  pub first-wellformed : (depth : ℕ) (trace : Trace) → WellformedIffSafeStateImage p → 0 < depth → IsExactSystemVerdict (system_of_plant p) g depth (system.NotInductive trace) → is_wellformed p trace.first ≡ true
   first-wellformed depth trace law some right = (law trace.first (first-in-range depth trace right)).1 (begins-at-image depth trace some right.1)
 
   record HasLedOut (depth : ℕ) (trace : Trace) (first : State) : Type 0 where
@@ -128,13 +128,13 @@ module _ (p : PlantLists) (lead : RulesStepLikeEvents p) (g : PlainGoal) (goal :
       let goes = to-asked p lead g goal (Step depth) first trace.rules calm.shape calm.shape here in
       record { events = goes.0; by_rules = goes.1; run = goes.2 }
 
-  pub out-fires : (depth : ℕ) (trace : Trace) (first : State) → IsWellFormedAndSafe p first → image_of p first ≡ trace.first → IsRightSystemVerdict (system_of_plant p) g depth (system.NotInductive trace) →
+  pub out-fires : (depth : ℕ) (trace : Trace) (first : State) → IsWellFormedAndSafe p first → image_of p first ≡ trace.first → IsExactSystemVerdict (system_of_plant p) g depth (system.NotInductive trace) →
       is_some (events_by_rules p trace.rules) ≡ true
   out-fires depth trace first calm image right = ap is_some (led-out depth trace first calm image right.1).by_rules
 
   pub out-right : (depth : ℕ) (trace : Trace) (first : State) (events : List Event) → depth ≤ 16 →
       IsWellFormedAndSafe p first → image_of p first ≡ trace.first →
-      IsRightSystemVerdict (system_of_plant p) g depth (system.NotInductive trace) → events_by_rules p trace.rules ≡ Some events →
+      IsExactSystemVerdict (system_of_plant p) g depth (system.NotInductive trace) → events_by_rules p trace.rules ≡ Some events →
       IsRightVerdict p depth (NotInductive first events)
   out-right depth trace first events few calm image right by =
       let led = led-out depth trace first calm image right.1 in
@@ -142,5 +142,5 @@ module _ (p : PlantLists) (lead : RulesStepLikeEvents p) (g : PlainGoal) (goal :
       let none : NeitherBreachNorInductive (HasQueriedRun p) depth = carried-not (HasRun (system_of_plant p) g) (HasQueriedRun p) up down depth few right.0 in
       (none, subst (λ (es : List Event). IsRunForQuery p (Step depth) first es) same led.run)
 
-  pub safe-right : (depth k : ℕ) → depth ≤ 16 → IsRightSystemVerdict (system_of_plant p) g depth (system.Safe k) → IsRightVerdict p depth (Safe k)
+  pub safe-right : (depth k : ℕ) → depth ≤ 16 → IsExactSystemVerdict (system_of_plant p) g depth (system.Safe k) → IsRightVerdict p depth (Safe k)
   safe-right depth k few right = carried-safe (HasRun (system_of_plant p) g) (HasQueriedRun p) up down depth k few right

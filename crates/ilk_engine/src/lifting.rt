@@ -1,7 +1,7 @@
 ghost use Rattle.std.specs.Prelude.{◌≡◌, ◌<◌, ◌≤◌, ◌⊎◌, IfOk};
 ghost use Rattle.ilk_behave.specs.Behaviour.{system_of_plant};
 ghost use Rattle.ilk_behave.specs.Steps.{SystemMatchesEvents};
-ghost use Rattle.ilk_induct.specs.Right.{IsRightSystemVerdict, SystemVerdictHoldsAtAnyLength};
+ghost use Rattle.ilk_induct.specs.Right.{IsExactSystemVerdict, SystemVerdictHoldsAtAnyLength};
 ghost use Rattle.ilk_induct.specs.declared.verdict.Verdict.TheVariants as system;
 ghost use Rattle.ilk_queries.specs.Goal.{goal_of_plant};
 ghost use Rattle.ilk_queries.specs.Lifting.{GoalFormsMatchPlant};
@@ -26,7 +26,7 @@ fn lift_unsafe(
     requires steps { SystemMatchesEvents plant.now }
     requires goal { GoalFormsMatchPlant plant.now (goal_of_plant plant.now) }
     requires depth { depth ≤ 16 }
-    requires right { IsRightSystemVerdict (system_of_plant plant.now)
+    requires right { IsExactSystemVerdict (system_of_plant plant.now)
         (goal_of_plant plant.now) depth
         (system.Unsafe trace.now) }
     ensures { IfOk result (IsRightVerdictLiftedFrom plant.now depth (system.Unsafe trace.now)) }
@@ -46,7 +46,7 @@ fn lift_breach(
     requires steps { SystemMatchesEvents plant.now }
     requires goal { GoalFormsMatchPlant plant.now (goal_of_plant plant.now) }
     requires depth { depth ≤ 16 }
-    requires right { IsRightSystemVerdict (system_of_plant plant.now)
+    requires right { IsExactSystemVerdict (system_of_plant plant.now)
         (goal_of_plant plant.now) depth
         (system.Breach trace.now) }
     ensures { IfOk result (IsRightVerdictLiftedFrom plant.now depth (system.Breach trace.now)) }
@@ -67,7 +67,7 @@ fn lift_not_inductive(
     requires goal { GoalFormsMatchPlant plant.now (goal_of_plant plant.now) }
     requires some_depth { 0 < depth }
     requires depth { depth ≤ 16 }
-    requires right { IsRightSystemVerdict (system_of_plant plant.now)
+    requires right { IsExactSystemVerdict (system_of_plant plant.now)
         (goal_of_plant plant.now) depth
         (system.NotInductive trace.now) }
     ensures { IfOk result (IsRightVerdictLiftedFrom plant.now depth
@@ -91,7 +91,7 @@ pub(crate) fn lift(
     requires goal { GoalFormsMatchPlant plant.now (goal_of_plant plant.now) }
     requires some_depth { 0 < depth }
     requires depth { depth ≤ 16 }
-    requires right { IsRightSystemVerdict (system_of_plant plant.now)
+    requires right { IsExactSystemVerdict (system_of_plant plant.now)
         (goal_of_plant plant.now) depth
         verdict.now
         ⊎ (verdict.now ≡ system.Spent) }

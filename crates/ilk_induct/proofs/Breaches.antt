@@ -19,7 +19,7 @@ use Rattle.ilk_certificate.specs.Certificate.{IsRefuted}
 use Rattle.ilk_certificate.specs.CertificateText.{total_conflicts}
 use Rattle.ilk_induct.specs.declared.verdict.Verdict.TheVariants.{Unsafe, Breach}
 use Rattle.ilk_unroll.specs.Evidence.{HasRun}
-use Rattle.ilk_induct.specs.Right.{IsRunOfQuery, IsRightSystemVerdict}
+use Rattle.ilk_induct.specs.Right.{IsRunOfQuery, IsExactSystemVerdict}
 use Rattle.ilk_induct.specs.Spent.{LogStepsDerivedAndFresh}
 use Rattle.ilk_induct.specs.Due.{query_with_log, queries_to_query_given_breach, next_hazard_query_or_breach, NoHazardBreachInductionBelow, IsFoundBreachWithoutShorter, QueryFollowsAskedInOrder, IsRightOrSpentVerdict, IsValidContinuation}
 use Rattle.ilk_unroll.proofs.QueryDemands.{wanted-parts}
@@ -57,7 +57,7 @@ endangered s g depth conflicts breach n t log asked left rest d none logged coun
     }
 
 breach-end : (s : PlainSystem) (g : PlainGoal) (depth : ℕ) (t : Trace) → length t.rules ≤ depth → NoHazardBreachInductionBelow s g (depth + 1) (length t.rules) 0 → IsRunOfQuery s g (BreachQuery (length t.rules)) t →
-    IsRightSystemVerdict s g depth (Breach t)
+    IsExactSystemVerdict s g depth (Breach t)
 breach-end s g depth t within known run =
     (record { no_hazard = λ m le. known.no_hazard m (omega arith); breach = record { within = within; so = (t.first, t.rules, run); least = known.no_breach } }, run)
 

@@ -22,7 +22,7 @@ use Rattle.ilk_induct.specs.declared.due.Next.TheVariants.{Ask, End}
 use Rattle.ilk_induct.specs.declared.verdict.Verdict.{Verdict}
 use Rattle.ilk_induct.specs.declared.verdict.Verdict.TheVariants.{Safe, Unsafe, Breach, NotInductive, Spent}
 use Rattle.ilk_unroll.specs.Evidence.{HasRun}
-use Rattle.ilk_induct.specs.Right.{IsRunOfQuery, IsRightSystemVerdict, SystemVerdictHoldsAtAnyLength}
+use Rattle.ilk_induct.specs.Right.{IsRunOfQuery, IsExactSystemVerdict, SystemVerdictHoldsAtAnyLength}
 use Rattle.ilk_induct.specs.Order.{queries_below}
 use Rattle.ilk_induct.specs.Spent.{LogStepsDerivedAndFresh, AskedQueryAllowsNext}
 use Rattle.ilk_induct.specs.Asked.{AreQueriesOfVerdict}
@@ -116,7 +116,7 @@ pub record IsDueAfterAskedQueries (s : PlainSystem) (g : PlainGoal) (depth confl
 
 -- Holds if the verdict is right, or `Spent`, and the queries `asked` lead to it.
 pub record IsRightOrSpentVerdict (s : PlainSystem) (g : PlainGoal) (depth conflicts : ℕ) (verdict : Verdict) (asked : List Asked) : Type 0 where
-  pub right : IsRightSystemVerdict s g depth verdict ⊎ (verdict ≡ Spent)
+  pub right : IsExactSystemVerdict s g depth verdict ⊎ (verdict ≡ Spent)
   pub lasts : SystemVerdictHoldsAtAnyLength s g verdict
   pub queries : AreQueriesOfVerdict s g depth conflicts verdict asked
   pub few : total_conflicts asked ≤ conflicts

@@ -39,12 +39,12 @@ abbrev pub IsRunOfQuery : PlainSystem → PlainGoal → Wanted → Trace → Typ
 IsRunOfQuery s g q t = IsTrue (is_wanted_run s g q t.first t.rules)
 
 -- Holds if a verdict is right for runs of at most `depth` steps. It never holds for `Spent`.
-abbrev pub IsRightSystemVerdict : PlainSystem → PlainGoal → ℕ → Verdict → Type 0
-IsRightSystemVerdict s g depth (Unsafe t) = IsShortestHazardLength (HasRun s g) depth (length t.rules) × IsRunOfQuery s g (Hazard (length t.rules)) t
-IsRightSystemVerdict s g depth (Breach t) = IsShortestBreachWithoutHazard (HasRun s g) depth (length t.rules) × IsRunOfQuery s g (BreachQuery (length t.rules)) t
-IsRightSystemVerdict s g depth (Safe k) = IsLeastSafeInductionLength (HasRun s g) depth k
-IsRightSystemVerdict s g depth (NotInductive t) = NeitherBreachNorInductive (HasRun s g) depth × IsRunOfQuery s g (Step depth) t
-IsRightSystemVerdict s g depth Spent = ⊥
+abbrev pub IsExactSystemVerdict : PlainSystem → PlainGoal → ℕ → Verdict → Type 0
+IsExactSystemVerdict s g depth (Unsafe t) = IsShortestHazardLength (HasRun s g) depth (length t.rules) × IsRunOfQuery s g (Hazard (length t.rules)) t
+IsExactSystemVerdict s g depth (Breach t) = IsShortestBreachWithoutHazard (HasRun s g) depth (length t.rules) × IsRunOfQuery s g (BreachQuery (length t.rules)) t
+IsExactSystemVerdict s g depth (Safe k) = IsLeastSafeInductionLength (HasRun s g) depth k
+IsExactSystemVerdict s g depth (NotInductive t) = NeitherBreachNorInductive (HasRun s g) depth × IsRunOfQuery s g (Step depth) t
+IsExactSystemVerdict s g depth Spent = ⊥
 
 -- Holds if a safe verdict means that runs of any length reach no hazard and break no family. It
 -- always holds for the other verdicts.

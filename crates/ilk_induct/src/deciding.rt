@@ -4,7 +4,7 @@ ghost use Rattle.ilk_unroll.specs.Goal.{plain_goal, goal_valid};
 ghost use Rattle.ilk_certificate.specs.CertificateText.{total_conflicts};
 ghost use Rattle.ilk_induct.specs.Asked.{AreQueriesOfVerdict};
 ghost use Rattle.ilk_induct.specs.Certified.{QueriesProveVerdictIfSafe};
-ghost use Rattle.ilk_induct.specs.Right.{IsRightSystemVerdict, SystemVerdictHoldsAtAnyLength};
+ghost use Rattle.ilk_induct.specs.Right.{IsExactSystemVerdict, SystemVerdictHoldsAtAnyLength};
 
 use crate::ask::{ResponseWithLog, ask};
 use crate::due::{DueQuery, Next, query_or_verdict_after_response};
@@ -36,7 +36,7 @@ pub fn decide(
     requires some_depth { 0 < depth }
     requires depth { depth ≤ 16 }
     ensures right { IfOk result
-        (λ found. IsRightSystemVerdict (plain_system system.now) (plain_goal goal.now) depth
+        (λ found. IsExactSystemVerdict (plain_system system.now) (plain_goal goal.now) depth
         found.verdict
         ⊎ (found.verdict ≡ Verdict.Spent)) }
 

@@ -11,7 +11,7 @@ use Rattle.ilk_plant.specs.declared.draft.SectionDraft.{SectionDraft}
 use Rattle.ilk_plant.specs.declared.network.Dir.{Dir}
 use Rattle.ilk_net_check.specs.declared.ends.ResolvedEnd.{ResolvedEnd}
 use Rattle.ilk_net_check.specs.declared.bits.BitSet256.{BitSet256}
-use Rattle.ilk_net_check.specs.Numbers.{IsMatrixOfTest, matrix_entry_or_false, is_up_neighbour, names, names_no_other, resolved_end, resolved_ends_of_section, ends_of_section, end_not_named_back_once, is_up_end_to, is_named_once_on_side}
+use Rattle.ilk_net_check.specs.Numbers.{IsMatrixOfTest, matrix_entry_or_false, is_up_neighbour, names, names_no_other, resolved_end, resolved_ends_of_section, ends_of_section, end_not_named_back_once, is_up_side_end_naming, is_named_once_on_side}
 use Rattle.ilk_net_check.proofs.Tables.{entry_past}
 use Rattle.ilk_base.proofs.Ranges.{below_or_past}
 use Rattle.ilk_base.proofs.Tested.{count_by-map, list_any-map}
@@ -56,7 +56,7 @@ module _ (net : NetDraft) (all : List (List ResolvedEnd)) (ends_are : all ≡ nu
       any_here (end_not_named_back_once all x) x ∙ (λ i. list_any (λ end. is_some_and (section_named net end.name) (λ y. not (y == x) && not (once_here x y (opposite_direction end.side) i))) (ends_of net x))
 
   next_here : (x y : ℕ) → is_up_neighbour all x y ≡ is_next_up net x y
-  next_here x y = any_here (is_up_end_to y) x
+  next_here x y = any_here (is_up_side_end_naming y) x
 
   leads_here : (n x y : ℕ) → reaches_via_below (is_up_neighbour all) n x y ≡ reaches_via_below (is_next_up net) n x y
   leads_here n x y = λ i. reaches_via_below (λ u v. next_here u v i) n x y

@@ -26,8 +26,8 @@ abbrev pub resolved_ends_of_section : (Name → Option ℕ) → KindDraft → Li
 resolved_ends_of_section number kind = map (resolved_end number) (ends_of_draft kind)
 
 -- Returns whether an end is on the up side and names section `y`.
-abbrev pub is_up_end_to : ℕ → ResolvedEnd → Bool
-is_up_end_to y end = same_direction end.side Up && is_some_and end.section (λ z. z == y)
+abbrev pub is_up_side_end_naming : ℕ → ResolvedEnd → Bool
+is_up_side_end_naming y end = same_direction end.side Up && is_some_and end.section (λ z. z == y)
 
 -- Returns the ends of section `x`, or none if there is no section `x`.
 abbrev pub ends_of_section : List (List ResolvedEnd) → ℕ → List ResolvedEnd
@@ -35,7 +35,7 @@ ends_of_section all x = slice_index_or all x []
 
 -- Returns whether section `x` names section `y` on its up side.
 abbrev pub is_up_neighbour : List (List ResolvedEnd) → ℕ → ℕ → Bool
-is_up_neighbour all x y = list_any (is_up_end_to y) (ends_of_section all x)
+is_up_neighbour all x y = list_any (is_up_side_end_naming y) (ends_of_section all x)
 
 -- Returns whether the flag of number `y` is set.
 abbrev pub has_flag : BitSet256 → ℕ → Bool

@@ -16,4 +16,4 @@ mod rules;
 mod walks;
 
 pub use rules::{check_network, check_network_with_names};
-pub use walks::walk_test_is_exact;
+pub use walks::up_cycle_test_is_exact;

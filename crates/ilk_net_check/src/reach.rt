@@ -1,7 +1,7 @@
 ghost use Rattle.std.specs.Prelude.{ℕ, ◌≡◌, ◌≤◌, ◌<◌, ◌&&◌, ◌||◌, IfOk, length};
 ghost use Rattle.std.specs.List.{list_any};
 ghost use Rattle.ilk_plant.specs.NetworkRules.{reaches_via_below};
-ghost use Rattle.ilk_net_check.specs.Numbers.{IsMatrixOfTest, matrix_entry_or_false, has_flag, is_up_neighbour, is_reachable_or_via_section, is_up_end_to};
+ghost use Rattle.ilk_net_check.specs.Numbers.{IsMatrixOfTest, matrix_entry_or_false, has_flag, is_up_neighbour, is_reachable_or_via_section, is_up_side_end_naming};
 ghost use Rattle.ilk_plant.specs.declared.limits.TheConstants.{MAX_SECTIONS};
 
 use crate::bits::BitSet256;
@@ -27,7 +27,8 @@ pub(crate) fn matrix_entry_or_false(table: &Row<BitSet256>, x: u32, y: u32) -> b
 }
 
 fn with_end(flags: BitSet256, end: &ResolvedEnd) -> BitSet256
-    ensures { (y : ℕ) → y < 256 → has_flag result y ≡ (has_flag flags y || is_up_end_to y end.now) }
+    ensures { (y : ℕ) → y < 256 → has_flag result y
+        ≡ (has_flag flags y || is_up_side_end_naming y end.now) }
 {
     match end.section {
         Some(z) => {
@@ -42,7 +43,7 @@ fn with_end(flags: BitSet256, end: &ResolvedEnd) -> BitSet256
 }
 
 fn next_of(ends: &[ResolvedEnd]) -> BitSet256
-    ensures { (y : ℕ) → y < 256 → has_flag result y ≡ list_any (is_up_end_to y) ends.now }
+    ensures { (y : ℕ) → y < 256 → has_flag result y ≡ list_any (is_up_side_end_naming y) ends.now }
 {
     let mut next = BitSet256::empty();
     for end in ends {

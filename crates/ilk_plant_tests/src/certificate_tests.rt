@@ -3,7 +3,8 @@ ghost use Rattle.std.specs.Prelude.{◌<◌};
 use crate::plants::plant_from_configuration;
 use crate::texts::line;
 use ilk_engine::{
-    CertAudit, CertificateText, Ended, Fed, Found, certificate, decide, lazy_certificate_text,
+    CertAudit, Ended, Fed, Found, CertificateText, certificate, decide,
+    lazy_certificate_text,
 };
 use ilk_plant::Plant;
 use std::alloc::{AllocError, Global};

@@ -21,7 +21,7 @@ use Rattle.ilk_model.specs.declared.event.Event.{Event}
 use Rattle.ilk_layout.specs.Image.{image_of}
 use Rattle.ilk_layout.specs.Laws.{AreImageOfSafeState}
 use Rattle.ilk_behave.specs.Behaviour.{system_of_plant}
-use Rattle.ilk_unroll.specs.Goal.{CopyDemand, PlainGoal, demands_of, demand_form_fails_in_copy, demands_form_holds_below_copy, demand_form_holds_in_copy, step_count}
+use Rattle.ilk_unroll.specs.Goal.{CopyDemand, PlainGoal, demands_of, demand_form_fails_in_copy, form_demands_below_copy, demand_form_holds_in_copy, step_count}
 use Rattle.ilk_unroll.specs.Run.{is_wanted_run, demand_is_met_by_run, run_firing_rules}
 use Rattle.ilk_unroll.specs.declared.queries.Wanted.{Wanted}
 use Rattle.ilk_unroll.specs.declared.queries.Wanted.TheVariants.{Hazard, Breach, Step}
@@ -109,15 +109,15 @@ module _ (p : PlantLists) (steps : RulesStepLikeEvents p) (g : PlainGoal) (goal 
   IsBeginning (Step n) s = HasShape p s
 
   form-first : (form : Tree) (n : ℕ) (lists : List (List ℕ)) (more : List CopyDemand) → n ≤ length lists →
-      list_all (demand_is_met_by_run lists) (demands_form_holds_below_copy form n ++ more) ≡ true →
+      list_all (demand_is_met_by_run lists) (form_demands_below_copy form n ++ more) ≡ true →
       list_all (form_holds_for_values form) (take n lists) ≡ true
   form-first form n lists more within met =
       sym (below-met lists form n within)
-      ∙ (and_parts (list_all (demand_is_met_by_run lists) (demands_form_holds_below_copy form n)) (list_all (demand_is_met_by_run lists) more)
-      (sym (list_all-append (demand_is_met_by_run lists) (demands_form_holds_below_copy form n) more) ∙ met)).0
+      ∙ (and_parts (list_all (demand_is_met_by_run lists) (form_demands_below_copy form n)) (list_all (demand_is_met_by_run lists) more)
+      (sym (list_all-append (demand_is_met_by_run lists) (form_demands_below_copy form n) more) ∙ met)).0
 
   kept-first : (n : ℕ) (lists : List (List ℕ)) (more : List CopyDemand) → n ≤ length lists →
-      list_all (demand_is_met_by_run lists) (demands_form_holds_below_copy (all_of (trees_from_list (g.wellformed ∷ g.families))) n ++ more) ≡ true →
+      list_all (demand_is_met_by_run lists) (form_demands_below_copy (all_of (trees_from_list (g.wellformed ∷ g.families))) n ++ more) ≡ true →
       list_all (form_holds_for_values g.wellformed) (take n lists) ≡ true
   kept-first n lists more within met =
       let all = all_of (trees_from_list (g.wellformed ∷ g.families)) in
@@ -159,7 +159,7 @@ module _ (p : PlantLists) (steps : RulesStepLikeEvents p) (g : PlainGoal) (goal 
       let w = wants (system_of_plant p) g (Hazard n) (image_of p s) rules wanted in
       let size = run-many (system_of_plant p) (image_of p s) rules w.run w.is in
       let count = w.many in
-      let rest = (and_parts (demand_is_met_by_run w.run (demand_form_holds_in_copy 0 g.start)) (list_all (demand_is_met_by_run w.run) (demands_form_holds_below_copy g.wellformed n ++ demand_form_holds_in_copy n g.hazard ∷ [])) w.met).1 in
+      let rest = (and_parts (demand_is_met_by_run w.run (demand_form_holds_in_copy 0 g.start)) (list_all (demand_is_met_by_run w.run) (form_demands_below_copy g.wellformed n ++ demand_form_holds_in_copy n g.hazard ∷ [])) w.met).1 in
       let l = led (Hazard n) s rules shape w (form-first g.wellformed n w.run (demand_form_holds_in_copy n g.hazard ∷ []) (omega arith) rest) in
       let many = l.many in
       let end = item_at l.states n (omega arith) in
@@ -172,7 +172,7 @@ module _ (p : PlantLists) (steps : RulesStepLikeEvents p) (g : PlainGoal) (goal 
       let size = run-many (system_of_plant p) (image_of p s) rules w.run w.is in
       let count = w.many in
       let broken : CopyDemand = demand_form_fails_in_copy n (all_of (trees_from_list g.families)) in
-      let rest = (and_parts (demand_is_met_by_run w.run (demand_form_holds_in_copy 0 g.start)) (list_all (demand_is_met_by_run w.run) (demands_form_holds_below_copy g.wellformed (n + 1) ++ broken ∷ [])) w.met).1 in
+      let rest = (and_parts (demand_is_met_by_run w.run (demand_form_holds_in_copy 0 g.start)) (list_all (demand_is_met_by_run w.run) (form_demands_below_copy g.wellformed (n + 1) ++ broken ∷ [])) w.met).1 in
       let well = form-first g.wellformed (n + 1) w.run (broken ∷ []) (omega arith) rest in
       let found = item_at w.run n (omega arith) in
       let fewer =
@@ -222,8 +222,8 @@ module _ (p : PlantLists) (steps : RulesStepLikeEvents p) (g : PlainGoal) (goal 
       (goal.begins first w.in_range).0 (sym (holds-met w.run 0 first g.start at0) ∙ here)
 
   pub first-values : (q : Wanted) (first rules : List ℕ) → is_wanted_run (system_of_plant p) g q first rules ≡ true → Begins q first
-  first-values (Hazard n) first rules wanted = start-first (Hazard n) first rules (demands_form_holds_below_copy g.wellformed n ++ demand_form_holds_in_copy n g.hazard ∷ []) refl wanted
-  first-values (Breach n) first rules wanted = start-first (Breach n) first rules (demands_form_holds_below_copy g.wellformed (n + 1) ++ demand_form_fails_in_copy n (all_of (trees_from_list g.families)) ∷ []) refl wanted
+  first-values (Hazard n) first rules wanted = start-first (Hazard n) first rules (form_demands_below_copy g.wellformed n ++ demand_form_holds_in_copy n g.hazard ∷ []) refl wanted
+  first-values (Breach n) first rules wanted = start-first (Breach n) first rules (form_demands_below_copy g.wellformed (n + 1) ++ demand_form_fails_in_copy n (all_of (trees_from_list g.families)) ∷ []) refl wanted
   first-values (Step zero) first rules wanted = tt
   first-values (Step (suc n)) first rules wanted =
       let w = wants (system_of_plant p) g (Step (suc n)) first rules wanted in

@@ -8,7 +8,7 @@ use Rattle.ilk_base.proofs.Ranges.{range-more}
 use Rattle.ilk_base.proofs.Lists.{item_at, take-next}
 use Rattle.ilk_ir.specs.Tree.{Tree, all_of, tree_holds, trees_from_list}
 use Rattle.ilk_ir.proofs.Trees.{each_holds-trees_from_list}
-use Rattle.ilk_unroll.specs.Goal.{demand_form_fails_in_copy, demands_form_holds_below_copy, demand_form_holds_in_copy}
+use Rattle.ilk_unroll.specs.Goal.{demand_form_fails_in_copy, form_demands_below_copy, demand_form_holds_in_copy}
 use Rattle.ilk_unroll.specs.Run.{demand_is_met_by_run}
 use Rattle.ilk_queries.specs.Lifting.{form_holds_for_values}
 
@@ -25,7 +25,7 @@ holds-met lists n v form at = ap (λ o. is_some_and o (λ values. tree_holds val
 pub fails-met : (lists : List (List ℕ)) (n : ℕ) (v : List ℕ) (form : Tree) → slice_get lists n ≡ Some v → demand_is_met_by_run lists (demand_form_fails_in_copy n form) ≡ not (form_holds_for_values form v)
 fails-met lists n v form at = ap (λ o. is_some_and o (λ values. not (tree_holds values form))) at
 
-pub below-met : (lists : List (List ℕ)) (form : Tree) (n : ℕ) → n ≤ length lists → list_all (demand_is_met_by_run lists) (demands_form_holds_below_copy form n) ≡ list_all (form_holds_for_values form) (take n lists)
+pub below-met : (lists : List (List ℕ)) (form : Tree) (n : ℕ) → n ≤ length lists → list_all (demand_is_met_by_run lists) (form_demands_below_copy form n) ≡ list_all (form_holds_for_values form) (take n lists)
 below-met lists form n within = list_all-map (demand_is_met_by_run lists) (λ j. demand_form_holds_in_copy j form) (range_with_len 0 n) ∙ counted n within
   where
     counted : (n : ℕ) → n ≤ length lists → list_all (λ j. demand_is_met_by_run lists (demand_form_holds_in_copy j form)) (range_with_len 0 n) ≡ list_all (form_holds_for_values form) (take n lists)

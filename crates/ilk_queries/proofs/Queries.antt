@@ -13,7 +13,7 @@ use Rattle.ilk_plant.specs.declared.state.State.{State}
 use Rattle.ilk_model.specs.Hazard.{hazard}
 use Rattle.ilk_model.specs.declared.hazards.HazardAt.{HazardAt}
 use Rattle.ilk_layout.specs.Image.{image_of}
-use Rattle.ilk_unroll.specs.Goal.{CopyDemand, PlainGoal, demands_of, demand_form_fails_in_copy, demands_form_holds_below_copy, demand_form_holds_in_copy}
+use Rattle.ilk_unroll.specs.Goal.{CopyDemand, PlainGoal, demands_of, demand_form_fails_in_copy, form_demands_below_copy, demand_form_holds_in_copy}
 use Rattle.ilk_unroll.specs.Run.{demand_is_met_by_run}
 use Rattle.ilk_unroll.specs.declared.queries.Wanted.TheVariants.{Hazard, Breach, Step}
 use Rattle.ilk_queries.specs.Asked.{first_breaks_invariant_at, meets_invariant}
@@ -42,8 +42,8 @@ module _ (p : PlantLists) (steps : RulesStepLikeEvents p) (g : PlainGoal) (goal 
       let start = holds-met lists 0 (image_of p s) g.start at0 in
       let below = below-met lists g.wellformed n long ∙ wellformed-before p steps g goal n states shaped in
       let end = holds-met lists n (image_of p t) g.hazard atn ∙ goal.hazards t (shaped-at p states n t shaped last) in
-      ap (λ b. b && list_all (demand_is_met_by_run lists) (demands_form_holds_below_copy g.wellformed n ++ demand_form_holds_in_copy n g.hazard ∷ [])) start
-      ∙ ap (λ b. form_holds_for_values g.start (image_of p s) && b) (list_all-append (demand_is_met_by_run lists) (demands_form_holds_below_copy g.wellformed n) (demand_form_holds_in_copy n g.hazard ∷ [])
+      ap (λ b. b && list_all (demand_is_met_by_run lists) (form_demands_below_copy g.wellformed n ++ demand_form_holds_in_copy n g.hazard ∷ [])) start
+      ∙ ap (λ b. form_holds_for_values g.start (image_of p s) && b) (list_all-append (demand_is_met_by_run lists) (form_demands_below_copy g.wellformed n) (demand_form_holds_in_copy n g.hazard ∷ [])
       ∙ ap (λ b. b && (demand_is_met_by_run lists (demand_form_holds_in_copy n g.hazard) && true)) below
       ∙ ap (λ b. list_all (state_has_no_hazard p) (take n states) && b) (and-true _ ∙ end))
 
@@ -98,8 +98,8 @@ module _ (p : PlantLists) (steps : RulesStepLikeEvents p) (g : PlainGoal) (goal 
       let start = holds-met lists 0 (image_of p s) g.start at0 in
       let below = below-met lists g.wellformed (n + 1) long ∙ wellformed-before p steps g goal (n + 1) states shaped in
       let end = fails-met lists n (image_of p t) (all_of (trees_from_list g.families)) atn ∙ ap not (all-hold (image_of p t) g.families) in
-      ap (λ b. b && list_all (demand_is_met_by_run lists) (demands_form_holds_below_copy g.wellformed (n + 1) ++ broken ∷ [])) start
-      ∙ ap (λ b. form_holds_for_values g.start (image_of p s) && b) (list_all-append (demand_is_met_by_run lists) (demands_form_holds_below_copy g.wellformed (n + 1)) (broken ∷ [])
+      ap (λ b. b && list_all (demand_is_met_by_run lists) (form_demands_below_copy g.wellformed (n + 1) ++ broken ∷ [])) start
+      ∙ ap (λ b. form_holds_for_values g.start (image_of p s) && b) (list_all-append (demand_is_met_by_run lists) (form_demands_below_copy g.wellformed (n + 1)) (broken ∷ [])
       ∙ ap (λ b. b && (demand_is_met_by_run lists broken && true)) below
       ∙ ap (λ b. list_all (state_has_no_hazard p) (take (n + 1) states) && b) (and-true _ ∙ end))
 
@@ -114,6 +114,6 @@ module _ (p : PlantLists) (steps : RulesStepLikeEvents p) (g : PlainGoal) (goal 
       let below = below-met lists all n long ∙ kept-before n states shaped in
       let end = fails-met lists n (image_of p t) (all_of (trees_from_list (negation g.hazard ∷ g.families))) atn ∙ ap not (invariant-form t (shaped-at p states n t shaped last)) in
       let right : first_breaks_invariant_at p n states ≡ (list_all (meets_invariant p) (take n states) && not (meets_invariant p t)) = rw last refl in
-      list_all-append (demand_is_met_by_run lists) (demands_form_holds_below_copy all n) (broken ∷ [])
+      list_all-append (demand_is_met_by_run lists) (form_demands_below_copy all n) (broken ∷ [])
       ∙ ap (λ b. b && (demand_is_met_by_run lists broken && true)) below
       ∙ ap (λ b. list_all (meets_invariant p) (take n states) && b) (and-true _ ∙ end) ∙ sym right

@@ -21,7 +21,7 @@ use Rattle.ilk_plant.specs.declared.state.PointState.{PointState}
 use Rattle.ilk_plant.specs.declared.state.RouteState.{RouteState}
 use Rattle.ilk_plant.specs.declared.state.Train.{Train}
 use Rattle.ilk_plant.specs.declared.table.Route.{Route}
-use Rattle.ilk_replay.specs.StateLine.{board_from_line, lock_from_line, point_state_from_words, point_from_line, route_state_from_words, route_from_line, rest_after_kind_and_name, sections_named, dir_and_names_from_words, train_from_line, train_if_body_connected}
+use Rattle.ilk_replay.specs.StateLine.{board_from_line, lock_from_line, point_state_from_words, point_from_line, route_state_from_words, route_from_line, rest_after_kind_and_name, sections_named, dir_and_names_from_words, train_from_line, train_from_connected_body}
 use Rattle.ilk_plant.specs.Words.{aspect_from_word, aspect_word, direction_from_word, direction_word, hold_from_word, hold_word, lie_from_word, lie_word, mode_from_word, mode_word, position_from_word, position_word}
 use Rattle.ilk_replay.specs.RunText.{board_line, name_at_index_or_empty, point_line, route_line, section_line, train_line}
 use Rattle.ilk_replay.proofs.PlainNames.{HasPlainNames}
@@ -148,9 +148,9 @@ body_back p plant plain d [] shape = cc
 body_back p plant plain d (x ∷ rest) shape =
     let known = body_known p plant d (x ∷ rest) shape in
     let names : Bytes = name_at_index_or_empty p.section_names x ++ flat_map (λ y. 32 ∷ name_at_index_or_empty p.section_names y) rest in
-    ap (λ (o : Option (Dir × Bytes)). o >>= (λ said. sections_named p (words_of said.1) >>= train_if_body_connected p said.0)) (said_train_back d names)
-    ∙ ap (λ (ws : List Bytes). sections_named p ws >>= train_if_body_connected p d) (body_words p plant plain x rest known)
-    ∙ ap (λ (o : Option (List ℕ)). o >>= train_if_body_connected p d) (names_back p plant (x ∷ rest) known)
+    ap (λ (o : Option (Dir × Bytes)). o >>= (λ said. sections_named p (words_of said.1) >>= train_from_connected_body p said.0)) (said_train_back d names)
+    ∙ ap (λ (ws : List Bytes). sections_named p ws >>= train_from_connected_body p d) (body_words p plant plain x rest known)
+    ∙ ap (λ (o : Option (List ℕ)). o >>= train_from_connected_body p d) (names_back p plant (x ∷ rest) known)
     ∙ ap (λ b. then_some b (record { dir = d; body = x ∷ rest })) shape
 
 pub train_back : (p : PlantLists) → IsPlant p → HasPlainNames p → (train : Train) → has_nonempty_connected_body p train ≡ true → train_from_line p (train_line p train) ≡ Some train

@@ -93,8 +93,8 @@ dir_and_names_from_words line = do
 
 -- Returns the train with this direction and body. Returns `None` if the body is empty or not
 -- connected in this direction.
-abbrev pub train_if_body_connected : PlantLists → Dir → List ℕ → Option Train
-train_if_body_connected p dir body = then_some (has_nonempty_connected_body p (record { dir = dir; body = body })) (record { dir = dir; body = body })
+abbrev pub train_from_connected_body : PlantLists → Dir → List ℕ → Option Train
+train_from_connected_body p dir body = then_some (has_nonempty_connected_body p (record { dir = dir; body = body })) (record { dir = dir; body = body })
 
 -- Returns the train of a line: `train`, its direction, and the names of its sections from tail to
 -- head, each next to the one before. Returns `None` for any other line.
@@ -102,4 +102,4 @@ abbrev pub train_from_line : PlantLists → Bytes → Option Train
 train_from_line p line = do
   said ← dir_and_names_from_words line
   body ← sections_named p (words_of said.1)
-  train_if_body_connected p said.0 body
+  train_from_connected_body p said.0 body

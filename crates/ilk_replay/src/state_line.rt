@@ -1,5 +1,5 @@
 ghost use Rattle.std.specs.Prelude.{◌≡◌, IfOk, option_map};
-ghost use Rattle.ilk_replay.specs.StateLine.{board_from_line, lock_from_line, point_state_from_words, point_from_line, route_state_from_words, route_from_line, rest_after_kind_and_name, sections_named, dir_and_names_from_words, train_from_line, train_if_body_connected};
+ghost use Rattle.ilk_replay.specs.StateLine.{board_from_line, lock_from_line, point_state_from_words, point_from_line, route_state_from_words, route_from_line, rest_after_kind_and_name, sections_named, dir_and_names_from_words, train_from_line, train_from_connected_body};
 ghost use Rattle.ilk_lines.specs.Words.{words_of};
 
 use crate::names::section_named;
@@ -114,8 +114,8 @@ fn train_said(line: &[u8]) -> Option<(Dir, &[u8])>
     Some((Dir::from_word(dir)?, names))
 }
 
-fn train_if_body_connected(plant: &Plant, dir: Dir, body: Row<u32>) -> Option<Train>
-    ensures { result ≡ train_if_body_connected plant.now dir body }
+fn train_from_connected_body(plant: &Plant, dir: Dir, body: Row<u32>) -> Option<Train>
+    ensures { result ≡ train_from_connected_body plant.now dir body }
 {
     let train = Train { dir, body };
     if plant.has_nonempty_connected_body(&train) {
@@ -139,5 +139,5 @@ pub(crate) fn train_from_line(
     let Some(body) = sections_named(alloc, plant, names)? else {
         return Ok(None);
     };
-    Ok(train_if_body_connected(plant, dir, body))
+    Ok(train_from_connected_body(plant, dir, body))
 }

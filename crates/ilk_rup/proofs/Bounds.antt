@@ -4,7 +4,7 @@ use Rattle.std.specs.Prelude.{flat_map, ◌==◌}
 use Rattle.std.specs.List.{filter, onto_first, slice_split}
 use Rattle.std.proofs.lemmas.Bool.{cases_Bool}
 use Rattle.ilk_lines.specs.Lines.{Bytes, parts_at}
-use Rattle.ilk_rup.specs.RefutationText.{is_blank, is_comment, is_empty_word, words_unless_comment, text_words, words_in}
+use Rattle.ilk_rup.specs.RefutationText.{is_blank_byte, is_comment, is_empty_word, words_unless_comment, text_words, words_in}
 
 abbrev some : List Bytes → ℕ
 some parts = length (filter (λ part. not (is_empty_word part)) parts)
@@ -20,10 +20,10 @@ split-some false x parts n h = (let m = onto-some x parts in omega (arith, h, m)
 
 words-fit : (line : Bytes) → length (words_in line) ≤ length line
 words-fit [] = omega arith
-words-fit (x ∷ line) = split-some (is_blank x) x (slice_split is_blank line) (length line) (words-fit line)
+words-fit (x ∷ line) = split-some (is_blank_byte x) x (slice_split is_blank_byte line) (length line) (words-fit line)
 
 word-more : (x : ℕ) (line : Bytes) → length (words_in (x ∷ line)) ≤ 1 + length (words_in line)
-word-more x line = (let m = split-some (is_blank x) x (slice_split is_blank line) (length (words_in line)) (omega arith) in omega (arith, m))
+word-more x line = (let m = split-some (is_blank_byte x) x (slice_split is_blank_byte line) (length (words_in line)) (omega arith) in omega (arith, m))
 
 abbrev all-words : List Bytes → ℕ
 all-words lines = length (flat_map words_in lines)

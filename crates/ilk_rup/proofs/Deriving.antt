@@ -31,7 +31,7 @@ use Rattle.ilk_watches.proofs.Queues.{all-covered}
 use Rattle.ilk_learn.proofs.Derived.{false-at, negated_lit-of}
 use Rattle.ilk_learn.proofs.Members.{same-var, var-of}
 use Rattle.ilk_rup.specs.Accepted.{FollowsBySomeHints}
-use Rattle.ilk_rup.specs.Needs.{IsFalseBySetAndEntries, AssumesNegatedLits, IsClauseOfExactlyLiterals}
+use Rattle.ilk_rup.specs.Needs.{IsClauseFalseApartFromSet, AssumesNegatedLits, IsClauseOfExactlyLiterals}
 use Rattle.ilk_rup.proofs.Signs.{var-either}
 
 pub queue-assumed : (a : ArenaContent) (es fs : List Entry) (h s : ℕ) (set : List Literal) → IsPropagationInvariant a es h s → AreValidNumberedClauses a → s ≡ length a.clauses → h ≡ length es → AssumesNegatedLits set es fs
@@ -85,7 +85,7 @@ kept-join es fs gs a b = ap (take (length es)) (sym (take-append-drop (length fs
 pub derive-explains : (cs : List (List Literal)) (es fs gs : List Entry) (set : List Literal) (c : ℕ) →
     is_conflict cs (lits_of gs) c ≡ true → has_distinct_vars (lits_of gs) ≡ true →
     ((l : Literal) → has_lit l set ≡ true → has_lit l (lits_of es) ≡ false) → AssumesNegatedLits set es fs →
-    ExtendsByPropagation cs fs gs → IsFalseBySetAndEntries cs gs set c (length fs) (length gs) (length es)
+    ExtendsByPropagation cs fs gs → IsClauseFalseApartFromSet cs gs set c (length fs) (length gs) (length es)
 derive-explains cs es fs gs set c h once untrue p q =
     let t = and_parts (nat_lt c (length cs)) (is_falsified (lits_of gs) (nth_clause_or_empty cs c)) h in
     let ef = length-kept es fs p.kept in

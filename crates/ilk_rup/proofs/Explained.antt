@@ -13,12 +13,12 @@ use Rattle.ilk_trail.specs.Laws.{lits_of}
 use Rattle.ilk_trail.proofs.Entries.{entry-lit}
 use Rattle.ilk_watches.proofs.Entries.{entry-of-lit}
 use Rattle.ilk_learn.proofs.Members.{same-var}
-use Rattle.ilk_rup.specs.Needs.{HintsDeriveClauseOfLiterals, IsFalseBySetAndEntries, AreUnitHintsByVar, AreNeededLitsAfterClause, HintsFalsifyGivenNeededLits, unit_hints_of_needed}
+use Rattle.ilk_rup.specs.Needs.{HintsDeriveClauseOfLiterals, IsClauseFalseApartFromSet, AreUnitHintsByVar, AreNeededLitsAfterClause, HintsFalsifyGivenNeededLits, unit_hints_of_needed}
 use Rattle.ilk_rup.proofs.Explaining.{not-in, shows-start, shows-end}
 use Rattle.ilk_rup.proofs.Passing.{lits-taken, once-taken}
 
 pub shown-first : (f : Formula) (es : List Entry) (set needed : List Literal) (c from top known : ℕ) →
-    IsFormula f → has_distinct_vars (lits_of es) ≡ true → IsFalseBySetAndEntries f.clauses es set c from top known →
+    IsFormula f → has_distinct_vars (lits_of es) ≡ true → IsClauseFalseApartFromSet f.clauses es set c from top known →
     AreNeededLitsAfterClause set (nth_clause_or_empty f.clauses c) [] needed →
     HintsFalsifyGivenNeededLits f.clauses (lits_of (take top es)) (lits_of (take top es)) set needed ((c + 1) ∷ [])
 shown-first f es set needed c from top known k once x n =
@@ -28,7 +28,7 @@ shown-first f es set needed c from top known k once x n =
 pub explained :
     (cs : List (List Literal)) (es : List Entry) (set needed : List Literal) (units hints : List ℕ)
     (c from top known n : ℕ) →
-    IsFalseBySetAndEntries cs es set c from top known → AreUnitHintsByVar units cs es n known → has_distinct_vars (lits_of es) ≡ true →
+    IsClauseFalseApartFromSet cs es set c from top known → AreUnitHintsByVar units cs es n known → has_distinct_vars (lits_of es) ≡ true →
     has_distinct_vars needed ≡ true → HintsFalsifyGivenNeededLits cs (lits_of (take top es)) (lits_of (take from es)) set needed hints →
     HintsDeriveClauseOfLiterals cs set (unit_hints_of_needed units needed ++ hints)
 explained cs es set needed units hints c from top known n x k once apart s = λ d differ fewer more.

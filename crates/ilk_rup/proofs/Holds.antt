@@ -28,7 +28,7 @@ use Rattle.ilk_watches.proofs.Entries.{at-kept, at-old, length-kept}
 use Rattle.ilk_rup.specs.declared.base.DerivationState.{DerivationState}
 use Rattle.ilk_rup.specs.Alike.{AreEquivalent}
 use Rattle.ilk_rup.specs.LitSet.{LitSetList}
-use Rattle.ilk_rup.specs.Needs.{IsFalseBySetAndEntries, EntryHasReason, AreUnitHintsByVar}
+use Rattle.ilk_rup.specs.Needs.{IsClauseFalseApartFromSet, EntryHasReason, AreUnitHintsByVar}
 use Rattle.ilk_rup.specs.Standing.{IsBaseInvariant, KeepsConsequences, AreFormulaAndDerivedClauses, KeepsConsequencesTrailAndConflicts, IsValidClosedOrNot, IsClosedOrRefuted}
 use Rattle.ilk_rup.proofs.Keeping.{forced-more, known-more, logged-more}
 
@@ -132,7 +132,7 @@ held-start f a vars is = record {
   logged = record { clauses_are = is ∙ sym (append-nil f.clauses); derived = refl; unended = refl };
 }
 
-pub refute-explains : (cs : List (List Literal)) (es : List Entry) (k c : ℕ) → is_conflict cs (lits_of es) c ≡ true → k ≡ length es → IsFalseBySetAndEntries cs es [] c k k k
+pub refute-explains : (cs : List (List Literal)) (es : List Entry) (k c : ℕ) → is_conflict cs (lits_of es) c ≡ true → k ≡ length es → IsClauseFalseApartFromSet cs es [] c k k k
 refute-explains cs es k c h e =
     let p = and_parts (nat_lt c (length cs)) (is_falsified (lits_of es) (nth_clause_or_empty cs c)) h in
     let all : take k es ≡ es = ap (λ (n : ℕ). take n es) e ∙ take-length es in

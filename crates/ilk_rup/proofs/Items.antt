@@ -14,7 +14,7 @@ use Rattle.ilk_cnf.proofs.SameLiterals.{lit-is}
 use Rattle.ilk_lines.specs.Lines.{Bytes}
 use Rattle.ilk_learn.proofs.Members.{each-within, var-of}
 use Rattle.ilk_rup.specs.RefutationText.{clause_added_by_item, with_word_in_first, is_item_end_word, split_words_into_items, literal_of, literals_of, var_from_decimal_word}
-use Rattle.ilk_rup.specs.Items.{IsSetUnlessTautology, IsItemRead, IsAddedUnlessVarPresent, AreItemLiteralsRead, deletion_malformed_or_idle, addition_malformed_idle_or_adds, there, clash, more}
+use Rattle.ilk_rup.specs.Items.{IsSetUnlessTautology, IsItemRead, IsAddedUnlessVarPresent, AreItemLiteralsRead, item_kind_of_deletion, item_kind_of_addition, there, clash, more}
 use Rattle.ilk_rup.proofs.Signs.{var-either}
 use Rattle.ilk_rup.proofs.Needing.{pushed-lit, push-old, push-new}
 use Rattle.ilk_rup.proofs.FirstItem.{first-item, not-both-there, taut-push}
@@ -176,12 +176,12 @@ pub kept-alone : (n : ℕ) (word : Bytes) → bytes_eq word (codes "d") ≡ true
 kept-alone n word d = (rw (not-end word d) refl, rw d refl)
 
 pub plain-read : (n : ℕ) (word : Bytes) (rest : List Bytes) (set : List Literal) (left : List Bytes) (r : Option Bool) → bytes_eq word (codes "d") ≡ false → AreItemLiteralsRead n (word ∷ rest) set left r
-    → IsItemRead n (word ∷ rest) set left (addition_malformed_idle_or_adds r)
+    → IsItemRead n (word ∷ rest) set left (item_kind_of_addition r)
 plain-read n word rest set left None d k = (k.0, k.1, k.2, plain-none n word rest k.0 k.1 d k.2 k.3)
 plain-read n word rest set left (Some true) d k = (k.0, k.2, plain-some n word rest k.0 (split_words_into_items left) k.1 d k.2 k.3 ∙ rw k.4.clash refl, k.5)
 plain-read n word rest set left (Some false) d k = (k.0, deduped_lits k.1, k.2, plain-some n word rest k.0 (split_words_into_items left) k.1 d k.2 k.3 ∙ rw k.4.clash refl, clause-read n k.0 k.1 set k.3 k.4, k.5)
 
 pub kept-read : (n : ℕ) (word : Bytes) (rest : List Bytes) (set : List Literal) (left : List Bytes) (r : Option Bool) → bytes_eq word (codes "d") ≡ true → AreItemLiteralsRead n rest set left r →
-    IsItemRead n (word ∷ rest) set left (deletion_malformed_or_idle r)
+    IsItemRead n (word ∷ rest) set left (item_kind_of_deletion r)
 kept-read n word rest set left None d k = (word ∷ k.0, k.1, kept-items word rest k.0 k.1 d k.2, kept-none n word k.0 d k.3)
 kept-read n word rest set left (Some b) d k = (word ∷ k.0, kept-items word rest k.0 (split_words_into_items left) d k.2, kept-some n word k.0 k.1 d k.3, omega (arith, k.5))

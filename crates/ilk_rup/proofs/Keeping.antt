@@ -26,7 +26,7 @@ use Rattle.ilk_learn.proofs.Walk.{stands}
 use Rattle.std.proofs.Common.{append_assoc}
 use Rattle.std.proofs.lemmas.Bool.{not_from_false}
 use Rattle.ilk_rup.specs.Alike.{AreEquivalent}
-use Rattle.ilk_rup.specs.Needs.{HintsDeriveClauseOfLiterals, IsFalseBySetAndEntries, IsClauseOfExactlyLiterals, EntryHasReason, AreUnitHintsByVar}
+use Rattle.ilk_rup.specs.Needs.{HintsDeriveClauseOfLiterals, IsClauseFalseApartFromSet, IsClauseOfExactlyLiterals, EntryHasReason, AreUnitHintsByVar}
 use Rattle.ilk_rup.specs.Standing.{AreFormulaAndDerivedClauses}
 use Rattle.ilk_rup.proofs.Alike.{alike-forced, last-at}
 use Rattle.ilk_rup.proofs.Explaining.{not-in}
@@ -88,7 +88,7 @@ entry-alike cs es units n k r e differ known at reason =
 
 pub name-explains : (cs : List (List Literal)) (es : List Entry) (k r : ℕ) (e : Entry) →
     slice_get es k ≡ Some e → has_distinct_vars (lits_of es) ≡ true → r < length cs →
-    clause_forces_lit cs (lits_of (take k es)) e.lit r ≡ true → IsFalseBySetAndEntries cs es (e.lit ∷ []) r k k k
+    clause_forces_lit cs (lits_of (take k es)) e.lit r ≡ true → IsClauseFalseApartFromSet cs es (e.lit ∷ []) r k k k
 name-explains cs es k r e at once b reason =
     let d = nth_clause_or_empty cs r in
     let p = and_parts (has_lit e.lit d) (is_falsified (lits_of (take k es)) (other_lits e.lit d)) reason in

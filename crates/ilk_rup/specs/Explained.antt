@@ -3,7 +3,7 @@ use Rattle.std.specs.Prelude.{ℕ, ◌≡◌, ◌+◌, replicate}
 use Rattle.ilk_arena.specs.Arena.{ArenaContent}
 use Rattle.ilk_trail.specs.Trail.{TrailList}
 use Rattle.ilk_rup.specs.LitSet.{LitSetList}
-use Rattle.ilk_rup.specs.Needs.{IsFalseBySetAndEntries, AreUnitHintsByVar}
+use Rattle.ilk_rup.specs.Needs.{IsClauseFalseApartFromSet, AreUnitHintsByVar}
 use Rattle.ilk_rup.specs.declared.explain.Explainer.{Explainer}
 use Rattle.ilk_rup.specs.declared.explain.Conflict.{Conflict}
 
@@ -14,11 +14,11 @@ pub record IsEmptyExplainer (x : Explainer) (n : ℕ) : Type 0 where
   pub vars : x.needed.vars ≡ n
 
 -- Holds if `explain` may be called. All parameters are over the same variables, the explainer has
--- the right hints of unit clauses, and clause `at.clause` is false as `IsFalseBySetAndEntries`
+-- the right hints of unit clauses, and clause `at.clause` is false as `IsClauseFalseApartFromSet`
 -- says.
 pub record CanExplain (x : Explainer) (clauses : ArenaContent) (trail : TrailList) (set : LitSetList) (at : Conflict) : Type 0 where
   pub vars : x.needed.vars ≡ clauses.vars
   pub set_vars : set.vars ≡ clauses.vars
   pub trail_vars : trail.vars ≡ clauses.vars
   pub units : AreUnitHintsByVar x.units.items clauses.clauses trail.entries clauses.vars x.named
-  pub explains : IsFalseBySetAndEntries clauses.clauses trail.entries set.lits at.clause at.from at.top x.named
+  pub explains : IsClauseFalseApartFromSet clauses.clauses trail.entries set.lits at.clause at.from at.top x.named

@@ -24,16 +24,16 @@ pub record IsSetUnlessTautology (ls set : List Literal) (both : Bool) : Type 0 w
 
 -- Returns the kind of an item without the word `d`: `Malformed` if its literals can't be read
 -- (`None`), `Idle` if some variable has both its literals, otherwise `Adds`.
-abbrev pub addition_malformed_idle_or_adds : Option Bool → ItemKind
-addition_malformed_idle_or_adds None = Malformed
-addition_malformed_idle_or_adds (Some true) = Idle
-addition_malformed_idle_or_adds (Some false) = Adds
+abbrev pub item_kind_of_addition : Option Bool → ItemKind
+item_kind_of_addition None = Malformed
+item_kind_of_addition (Some true) = Idle
+item_kind_of_addition (Some false) = Adds
 
 -- Returns the kind of an item with the word `d`: `Malformed` if its literals can't be read
 -- (`None`), otherwise `Idle`.
-abbrev pub deletion_malformed_or_idle : Option Bool → ItemKind
-deletion_malformed_or_idle None = Malformed
-deletion_malformed_or_idle (Some both) = Idle
+abbrev pub item_kind_of_deletion : Option Bool → ItemKind
+item_kind_of_deletion None = Malformed
+item_kind_of_deletion (Some both) = Idle
 
 -- Holds if the literals of the first item of `words` were read into `set`, and `left` are the words
 -- after the item. For `None`, holds if the item isn't a list of literals ended by `0`.

@@ -70,7 +70,7 @@ unit_hints_of_needed units ls = filter (λ u. not (u == 0)) (map (λ (l : Litera
 -- Holds if the first `top` entries make clause `c` false, apart from literals that `set` has.
 -- Entries from `known` on and before `from` assume opposites of literals of `set`; those from
 -- `from` on have reasons. The first `known` entries make no literal of `set` true.
-pub record IsFalseBySetAndEntries (cs : List (List Literal)) (es : List Entry) (set : List Literal) (c from top known : ℕ) : Type 0 where
+pub record IsClauseFalseApartFromSet (cs : List (List Literal)) (es : List Entry) (set : List Literal) (c from top known : ℕ) : Type 0 where
   pub clause : c < length cs
   pub known_in : known ≤ from
   pub from_in : from ≤ top

@@ -8,8 +8,8 @@ use Rattle.ilk_lines.specs.Lines.{Bytes, parts_at}
 use Rattle.ilk_lines.specs.Decimal.{decimal_up_to}
 
 -- Returns whether a byte is a space, a tab or a carriage return.
-abbrev pub is_blank : ℕ → Bool
-is_blank b = b == 32 || b == 9 || b == 13
+abbrev pub is_blank_byte : ℕ → Bool
+is_blank_byte b = b == 32 || b == 9 || b == 13
 
 abbrev pub is_empty_word : Bytes → Bool
 is_empty_word [] = true
@@ -17,7 +17,7 @@ is_empty_word (b ∷ bytes) = false
 
 -- Returns the words of a line: its nonempty parts, separated by blanks.
 abbrev pub words_in : Bytes → List Bytes
-words_in line = filter (λ part. not (is_empty_word part)) (slice_split is_blank line)
+words_in line = filter (λ part. not (is_empty_word part)) (slice_split is_blank_byte line)
 
 -- Returns whether a line is a comment: its first byte is the letter `c`.
 abbrev pub is_comment : Bytes → Bool

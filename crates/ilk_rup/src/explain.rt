@@ -235,7 +235,7 @@ impl Explainer {
     }
 
     /// Returns hints that derive the clause of the literals in `set`. Clause `at.clause` has to be
-    /// false by `set` and the entries before `at.top`, as `IsFalseBySetAndEntries` says.
+    /// false by `set` and the entries before `at.top`, as `IsClauseFalseApartFromSet` says.
     pub fn explain(
         &mut self,
         alloc: Global,

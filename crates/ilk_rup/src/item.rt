@@ -3,7 +3,7 @@
 ghost use Rattle.std.specs.Prelude.{◌≡◌, ◌≤◌, ◌^◌, ◌∷◌, [], ◌||◌, IsTrue, bytes_eq, codes};
 ghost use Rattle.ilk_cnf.specs.Formula.{is_lit_over};
 ghost use Rattle.ilk_rup.specs.RefutationText.{is_item_end_word, literal_of, var_from_decimal_word};
-ghost use Rattle.ilk_rup.specs.Items.{IsItemRead, IsAddedUnlessVarPresent, AreItemLiteralsRead, deletion_malformed_or_idle, addition_malformed_idle_or_adds};
+ghost use Rattle.ilk_rup.specs.Items.{IsItemRead, IsAddedUnlessVarPresent, AreItemLiteralsRead, item_kind_of_deletion, item_kind_of_addition};
 
 use crate::set::LitSet;
 use crate::words::Words;
@@ -103,7 +103,7 @@ fn read_literals(first: &[u8], words: &mut Words, set: &mut LitSet, vars: u64) -
 }
 
 fn plain_item(read: Option<bool>) -> ItemKind
-    ensures { result ≡ addition_malformed_idle_or_adds read }
+    ensures { result ≡ item_kind_of_addition read }
 {
     match read {
         None => ItemKind::Malformed,
@@ -113,7 +113,7 @@ fn plain_item(read: Option<bool>) -> ItemKind
 }
 
 fn kept_item(read: Option<bool>) -> ItemKind
-    ensures { result ≡ deletion_malformed_or_idle read }
+    ensures { result ≡ item_kind_of_deletion read }
 {
     match read {
         None => ItemKind::Malformed,

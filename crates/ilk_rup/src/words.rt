@@ -3,7 +3,7 @@
 ghost use Rattle.std.specs.Prelude.{◌≡◌, ◌<◌, [], ◌∷◌, ◌++◌, length, position, IfNone, IfSome};
 ghost use Rattle.std.specs.List.{slice_split};
 ghost use Rattle.std.specs.Option.{option_map_or};
-ghost use Rattle.ilk_rup.specs.RefutationText.{is_blank, words_unless_comment, text_words, words_in};
+ghost use Rattle.ilk_rup.specs.RefutationText.{is_blank_byte, words_unless_comment, text_words, words_in};
 ghost use Rattle.ilk_rup.specs.WordsLeft.{words_left};
 
 use ilk_lines::split_at_first_occurrence;
@@ -93,23 +93,23 @@ fn without_comment(line: &[u8]) -> &[u8]
     }
 }
 
-fn is_blank(b: u8) -> bool
-    ensures { result ≡ is_blank b }
+fn is_blank_byte(b: u8) -> bool
+    ensures { result ≡ is_blank_byte b }
 {
     b == b' ' || b == b'\t' || b == b'\r'
 }
 
 fn place_of_blank(line: &[u8]) -> Option<usize>
-    ensures { result ≡ position is_blank line.now }
+    ensures { result ≡ position is_blank_byte line.now }
 {
-    line.iter().position(|b| is_blank(*b))
+    line.iter().position(|b| is_blank_byte(*b))
 }
 
 #[tactic(auto, using(crate::proofs::Cuts::cut_none, crate::proofs::Cuts::cut_some, std::proofs::lemmas::List::take_rest))]
 // Returns the part before the first blank of a line, and the part after it, if there is one.
 fn cut_blank(line: &[u8]) -> (&[u8], Option<&[u8]>)
-    ensures parts { slice_split is_blank line.now
-        ≡ result.0.now ∷ option_map_or (λ rest. slice_split is_blank rest.now) result.1 [] }
+    ensures parts { slice_split is_blank_byte line.now
+        ≡ result.0.now ∷ option_map_or (λ rest. slice_split is_blank_byte rest.now) result.1 [] }
     ensures shorter { IfSome result.1 (λ rest. length rest.now < length line.now) }
 {
     match place_of_blank(line) {

@@ -23,6 +23,6 @@ pub record HoldsSearch (clauses : Formula) (given : ℕ) (log : List Step) (view
 
 -- Holds if the arena's clauses, the log and the view are those of a search, and propagation has
 -- progressed to entry `head` and clause `settled`.
-pub record HoldsSearchInArena (clauses : ArenaContent) (head settled given : ℕ) (log : List Step) (view : TrailAndWeights) : Type 0 where
+pub record HoldsSearchPropagatedTo (clauses : ArenaContent) (head settled given : ℕ) (log : List Step) (view : TrailAndWeights) : Type 0 where
   pub search : HoldsSearch (formula_of clauses) given log view
   pub queue : IsPropagationInvariant clauses view.trail.entries head settled

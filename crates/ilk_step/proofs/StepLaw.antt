@@ -25,7 +25,7 @@ use Rattle.ilk_forms.proofs.DemandLaw.{PartFits}
 use Rattle.ilk_step.specs.Choice.{chosen_lits, choice_part, choice_bits, AreChoiceBits}
 use Rattle.ilk_step.specs.Rules.{rules_part, rules_bits}
 use Rattle.ilk_step.specs.Frame.{sets_variable, setter_lits, frame_axioms, frame_axioms_part}
-use Rattle.ilk_step.specs.Step.{step_part, values_after_rule, step_bits, AreStepBits}
+use Rattle.ilk_step.specs.Step.{step_part, values_after_rule_number, step_bits, AreStepBits}
 use Rattle.ilk_step.proofs.ChoiceLaw.{chosen_lits-in, choice-low, choice-in, choice-law, choice-says}
 use Rattle.ilk_step.proofs.Firing.{kept, kept-congr, rule_met, met-after_rule, after_rule-met}
 use Rattle.ilk_step.proofs.FrameLaw.{frame_axioms-say, setter_lits-say}
@@ -207,7 +207,7 @@ step-says now rules a c n r size =
     let whole : a ++ (choice ++ (after ++ c)) ≡ a ++ (step_bits now rules a r ++ c) = ap (λ (u : List Bool). a ++ u) (sym (append_assoc choice after c)) in
     subst (λ (u : List Bool). map (is_true u) (chosen_lits (n + 1) (length rules)) ≡ one_hot_bits r 0 (length rules)) whole (choice-says a (after ++ c) (length rules) r n size)
 
-pub step-below : (rules : List PlainRule) (ws xs : List ℕ) (r : ℕ) → values_after_rule rules ws r ≡ Some xs → r < length rules
+pub step-below : (rules : List PlainRule) (ws xs : List ℕ) (r : ℕ) → values_after_rule_number rules ws r ≡ Some xs → r < length rules
 step-below rules ws xs r h = by_case (slice_get rules r) refl h
   where
     by_case : (o : Option PlainRule) → slice_get rules r ≡ o → option_and_then (λ rule. after_rule rule ws) o ≡ Some xs → r < length rules

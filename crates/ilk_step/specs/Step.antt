@@ -15,8 +15,8 @@ step_part rules now next n =
 
 -- The values after rule number `r`, from the values `ws`. It is `None` if its guard doesn't hold or
 -- there is no such rule.
-abbrev pub values_after_rule : List PlainRule → List ℕ → ℕ → Option (List ℕ)
-values_after_rule rules ws r = option_and_then (λ rule. after_rule rule ws) (slice_get rules r)
+abbrev pub values_after_rule_number : List PlainRule → List ℕ → ℕ → Option (List ℕ)
+values_after_rule_number rules ws r = option_and_then (λ rule. after_rule rule ws) (slice_get rules r)
 
 -- The values of the variables that `step_part` adds after assignment `a`, if rule number `r` is
 -- chosen. The literals `now` are those before the step.
@@ -26,4 +26,4 @@ step_bits now rules a r = choice_bits (length rules) r ++ rules_bits now (length
 -- Holds if `b` has the values of the variables that `step_part` adds after assignment `a`, for some
 -- rule that leads from the values `ws` to `xs`.
 abbrev pub AreStepBits : List VarValueAndBoundLits → List PlainRule → List Bool → List ℕ → List ℕ → List Bool → Type 0
-AreStepBits now rules a ws xs b = (r : ℕ) × (values_after_rule rules ws r ≡ Some xs) × (b ≡ step_bits now rules a r)
+AreStepBits now rules a ws xs b = (r : ℕ) × (values_after_rule_number rules ws r ≡ Some xs) × (b ≡ step_bits now rules a r)

@@ -7,7 +7,7 @@ ghost use Rattle.ilk_forms.specs.Copy.{LiteralsEncode};
 ghost use Rattle.ilk_forms.specs.Leaf.{has_lits_within_vars, ranges_of};
 ghost use Rattle.ilk_step.specs.Choice.{Chooses};
 ghost use Rattle.ilk_step.specs.Size.{total_guard_tree_size, settings_count, copy_literals_count};
-ghost use Rattle.ilk_step.specs.Step.{step_part, step_bits, values_after_rule, AreStepBits};
+ghost use Rattle.ilk_step.specs.Step.{step_part, step_bits, values_after_rule_number, AreStepBits};
 
 use crate::choice::{Choice, add_rule_choice};
 use crate::frame::add_frame_axioms;
@@ -57,7 +57,7 @@ pub fn add_step(
     // step.
     ensures exact { OnOk result
         ((a c : List Bool) (ws xs : List ℕ) (r : ℕ) → length a ≡ cnf.old.vars →
-        values_after_rule (map plain_rule rules.now) ws r ≡ Some xs →
+        values_after_rule_number (map plain_rule rules.now) ws r ≡ Some xs →
         Chooses (a ++ (step_bits now.now (map plain_rule rules.now) a r ++ c))
         (cnf.old.vars + 1) (length rules.now) r) }
 

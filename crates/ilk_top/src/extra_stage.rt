@@ -7,7 +7,7 @@ ghost use Rattle.ilk_words.specs.Plan.{extra_limit, limit_if_extra, may_certify}
 
 use crate::no_reply::NoReply;
 use crate::pieces::feed_whole_source_to_reader;
-use ilk_answers::{ExtraInputReader, Reply, answer, answer_without_extra};
+use ilk_answers::{ExtraInputReader, Reply, answer, answer_on_plant_without_extra};
 use ilk_io::{ReadError, Source};
 use ilk_plant::Plant;
 use ilk_words::{ConfCommand, ExtraCommand};
@@ -67,7 +67,7 @@ pub(crate) fn read_extra_and_reply<D: Source>(
         (result ≡ Err NoReply.ReadFault) (is_ok result) extra.old extra.new }
 {
     match command {
-        ConfCommand::Plain(command) => Ok(answer_without_extra(alloc, command, plant)?),
+        ConfCommand::Plain(command) => Ok(answer_on_plant_without_extra(alloc, command, plant)?),
         ConfCommand::WithExtra { command, .. } => reply_to_extra(alloc, *command, plant, extra),
     }
 }

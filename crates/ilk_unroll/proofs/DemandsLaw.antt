@@ -27,7 +27,7 @@ use Rattle.ilk_forms.proofs.ViolatedLaw.{form_fails-fits, form_fails-law}
 use Rattle.ilk_step.proofs.RulesLaw.{then-fits, then-law}
 use Rattle.ilk_unroll.specs.declared.queries.Wanted.{Wanted}
 use Rattle.ilk_unroll.specs.declared.queries.Wanted.TheVariants.{Hazard, Breach, Step}
-use Rattle.ilk_unroll.specs.Goal.{PlainGoal, CopyDemand, goal_valid, step_count, demand_form_holds_in_copy, demand_form_fails_in_copy, demands_form_holds_below_copy, demands_of}
+use Rattle.ilk_unroll.specs.Goal.{PlainGoal, CopyDemand, goal_valid, step_count, demand_form_holds_in_copy, demand_form_fails_in_copy, form_demands_below_copy, demands_of}
 use Rattle.ilk_unroll.specs.Run.{demand_is_met_by_run}
 use Rattle.ilk_unroll.specs.Query.{copy_lits_at, demanded_part, demands_part}
 use Rattle.ilk_unroll.specs.Assignment.{demanded_bits, demands_bits}
@@ -148,14 +148,14 @@ pub demands_of-valid : (ranges : List ℕ) (g : PlainGoal) (q : Wanted) → goal
 demands_of-valid ranges g (Hazard n) h =
     let k = goal-valid ranges g h in
     and_from _ _ (one-valid ranges (suc n) 0 g.start true (omega arith) k.start)
-    (list_all-append (demanded_valid ranges (suc n)) (demands_form_holds_below_copy g.wellformed n)
+    (list_all-append (demanded_valid ranges (suc n)) (form_demands_below_copy g.wellformed n)
     (demand_form_holds_in_copy n g.hazard ∷ [])
     ∙ and_from _ _ (below-valid ranges (suc n) g.wellformed n 0 (omega arith) k.wellformed)
     (and_from _ _ (one-valid ranges (suc n) n g.hazard true (omega arith) k.hazard) refl))
 demands_of-valid ranges g (Breach n) h =
     let k = goal-valid ranges g h in
     and_from _ _ (one-valid ranges (suc n) 0 g.start true (omega arith) k.start)
-    (list_all-append (demanded_valid ranges (suc n)) (demands_form_holds_below_copy g.wellformed (n + 1))
+    (list_all-append (demanded_valid ranges (suc n)) (form_demands_below_copy g.wellformed (n + 1))
     (demand_form_fails_in_copy n (all_of (trees_from_list g.families)) ∷ [])
     ∙ and_from _ _ (below-valid ranges (suc n) g.wellformed (n + 1) 0 (omega arith) k.wellformed)
     (and_from _ _
@@ -164,7 +164,7 @@ demands_of-valid ranges g (Step n) h =
     let k = goal-valid ranges g h in
     let all = all_of (trees_from_list (g.wellformed ∷ g.families)) in
     let left = all_of (trees_from_list (negation g.hazard ∷ g.families)) in
-    list_all-append (demanded_valid ranges (suc n)) (demands_form_holds_below_copy all n) (demand_form_fails_in_copy n left ∷ [])
+    list_all-append (demanded_valid ranges (suc n)) (form_demands_below_copy all n) (demand_form_fails_in_copy n left ∷ [])
     ∙ and_from _ _ (below-valid ranges (suc n) all n 0 (omega arith) k.kept)
     (and_from _ _ (one-valid ranges (suc n) n left false (omega arith) k.safe) refl)
 
@@ -198,5 +198,5 @@ table-is [] j table h = absurd cc
 table-is (t ∷ tables) zero table h = same_Some t table h
 table-is (t ∷ tables) (suc j) table h = table-is tables j table h
 
-pub demands_form_holds_below_copy-more : (t : Tree) (n : ℕ) → demands_form_holds_below_copy t (n + 1) ≡ demands_form_holds_below_copy t n ++ demand_form_holds_in_copy n t ∷ []
-demands_form_holds_below_copy-more t n = ap (map (λ j. demand_form_holds_in_copy j t)) (range-more n) ∙ map-append (λ j. demand_form_holds_in_copy j t) (range_with_len 0 n) (n ∷ [])
+pub form_demands_below_copy-more : (t : Tree) (n : ℕ) → form_demands_below_copy t (n + 1) ≡ form_demands_below_copy t n ++ demand_form_holds_in_copy n t ∷ []
+form_demands_below_copy-more t n = ap (map (λ j. demand_form_holds_in_copy j t)) (range-more n) ∙ map-append (λ j. demand_form_holds_in_copy j t) (range_with_len 0 n) (n ∷ [])

@@ -14,7 +14,7 @@ use Rattle.ilk_ir.specs.Tree.{Tree, all_of, negation, trees_from_list, tree_hold
 use Rattle.ilk_ir.specs.System.{PlainSystem, rule_valid, in_ranges}
 use Rattle.ilk_ir.proofs.Trees.{all_of-holds}
 use Rattle.ilk_unroll.specs.declared.queries.Wanted.TheVariants.{Hazard, Breach, Step}
-use Rattle.ilk_unroll.specs.Goal.{PlainGoal, CopyDemand, demand_form_holds_in_copy, demand_form_fails_in_copy, demands_form_holds_below_copy}
+use Rattle.ilk_unroll.specs.Goal.{PlainGoal, CopyDemand, demand_form_holds_in_copy, demand_form_fails_in_copy, form_demands_below_copy}
 use Rattle.ilk_unroll.specs.Run.{run_firing_rules, demand_is_met_by_run}
 use Rattle.ilk_unroll.proofs.Runs.{run-is}
 use Rattle.ilk_unroll.specs.Evidence.{HasRun}
@@ -52,13 +52,13 @@ kept-before s g n first rules w j values less none at = by_case (list_all (tree_
         let m = middle s rules first w.run j (let many = w.many in omega arith) w.is in
         let run = take (suc j) w.run in
         let start : demand_is_met_by_run run (demand_form_holds_in_copy 0 g.start) ≡ true = met-same run w.run 0 0 g.start true (get-taken w.run (suc j) 0 (omega arith)) ∙ w.start in
-        let wellformed : list_all (demand_is_met_by_run run) (demands_form_holds_below_copy g.wellformed (j + 1)) ≡ true = below-from run
+        let wellformed : list_all (demand_is_met_by_run run) (form_demands_below_copy g.wellformed (j + 1)) ≡ true = below-from run
         g.wellformed (j + 1)
         (λ i low. met-same run w.run i i g.wellformed true (get-taken w.run (suc j) i (omega arith))
         ∙ w.wellformed i (omega arith)) in
         let last : demand_is_met_by_run run (demand_form_fails_in_copy j (all_of (trees_from_list g.families)))
         ≡ true = met-at run (demand_form_fails_in_copy j (all_of (trees_from_list g.families))) values (get-taken w.run (suc j) j (omega arith) ∙ at) ∙ ap not (all_of-holds values g.families ∙ e) in
-        let met = and_from _ _ start (list_all-append (demand_is_met_by_run run) (demands_form_holds_below_copy g.wellformed (j + 1)) (demand_form_fails_in_copy j (all_of (trees_from_list g.families)) ∷ [])
+        let met = and_from _ _ start (list_all-append (demand_is_met_by_run run) (form_demands_below_copy g.wellformed (j + 1)) (demand_form_fails_in_copy j (all_of (trees_from_list g.families)) ∷ [])
         ∙ and_from _ _ wellformed (and_from _ _ last refl)) in
         let wanted : IsWanted s g (Breach j) first (take j rules) = record { in_range = w.in_range; many = length-take-le j rules (let many = w.many in omega arith); run = run; is = m.before; met = met } in
         absurd (none (first, take j rules, wanted-from s g (Breach j) first (take j rules) wanted))
@@ -90,12 +90,12 @@ last-steps s g k n first rules valid le w none last =
     ≡ demand_is_met_by_run w.run (record { copy = (n - k) + i; form = t; holds = holds }) =
     λ i t holds. met-same run w.run i ((n - k) + i) t holds (get-dropped w.run (n - k) i) in
     let all = all_of (trees_from_list (g.wellformed ∷ g.families)) in
-    let kept : list_all (demand_is_met_by_run run) (demands_form_holds_below_copy all k) ≡ true = below-from run all k
+    let kept : list_all (demand_is_met_by_run run) (form_demands_below_copy all k) ≡ true = below-from run all k
     (λ j less. one-demand run g.wellformed g.families j
     ∙ and_from _ _ (same j g.wellformed true ∙ w.wellformed ((n - k) + j) (omega arith)) (kept-later s g n first rules w (n - k) k far none j less)) in
     let T = all_of (trees_from_list (negation g.hazard ∷ g.families)) in
     let ends : demand_is_met_by_run run (demand_form_fails_in_copy k T) ≡ true = same k T false ∙ ap (λ (i : ℕ). demand_is_met_by_run w.run (demand_form_fails_in_copy i T)) far ∙ last in
-    let met = list_all-append (demand_is_met_by_run run) (demands_form_holds_below_copy all k) (demand_form_fails_in_copy k T ∷ []) ∙ and_from _ _ kept (and_from _ _ ends refl) in
+    let met = list_all-append (demand_is_met_by_run run) (form_demands_below_copy all k) (demand_form_fails_in_copy k T ∷ []) ∙ and_from _ _ kept (and_from _ _ ends refl) in
     let size = length-drop (n - k) rules in
     let wanted : IsWanted s g (Step k) m.values (drop (n - k) rules) = record { in_range = in_range; many = omega (arith, size, many, le); run = run; is = m.after; met = met } in
     (m.values, drop (n - k) rules, wanted-from s g (Step k) m.values (drop (n - k) rules) wanted)
@@ -104,9 +104,9 @@ hazard-steps : (s : PlainSystem) (g : PlainGoal) (k n : ℕ) → list_all (rule_
 hazard-steps s g k n valid le none has =
     let w = wanted-parts s g (Hazard n) has.0 has.1 has.2 in
     let many : length has.1 ≡ n = w.many in
-    let parts = and_parts (demand_is_met_by_run w.run (demand_form_holds_in_copy 0 g.start)) (list_all (demand_is_met_by_run w.run) (demands_form_holds_below_copy g.wellformed n ++ demand_form_holds_in_copy n g.hazard ∷ [])) w.met in
-    let rest = and_parts (list_all (demand_is_met_by_run w.run) (demands_form_holds_below_copy g.wellformed n)) (demand_is_met_by_run w.run (demand_form_holds_in_copy n g.hazard) && true)
-    (sym (list_all-append (demand_is_met_by_run w.run) (demands_form_holds_below_copy g.wellformed n) (demand_form_holds_in_copy n g.hazard ∷ [])) ∙ parts.1) in
+    let parts = and_parts (demand_is_met_by_run w.run (demand_form_holds_in_copy 0 g.start)) (list_all (demand_is_met_by_run w.run) (form_demands_below_copy g.wellformed n ++ demand_form_holds_in_copy n g.hazard ∷ [])) w.met in
+    let rest = and_parts (list_all (demand_is_met_by_run w.run) (form_demands_below_copy g.wellformed n)) (demand_is_met_by_run w.run (demand_form_holds_in_copy n g.hazard) && true)
+    (sym (list_all-append (demand_is_met_by_run w.run) (form_demands_below_copy g.wellformed n) (demand_form_holds_in_copy n g.hazard ∷ [])) ∙ parts.1) in
     let hazard = (and_parts (demand_is_met_by_run w.run (demand_form_holds_in_copy n g.hazard)) true rest.1).0 in
     let m = middle s has.1 has.0 w.run n (omega arith) w.is in
     let here : tree_holds m.values g.hazard ≡ true = sym (met-at w.run (demand_form_holds_in_copy n g.hazard) m.values m.at) ∙ hazard in
@@ -122,9 +122,9 @@ breach-steps s g k n valid le none has =
     let w = wanted-parts s g (Breach n) has.0 has.1 has.2 in
     let many : length has.1 ≡ n = w.many in
     let T = all_of (trees_from_list g.families) in
-    let parts = and_parts (demand_is_met_by_run w.run (demand_form_holds_in_copy 0 g.start)) (list_all (demand_is_met_by_run w.run) (demands_form_holds_below_copy g.wellformed (n + 1) ++ demand_form_fails_in_copy n T ∷ [])) w.met in
-    let rest = and_parts (list_all (demand_is_met_by_run w.run) (demands_form_holds_below_copy g.wellformed (n + 1))) (demand_is_met_by_run w.run (demand_form_fails_in_copy n T) && true)
-    (sym (list_all-append (demand_is_met_by_run w.run) (demands_form_holds_below_copy g.wellformed (n + 1)) (demand_form_fails_in_copy n T ∷ [])) ∙ parts.1) in
+    let parts = and_parts (demand_is_met_by_run w.run (demand_form_holds_in_copy 0 g.start)) (list_all (demand_is_met_by_run w.run) (form_demands_below_copy g.wellformed (n + 1) ++ demand_form_fails_in_copy n T ∷ [])) w.met in
+    let rest = and_parts (list_all (demand_is_met_by_run w.run) (form_demands_below_copy g.wellformed (n + 1))) (demand_is_met_by_run w.run (demand_form_fails_in_copy n T) && true)
+    (sym (list_all-append (demand_is_met_by_run w.run) (form_demands_below_copy g.wellformed (n + 1)) (demand_form_fails_in_copy n T ∷ [])) ∙ parts.1) in
     let broken = (and_parts (demand_is_met_by_run w.run (demand_form_fails_in_copy n T)) true rest.1).0 in
     let m = middle s has.1 has.0 w.run n (omega arith) w.is in
     let here : tree_holds m.values T ≡ false = fails (tree_holds m.values T) (sym (met-at w.run (demand_form_fails_in_copy n T) m.values m.at) ∙ broken) in

@@ -11,10 +11,10 @@ use Rattle.ilk_ir.specs.Tree.{Tree, all_of, trees_from_list, tree_holds}
 use Rattle.ilk_ir.proofs.Trees.{all_of-holds}
 use Rattle.ilk_ir.specs.System.{PlainSystem, in_ranges}
 use Rattle.ilk_unroll.specs.declared.queries.Wanted.{Wanted}
-use Rattle.ilk_unroll.specs.Goal.{PlainGoal, demand_form_holds_in_copy, demands_form_holds_below_copy, step_count, demands_of}
+use Rattle.ilk_unroll.specs.Goal.{PlainGoal, demand_form_holds_in_copy, form_demands_below_copy, step_count, demands_of}
 use Rattle.ilk_unroll.specs.Run.{run_firing_rules, demand_is_met_by_run, is_wanted_run}
 
-pub below-each : (run : List (List ℕ)) (t : Tree) (n j : ℕ) → list_all (demand_is_met_by_run run) (demands_form_holds_below_copy t n) ≡ true → j < n → demand_is_met_by_run run (demand_form_holds_in_copy j t) ≡ true
+pub below-each : (run : List (List ℕ)) (t : Tree) (n j : ℕ) → list_all (demand_is_met_by_run run) (form_demands_below_copy t n) ≡ true → j < n → demand_is_met_by_run run (demand_form_holds_in_copy j t) ≡ true
 below-each run t n j h less =
     list_all-slice_get (λ i. demand_is_met_by_run run (demand_form_holds_in_copy i t)) (range_with_len 0 n) j j (sym (list_all-map (demand_is_met_by_run run) (λ i. demand_form_holds_in_copy i t) (range_with_len 0 n)) ∙ h) (range-at n j less)
 
@@ -23,7 +23,7 @@ range-from p start zero h = refl
 range-from p start (suc k) h =
     and_from _ _ (h start (omega arith) (omega arith)) (range-from p (start + 1) k (λ j low high. h j (omega arith) (omega arith)))
 
-pub below-from : (run : List (List ℕ)) (t : Tree) (n : ℕ) → ((j : ℕ) → j < n → demand_is_met_by_run run (demand_form_holds_in_copy j t) ≡ true) → list_all (demand_is_met_by_run run) (demands_form_holds_below_copy t n) ≡ true
+pub below-from : (run : List (List ℕ)) (t : Tree) (n : ℕ) → ((j : ℕ) → j < n → demand_is_met_by_run run (demand_form_holds_in_copy j t) ≡ true) → list_all (demand_is_met_by_run run) (form_demands_below_copy t n) ≡ true
 below-from run t n h =
     list_all-map (demand_is_met_by_run run) (λ j. demand_form_holds_in_copy j t) (range_with_len 0 n)
     ∙ range-from (λ j. demand_is_met_by_run run (demand_form_holds_in_copy j t)) 0 n (λ j low high. h j (omega arith))

@@ -9,7 +9,7 @@ use Rattle.ilk_base.proofs.Tested.{list_all-slice_get}
 use Rattle.ilk_ir.specs.Tree.{tree_holds}
 use Rattle.ilk_ir.specs.System.{PlainRule, PlainSystem, rule_valid, in_ranges, after_settings, after_rule, after_rule_number}
 use Rattle.ilk_ir.proofs.Ranges.{in_ranges-after_settings}
-use Rattle.ilk_step.specs.Step.{values_after_rule}
+use Rattle.ilk_step.specs.Step.{values_after_rule_number}
 use Rattle.ilk_step.proofs.RulesLaw.{rule_valid-settings}
 use Rattle.ilk_unroll.specs.Run.{run_firing_rules}
 use Rattle.ilk_unroll.proofs.CopiesLaw.{all_in_ranges}
@@ -22,7 +22,7 @@ after_rule-in_ranges ranges ws xs r valid h is = by_case (tree_holds ws r.guard)
     by_case true k = subst (λ (u : List ℕ). in_ranges u ranges ≡ true) (same_Some (after_settings ws r.sets) xs k) (in_ranges-after_settings r.sets ws ranges h (rule_valid-settings ranges r valid))
     by_case false k = absurd cc
 
-step-in_ranges : (ranges ws xs : List ℕ) (rules : List PlainRule) (rule : ℕ) → list_all (rule_valid ranges) rules ≡ true → in_ranges ws ranges ≡ true → values_after_rule rules ws rule ≡ Some xs → in_ranges xs ranges ≡ true
+step-in_ranges : (ranges ws xs : List ℕ) (rules : List PlainRule) (rule : ℕ) → list_all (rule_valid ranges) rules ≡ true → in_ranges ws ranges ≡ true → values_after_rule_number rules ws rule ≡ Some xs → in_ranges xs ranges ≡ true
 step-in_ranges ranges ws xs rules rule valid h is =
     let at = bind_some (slice_get rules rule) (λ r. after_rule r ws) xs is in
     after_rule-in_ranges ranges ws xs at.0 (list_all-slice_get (rule_valid ranges) rules rule at.0 valid at.1) h at.2

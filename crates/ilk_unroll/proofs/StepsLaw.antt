@@ -16,7 +16,7 @@ use Rattle.ilk_forms.specs.Leaf.{has_lits_within_vars, ranges_of}
 use Rattle.ilk_forms.proofs.DemandLaw.{PartFits}
 use Rattle.ilk_step.specs.declared.choice.Choice.{Choice}
 use Rattle.ilk_step.specs.Choice.{Chooses}
-use Rattle.ilk_step.specs.Step.{step_part, values_after_rule, step_bits, AreStepBits}
+use Rattle.ilk_step.specs.Step.{step_part, values_after_rule_number, step_bits, AreStepBits}
 use Rattle.ilk_step.proofs.RulesLaw.{then-fits}
 use Rattle.ilk_step.proofs.StepLaw.{step-fits, step-law, step-says, step-below}
 use Rattle.ilk_unroll.specs.Query.{steps_part}
@@ -51,7 +51,7 @@ abbrev pub Joined : List PlainRule → List (List ℕ) → List ℕ → Type 0
 Joined rules [] chosen = chosen ≡ []
 Joined rules (values ∷ []) chosen = chosen ≡ []
 Joined rules (values ∷ next ∷ run) [] = ⊥
-Joined rules (values ∷ next ∷ run) (rule ∷ chosen) = (values_after_rule rules values rule ≡ Some next) × Joined rules (next ∷ run) chosen
+Joined rules (values ∷ next ∷ run) (rule ∷ chosen) = (values_after_rule_number rules values rule ≡ Some next) × Joined rules (next ∷ run) chosen
 
 abbrev pub AreSteps : List PlainRule → List (List VarValueAndBoundLits) → List Bool → List (List ℕ) → List Bool → Type 0
 AreSteps rules tables a run b = (chosen : List ℕ) × Joined rules run chosen × (b ≡ steps_bits rules tables chosen a)

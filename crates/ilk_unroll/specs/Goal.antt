@@ -51,16 +51,16 @@ abbrev pub demand_form_fails_in_copy : ℕ → Tree → CopyDemand
 demand_form_fails_in_copy j t = record { copy = j; form = t; holds = false }
 
 -- The demands that form `t` holds in each copy below `n`.
-abbrev pub demands_form_holds_below_copy : Tree → ℕ → List CopyDemand
-demands_form_holds_below_copy t n = map (λ j. demand_form_holds_in_copy j t) (range_with_len 0 n)
+abbrev pub form_demands_below_copy : Tree → ℕ → List CopyDemand
+form_demands_below_copy t n = map (λ j. demand_form_holds_in_copy j t) (range_with_len 0 n)
 
 -- All demands of a query, by the forms of goal `g`.
 abbrev pub demands_of : PlainGoal → Wanted → List CopyDemand
 -- From the start by `n` steps to a hazard, through states without one.
-demands_of g (Hazard n) = demand_form_holds_in_copy 0 g.start ∷ demands_form_holds_below_copy g.wellformed n ++ demand_form_holds_in_copy n g.hazard ∷ []
+demands_of g (Hazard n) = demand_form_holds_in_copy 0 g.start ∷ form_demands_below_copy g.wellformed n ++ demand_form_holds_in_copy n g.hazard ∷ []
 -- From the start by `n` steps to a broken family; no state has a hazard.
-demands_of g (Breach n) = demand_form_holds_in_copy 0 g.start ∷ demands_form_holds_below_copy g.wellformed (n + 1) ++ demand_form_fails_in_copy n (all_of (trees_from_list g.families)) ∷ []
+demands_of g (Breach n) = demand_form_holds_in_copy 0 g.start ∷ form_demands_below_copy g.wellformed (n + 1) ++ demand_form_fails_in_copy n (all_of (trees_from_list g.families)) ∷ []
 -- From anywhere by `n` steps to a hazard or broken family, through states without either.
 demands_of g (Step n) =
-    demands_form_holds_below_copy (all_of (trees_from_list (g.wellformed ∷ g.families))) n
+    form_demands_below_copy (all_of (trees_from_list (g.wellformed ∷ g.families))) n
     ++ demand_form_fails_in_copy n (all_of (trees_from_list (negation g.hazard ∷ g.families))) ∷ []

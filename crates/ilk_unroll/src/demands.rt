@@ -2,7 +2,7 @@ ghost use Rattle.std.specs.Prelude.{◌≡◌, ◌+◌, ◌<◌, ◌≤◌, ◌�
 ghost use Rattle.ilk_cnf.specs.Part.{with_part};
 ghost use Rattle.ilk_ir.specs.Form.{tree_of, trees_of};
 ghost use Rattle.ilk_ir.specs.Tree.{all_of, more, negation};
-ghost use Rattle.ilk_unroll.specs.Goal.{demand_form_holds_in_copy, demand_form_fails_in_copy, demands_form_holds_below_copy, demands_of, plain_goal, step_count};
+ghost use Rattle.ilk_unroll.specs.Goal.{demand_form_holds_in_copy, demand_form_fails_in_copy, form_demands_below_copy, demands_of, plain_goal, step_count};
 ghost use Rattle.ilk_unroll.specs.Query.{demands_part};
 ghost use Rattle.ilk_unroll.specs.Tables.{are_copies_within_vars, is_valid_in_each};
 
@@ -51,7 +51,7 @@ fn demand_below(
         (cnf.new
         ≡ with_part cnf.old
         (demands_part tables.now
-        (demands_form_holds_below_copy (tree_of form.now) count) cnf.old.vars)) }
+        (form_demands_below_copy (tree_of form.now) count) cnf.old.vars)) }
     ensures within { OnOk result (IsTrue (are_copies_within_vars cnf.new.vars tables.now)) }
 {
     for copy in 0..count {
@@ -103,7 +103,7 @@ fn demand_all_below(
         (cnf.new
         ≡ with_part cnf.old
         (demands_part tables.now
-        (demands_form_holds_below_copy
+        (form_demands_below_copy
         (all_of (more (tree_of form.now) (trees_of forms.now))) count)
         cnf.old.vars)) }
     ensures within { OnOk result (IsTrue (are_copies_within_vars cnf.new.vars tables.now)) }

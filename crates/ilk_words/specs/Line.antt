@@ -4,14 +4,14 @@ use Rattle.clap.specs.Words.{App, Rule, Text, new_app, new_rule, with_rule}
 use Rattle.clap.specs.declared.builder.ArgAction.TheVariants.{Set}
 use Rattle.clap.specs.declared.builder.value_parser.ValueParser.{ValueParser}
 use Rattle.ilk_words.specs.Commands.{commands}
-use Rattle.ilk_words.specs.Options.{OptionSpec, only_these_texts, options}
+use Rattle.ilk_words.specs.Options.{OptionSpec, parser_accepting_only, options}
 
 -- The argument, for `clap`, that names the command: the only one that isn't an option.
 abbrev pub command_name_arg : Rule
 command_name_arg = record (new_rule (codes "command")) {
   required = true;
   action = Some Set;
-  parser = Some (only_these_texts (map (λ c. c.name) commands));
+  parser = Some (parser_accepting_only (map (λ c. c.name) commands));
 }
 
 -- An option, for `clap`, with this name. It occurs at most once, and the parser says which values

@@ -19,8 +19,8 @@ abbrev pub reference_at_address_zero : {X : Type 0} → X → Bor X
 reference_at_address_zero x = record { ref_ptr = (0, 0); now = x }
 
 -- The parser that accepts only these values.
-abbrev pub only_these_texts : List Text → ValueParser
-only_these_texts values = parser.Names (reference_at_address_zero (map reference_at_address_zero values))
+abbrev pub parser_accepting_only : List Text → ValueParser
+parser_accepting_only values = parser.Names (reference_at_address_zero (map reference_at_address_zero values))
 
 -- The parser that accepts only whole numbers from the first bound to the second.
 abbrev pub number_between : ℕ → ℕ → ValueParser
@@ -40,7 +40,7 @@ pub record OptionSpec : Type 0 where
 abbrev pub columns_option : OptionSpec
 columns_option = record {
   name = codes "columns";
-  values = only_these_texts (map column_rule_mode_word all_column_rule_modes);
+  values = parser_accepting_only (map column_rule_mode_word all_column_rule_modes);
   default = Some (column_rule_mode_word Strict);
 }
 
@@ -74,7 +74,7 @@ stations_option = record {
 abbrev pub query_option : OptionSpec
 query_option = record {
   name = codes "query";
-  values = only_these_texts (map query_word all_queries);
+  values = parser_accepting_only (map query_word all_queries);
   default = None;
 }
 

@@ -1,7 +1,7 @@
 use Rattle.std.proofs.Common.{◌+◌, ◌∷◌, []}
 use Rattle.ilk_ir.specs.Form.{tree_of, trees_of}
 use Rattle.ilk_ir.specs.Tree.{all_of}
-use Rattle.ilk_unroll.specs.Goal.{demand_form_holds_in_copy, demand_form_fails_in_copy, demands_form_holds_below_copy}
+use Rattle.ilk_unroll.specs.Goal.{demand_form_holds_in_copy, demand_form_fails_in_copy, form_demands_below_copy}
 use Rattle.ilk_unroll.proofs.DemandsLaw.{demands-then}
 use Rattle.ilk_unroll.proofs.demands.add_breach.Goals as goal
 
@@ -10,7 +10,7 @@ returns c =
     let tables = c.args.tables.now in
     let start = demand_form_holds_in_copy 0 (tree_of c.args.goal.now.start) in
     let n = c.args.steps in
-    let below = demands_form_holds_below_copy (tree_of c.args.goal.now.wellformed) (n + 1) in
+    let below = form_demands_below_copy (tree_of c.args.goal.now.wellformed) (n + 1) in
     let f = c.args.cnf.now in
     demands-then (start ∷ below) (demand_form_fails_in_copy n (all_of (trees_of c.args.goal.now.families)) ∷ []) tables f
     c.demand_below.new.cnf c.demand_violated.new.cnf

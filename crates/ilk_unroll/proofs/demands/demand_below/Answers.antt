@@ -1,9 +1,9 @@
 use Rattle.std.proofs.Common.{◌∙◌, ◌∷◌, [], List, sym, ap}
 use Rattle.ilk_cnf.specs.Part.{with_part}
 use Rattle.ilk_ir.specs.Form.{tree_of}
-use Rattle.ilk_unroll.specs.Goal.{CopyDemand, demand_form_holds_in_copy, demands_form_holds_below_copy}
+use Rattle.ilk_unroll.specs.Goal.{CopyDemand, demand_form_holds_in_copy, form_demands_below_copy}
 use Rattle.ilk_unroll.specs.Query.{demands_part}
-use Rattle.ilk_unroll.proofs.DemandsLaw.{nothing-made, demands-then, demands_form_holds_below_copy-more}
+use Rattle.ilk_unroll.proofs.DemandsLaw.{nothing-made, demands-then, form_demands_below_copy-more}
 use Rattle.ilk_unroll.proofs.demands.demand_below.Goals as goal
 
 pub loop-copy-init : goal.loop-copy-init
@@ -17,6 +17,6 @@ loop-copy-preserved c =
     let i = c.loop-copy.copy in
     record {
       within = c.in_ok-demand_in.ensures.within;
-      made = demands-then (demands_form_holds_below_copy t i) (demand_form_holds_in_copy i t ∷ []) tables f c.loop-copy.cnf c.demand_in.new.cnf c.loop-copy.invariant.made c.in_ok-demand_in.ensures.made
-          ∙ ap (λ (ds : List CopyDemand). with_part f (demands_part tables ds f.vars)) (sym (demands_form_holds_below_copy-more t i));
+      made = demands-then (form_demands_below_copy t i) (demand_form_holds_in_copy i t ∷ []) tables f c.loop-copy.cnf c.demand_in.new.cnf c.loop-copy.invariant.made c.in_ok-demand_in.ensures.made
+          ∙ ap (λ (ds : List CopyDemand). with_part f (demands_part tables ds f.vars)) (sym (form_demands_below_copy-more t i));
     }

@@ -11,7 +11,7 @@ use Rattle.ilk_watches.specs.Watched.{IsPropagationInvariant}
 use Rattle.ilk_watches.proofs.Back.{queue-back}
 use Rattle.ilk_watches.proofs.Entries.{length-kept}
 use Rattle.ilk_watches.proofs.Propagations.{propagated-start}
-use Rattle.ilk_rup.specs.Needs.{IsFalseBySetAndEntries, AreUnitHintsByVar}
+use Rattle.ilk_rup.specs.Needs.{IsClauseFalseApartFromSet, AreUnitHintsByVar}
 use Rattle.ilk_rup.specs.Standing.{IsBaseInvariant}
 use Rattle.ilk_rup.specs.declared.explain.Explainer.{Explainer}
 use Rattle.ilk_rup.proofs.Deriving.{assumed-none, back-known, derive-explains, if-none, kept-join, queue-assumed, same-length, some-unset, trail-is}
@@ -62,10 +62,10 @@ explain-requires c =
     let base = derive-explains k.clauses.clauses es fs gs set i c.in-Some.ensures.conflict c.count-top.ensures.is_trail.once c.requires.untrue p q in
     let U : List (List Literal) → Type 0 = λ cs. AreUnitHintsByVar y.units.items cs gs k.formula.now.vars y.named in
     let N : ℕ → Type 0 = λ v. AreUnitHintsByVar y.units.items b.clauses gs v y.named in
-    let C : List (List Literal) → Type 0 = λ cs. IsFalseBySetAndEntries cs gs set i (length fs) (length gs) (length es) in
-    let F : ℕ → Type 0 = λ v. IsFalseBySetAndEntries b.clauses gs set i v (length gs) (length es) in
-    let T : ℕ → Type 0 = λ v. IsFalseBySetAndEntries b.clauses gs set i c.count-from.result v (length es) in
-    let K : ℕ → Type 0 = λ v. IsFalseBySetAndEntries b.clauses gs set i c.count-from.result c.count-top.result v in
+    let C : List (List Literal) → Type 0 = λ cs. IsClauseFalseApartFromSet cs gs set i (length fs) (length gs) (length es) in
+    let F : ℕ → Type 0 = λ v. IsClauseFalseApartFromSet b.clauses gs set i v (length gs) (length es) in
+    let T : ℕ → Type 0 = λ v. IsClauseFalseApartFromSet b.clauses gs set i c.count-from.result v (length es) in
+    let K : ℕ → Type 0 = λ v. IsClauseFalseApartFromSet b.clauses gs set i c.count-from.result c.count-top.result v in
     record {
       vars = s.loose.needed_vars ∙ n;
       set_vars = s.loose.set_vars ∙ n;

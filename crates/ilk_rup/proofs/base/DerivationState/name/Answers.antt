@@ -14,7 +14,7 @@ use Rattle.ilk_trail.specs.Trail.{TrailList}
 use Rattle.ilk_trail.proofs.Entries.{entry-within}
 use Rattle.ilk_rup.specs.Alike.{AreEquivalent}
 use Rattle.ilk_rup.specs.LitSet.{LitSetList}
-use Rattle.ilk_rup.specs.Needs.{HintsDeriveClauseOfLiterals, IsFalseBySetAndEntries, IsClauseOfExactlyLiterals, AreUnitHintsByVar}
+use Rattle.ilk_rup.specs.Needs.{HintsDeriveClauseOfLiterals, IsClauseFalseApartFromSet, IsClauseOfExactlyLiterals, AreUnitHintsByVar}
 use Rattle.ilk_rup.specs.Standing.{IsBaseInvariant}
 use Rattle.ilk_rup.specs.declared.base.DerivationState.{DerivationState}
 use Rattle.ilk_rup.specs.declared.explain.Explainer.{Explainer}
@@ -40,7 +40,7 @@ explain-requires c =
     let x = mapped-Some (λ (e : Entry). e.lit) (slice_get t.entries k.explainer.named) c.at-l.result c.at-l.ensures in
     let r = c.reason_index_of_entry-reason.result in
     let K : ℕ → Type 0 = λ n. AreUnitHintsByVar k.explainer.units.items k.clauses.clauses t.entries n k.explainer.named in
-    let P : List Literal → Type 0 = λ ls. IsFalseBySetAndEntries k.clauses.clauses t.entries ls r k.explainer.named k.explainer.named k.explainer.named in
+    let P : List Literal → Type 0 = λ ls. IsClauseFalseApartFromSet k.clauses.clauses t.entries ls r k.explainer.named k.explainer.named k.explainer.named in
     let lits : c.put.new.self.lits ≡ x.0.lit ∷ [] = ap (λ (s : LitSetList). s.lits) c.put.ensures ∙ ap (λ (s : LitSetList). s.lits ++ c.at-l.result ∷ []) c.clear.ensures ∙ ap (λ (y : Literal). y ∷ []) (sym x.2) in
     record {
       vars = l.needed_vars ∙ sym h.vars;

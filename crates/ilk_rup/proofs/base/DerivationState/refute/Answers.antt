@@ -3,7 +3,7 @@ use Rattle.std.proofs.lemmas.Bool.{true≢false}
 use Rattle.ilk_cnf.specs.Literal.{Literal}
 use Rattle.ilk_log.specs.Derived.{is_refutation}
 use Rattle.ilk_rup.specs.LitSet.{LitSetList}
-use Rattle.ilk_rup.specs.Needs.{HintsDeriveClauseOfLiterals, IsFalseBySetAndEntries, AreUnitHintsByVar}
+use Rattle.ilk_rup.specs.Needs.{HintsDeriveClauseOfLiterals, IsClauseFalseApartFromSet, AreUnitHintsByVar}
 use Rattle.ilk_rup.proofs.Alike.{alike-self}
 use Rattle.ilk_rup.proofs.Holds.{refute-explains}
 use Rattle.ilk_rup.proofs.Keeping.{log-refutes, step-derived}
@@ -16,7 +16,7 @@ explain-requires c =
     let h = l.held in
     let y = k.explainer in
     let K : ℕ → Type 0 = λ n. AreUnitHintsByVar y.units.items k.clauses.clauses k.trail.entries n y.named in
-    let P : List Literal → Type 0 = λ ls. IsFalseBySetAndEntries k.clauses.clauses k.trail.entries ls c.args.conflict y.named y.named y.named in
+    let P : List Literal → Type 0 = λ ls. IsClauseFalseApartFromSet k.clauses.clauses k.trail.entries ls c.args.conflict y.named y.named y.named in
     record {
       vars = l.needed_vars ∙ sym h.vars;
       set_vars = ap (λ (s : LitSetList). s.vars) c.clear.ensures ∙ l.set_vars ∙ sym h.vars;
