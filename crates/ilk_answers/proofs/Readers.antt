@@ -2,14 +2,14 @@
 use Rattle.std.proofs.Common.{◌≡◌, ◌∙◌, true, List, ℕ, ◌++◌, refl, subst}
 use Rattle.ilk_plant.specs.Plant.{PlantLists}
 use Rattle.ilk_plant_audit.specs.Audited.{HasAuditedBytes}
-use Rattle.ilk_plant_audit.specs.declared.audit.CertAudit.{CertAudit}
+use Rattle.ilk_plant_audit.specs.PlantAudit.{PlantAudit}
 use Rattle.ilk_words.specs.Limits.{within_extra_option_limits}
 use Rattle.ilk_words.specs.declared.command.ExtraCommand.{ExtraCommand}
 use Rattle.ilk_answers.specs.Reader.{ReaderHasReadExtraInput, ReaderWasFedBytes, has_query_within_limits}
 use Rattle.ilk_answers.specs.declared.reader.ExtraInputReader.{ExtraInputReader}
 use Rattle.ilk_answers.specs.declared.reader.ExtraInputReader.TheVariants.{Certificate, Run, Refutation, Scenario}
 
-pub audit_fed : (before after : CertAudit) (piece : List ℕ) → after.plant.now ≡ before.plant.now → ((bytes : List ℕ) → HasAuditedBytes before bytes → HasAuditedBytes after (bytes ++ piece)) → ReaderWasFedBytes (Certificate before)
+pub audit_fed : (before after : PlantAudit) (piece : List ℕ) → after.plant ≡ before.plant → ((bytes : List ℕ) → HasAuditedBytes before bytes → HasAuditedBytes after (bytes ++ piece)) → ReaderWasFedBytes (Certificate before)
     (Certificate after) piece
 audit_fed before after piece same fed command p read h = (h.0, same ∙ h.1, fed read h.2)
 

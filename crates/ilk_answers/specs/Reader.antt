@@ -17,7 +17,7 @@ has_query_within_limits _ = true
 -- or more.
 abbrev pub ReaderHasReadExtraInput : ExtraCommand → PlantLists → ExtraInputReader → List ℕ → Type 0
 ReaderHasReadExtraInput command p (Certificate reader) bytes =
-    (command ≡ Audit) × (reader.plant.now ≡ p) × audit.HasAuditedBytes reader bytes
+    (command ≡ Audit) × (reader.plant ≡ p) × audit.HasAuditedBytes reader bytes
 ReaderHasReadExtraInput command p (Run text) bytes = (command ≡ Replay) × (text.items ≡ bytes)
 ReaderHasReadExtraInput command p (Refutation query number text) bytes = (command ≡ Rup query number) × (text.items ≡ bytes)
 ReaderHasReadExtraInput command p (Scenario text) bytes = (command ≡ Drive) × (text.items ≡ bytes)

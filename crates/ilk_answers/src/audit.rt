@@ -19,7 +19,7 @@ pub(crate) fn audit_reply(
     audit: CertAudit<'_>,
 ) -> Result<Reply, AllocError>
     ensures reply { IfOk result
-        (λ made. audit.entry.plant.now ≡ plant.now → (bytes : List ℕ) →
+        (λ made. audit.entry.plant ≡ plant.now → (bytes : List ℕ) →
         HasAuditedBytes audit.entry bytes → length bytes < 2 ^ 40
         → AnswersAudit plant.now bytes made) }
     ensures planned { IfOk result

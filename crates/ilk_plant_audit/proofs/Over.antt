@@ -1,5 +1,6 @@
 -- An audit over a plant's system and goal is an audit over the plant.
-use Rattle.std.proofs.Common.{◌≡◌, subst}
+use Rattle.std.proofs.Common.{◌≡◌, ◌++◌, Result, OnOk, sym, subst}
+use Rattle.std.proofs.lemmas.Result.{on_ok_weaker}
 use Rattle.ilk_ir.specs.System.{PlainSystem}
 use Rattle.ilk_lines.specs.Lines.{Bytes}
 use Rattle.ilk_plant.specs.Plant.{PlantLists}
@@ -8,8 +9,18 @@ use Rattle.ilk_queries.specs.Goal.{goal_of_plant}
 use Rattle.ilk_unroll.specs.Goal.{PlainGoal}
 use Rattle.ilk_cert_audit.specs.Fed.{HasTakenBytes}
 use Rattle.ilk_cert_audit.specs.declared.audit.SystemCertAudit.{SystemCertAudit}
+use Rattle.ilk_plant_audit.specs.Audited.{HasAuditedBytes}
+use Rattle.ilk_plant_audit.specs.PlantAudit.{PlantAudit}
 
 pub made_over : (p : PlantLists) (system : PlainSystem) (goal : PlainGoal) (audit : SystemCertAudit) (bytes : Bytes) → system ≡ system_of_plant p → goal ≡ goal_of_plant p → HasTakenBytes system goal audit bytes
     → HasTakenBytes (system_of_plant p) (goal_of_plant p) audit bytes
 made_over p system goal audit bytes one two fed =
     subst (λ g. HasTakenBytes (system_of_plant p) g audit bytes) two (subst (λ s. HasTakenBytes s goal audit bytes) one fed)
+
+pub fed_over :
+    {T E : Type 0} (before : PlantAudit) (p : PlantLists) (old new : SystemCertAudit) (piece : Bytes) (result : Result T E) →
+    record { plant = p; audit = old } ≡ before →
+    OnOk result ((s : PlainSystem) (g : PlainGoal) (bytes : Bytes) → HasTakenBytes s g old bytes → HasTakenBytes s g new (bytes ++ piece)) →
+    OnOk result ((bytes : Bytes) → HasAuditedBytes before bytes → HasAuditedBytes (record { plant = p; audit = new }) (bytes ++ piece))
+fed_over before p old new piece result same fed =
+    on_ok_weaker result (λ more bytes h. more (system_of_plant p) (goal_of_plant p) bytes (subst (λ a. HasAuditedBytes a bytes) (sym same) h)) fed

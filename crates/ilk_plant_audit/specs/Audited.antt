@@ -6,11 +6,11 @@ use Rattle.ilk_cert_audit.specs.Answers.{IsFinalAnswer, IsAnswerAfterBytes}
 use Rattle.ilk_cert_audit.specs.Fed.{HasTakenBytes as SystemHasFed}
 use Rattle.ilk_cert_audit.specs.declared.answers.Ended.{Ended}
 use Rattle.ilk_cert_audit.specs.declared.answers.Fed.{Fed}
-use Rattle.ilk_plant_audit.specs.declared.audit.CertAudit.{CertAudit}
+use Rattle.ilk_plant_audit.specs.PlantAudit.{PlantAudit}
 
--- Holds if the check, for the plant that it borrows, has taken these bytes, in one or more pieces.
-abbrev pub HasAuditedBytes : CertAudit → Bytes → Type 0
-HasAuditedBytes audit bytes = SystemHasFed (system_of_plant audit.plant.now) (goal_of_plant audit.plant.now) audit.audit bytes
+-- Holds if the check, for its plant, has taken these bytes, in one or more pieces.
+abbrev pub HasAuditedBytes : PlantAudit → Bytes → Type 0
+HasAuditedBytes audit bytes = SystemHasFed (system_of_plant audit.plant) (goal_of_plant audit.plant) audit.audit bytes
 
 -- Holds if the answer names the first bad line of the text `bytes` so far, or `More` if none is
 -- bad.

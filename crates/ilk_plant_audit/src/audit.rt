@@ -3,6 +3,7 @@ use ilk_cert_audit::{Ended, Fed, SystemCertAudit};
 use ilk_plant::Plant;
 use ilk_queries::goal;
 use std::alloc::{AllocError, Global};
+use std::marker::Model;
 
 /// A check whether bytes are a certificate of a plant; the bytes come in pieces.
 #[derive(Drop)]
@@ -11,13 +12,25 @@ pub struct CertAudit<'a> {
     audit: SystemCertAudit,
 }
 
+impl<'a> Model for CertAudit<'a> {
+    ghost use Rattle.std.specs.Coded.{codes};
+    ghost use Rattle.ilk_ir.specs.contracts.form.Form as form;
+    ghost use Rattle.ilk_plant_audit.specs.PlantAudit.{PlantAudit};
+
+    ghost Value = { PlantAudit };
+
+    ghost coded = { Prim.hlevel (codes, form.the_row.coded) };
+
+    ghost view = { λ a. record { plant = a.plant.now; audit = a.audit } };
+}
+
 impl<'a> CertAudit<'a> {
     ghost use Rattle.std.specs.Prelude.{◌≡◌, ℕ, List, [], ◌++◌, IfOk, OnOk};
     ghost use Rattle.ilk_plant_audit.specs.Audited.{AnswersEnd, NamesBadLineSoFar, HasAuditedBytes};
 
     /// Creates a check for `plant` that has taken no byte. Fails only if memory runs out.
     pub fn new(alloc: Global, plant: &'a Plant) -> Result<CertAudit<'a>, AllocError>
-        ensures plant { IfOk result (λ audit. audit.plant.now ≡ plant.now) }
+        ensures plant { IfOk result (λ audit. audit.plant ≡ plant.now) }
         ensures fed { IfOk result (λ audit. HasAuditedBytes audit []) }
     {
         let system = behaviour(alloc, plant)?;
@@ -31,12 +44,12 @@ impl<'a> CertAudit<'a> {
     /// Takes the next bytes, of any length, and returns the first bad line so far, if any. The
     /// answer doesn't depend on how the bytes are divided. After an error, the check is unusable.
     pub fn feed(&mut self, piece: &[u8]) -> Result<Fed, AllocError>
-        ensures plant { self.new.plant.now ≡ self.old.plant.now }
+        ensures plant { self.new.plant ≡ self.old.plant }
         ensures fed { OnOk result
             ((bytes : List ℕ) → HasAuditedBytes self.old bytes
             → HasAuditedBytes self.new (bytes ++ piece.now)) }
         ensures answer { IfOk result (λ fed. (bytes : List ℕ) → HasAuditedBytes self.old bytes
-            → NamesBadLineSoFar self.old.plant.now (bytes ++ piece.now) fed) }
+            → NamesBadLineSoFar self.old.plant (bytes ++ piece.now) fed) }
     {
         self.audit.feed(piece)
     }
@@ -45,7 +58,7 @@ impl<'a> CertAudit<'a> {
     /// first bad line.
     pub fn end(self) -> Ended
         ensures { (bytes : List ℕ) → HasAuditedBytes self.entry bytes
-            → AnswersEnd self.entry.plant.now bytes result }
+            → AnswersEnd self.entry.plant bytes result }
     {
         self.audit.end()
     }

@@ -3,16 +3,16 @@ use Rattle.ilk_behave.specs.Behaviour.{system_of_plant}
 use Rattle.ilk_queries.specs.Goal.{goal_of_plant}
 use Rattle.ilk_plant.specs.Plant.{PlantLists}
 use Rattle.ilk_plant_audit.specs.Audited.{AnswersEnd}
-use Rattle.ilk_plant_audit.specs.declared.audit.CertAudit.{CertAudit}
+use Rattle.ilk_plant_audit.specs.PlantAudit.{PlantAudit}
 use Rattle.ilk_cert_audit.specs.declared.answers.Ended.{Ended}
 use Rattle.ilk_cert_audit.specs.declared.answers.Ended.TheVariants.{Accepted, Rejected}
 use Rattle.ilk_answers.specs.Report.{reply}
 use Rattle.ilk_answers.specs.declared.status.Status.TheVariants.{Good, Rejected as IsRejected}
 use Rattle.ilk_answers.proofs.audit.audit_reply.Goals as goal
 
-over-plant : (audit : CertAudit) (p : PlantLists) (bytes : List ℕ) (ended told : Ended) → audit.plant.now ≡ p → ended ≡ told → AnswersEnd audit.plant.now bytes ended → AnswersEnd p bytes told
+over-plant : (audit : PlantAudit) (p : PlantLists) (bytes : List ℕ) (ended told : Ended) → audit.plant ≡ p → ended ≡ told → AnswersEnd audit.plant bytes ended → AnswersEnd p bytes told
 over-plant audit p bytes ended told same is ends =
-    subst (λ q. AnswersEnd q bytes told) same (subst (λ e. AnswersEnd audit.plant.now bytes e) is ends)
+    subst (λ q. AnswersEnd q bytes told) same (subst (λ e. AnswersEnd audit.plant bytes e) is ends)
 
 pub returns-in_ok-text-in-Accepted-clause-reply : goal.returns-in_ok-text-in-Accepted-clause-reply
 returns-in_ok-text-in-Accepted-clause-reply c same bytes fed short =

@@ -1,9 +1,7 @@
-use Rattle.std.proofs.lemmas.Result.{on_ok_weaker}
-use Rattle.ilk_behave.specs.Behaviour.{system_of_plant}
-use Rattle.ilk_queries.specs.Goal.{goal_of_plant}
+use Rattle.ilk_plant_audit.proofs.Over.{fed_over}
 use Rattle.ilk_plant_audit.proofs.audit.CertAudit.feed.Goals as goal
 
 pub returns-clause-fed : goal.returns-clause-fed
 returns-clause-fed c =
-    let p = c.args.self.now.plant.now in
-    on_ok_weaker c.feed.result (λ fed. fed (system_of_plant p) (goal_of_plant p)) c.feed.ensures.fed
+    fed_over c.args.self.now c.self.inside.plant.now c.self.inside.audit c.feed.new.self c.args.piece.now c.feed.result
+    c.self.view_is c.feed.ensures.fed
