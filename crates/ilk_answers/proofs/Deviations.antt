@@ -16,7 +16,7 @@ use Rattle.ilk_net_read.specs.declared.fault.Form.{Form}
 use Rattle.ilk_net_read.specs.declared.fault.Form.TheVariants.{F1, F2, F3, F4, F5, F6}
 use Rattle.ilk_net_read.specs.declared.fault.FormFault.{FormFault}
 use Rattle.ilk_net_read.specs.declared.fault.Place.TheVariants.{Document}
-use Rattle.ilk_table_read.specs.Table.{net_and_table_drafts}
+use Rattle.ilk_table_read.specs.Table.{net_and_table_drafts_from_text}
 use Rattle.ilk_strict.proofs.Strict.{strict_from_rules}
 use Rattle.ilk_forever.proofs.StrictForever.{strict-forever}
 use Rattle.ilk_words.specs.declared.command.ColumnRuleMode.TheVariants.{Strict, Free}
@@ -24,7 +24,7 @@ use Rattle.ilk_words.specs.declared.command.ConfCommand.TheVariants.{Plain}
 use Rattle.ilk_words.specs.declared.command.ConfCommandWithoutExtra.TheVariants.{Check}
 use Rattle.ilk_words.specs.declared.lengths.TheConstants.{MAX_CONFIGURATION_BYTES}
 use Rattle.ilk_words.specs.declared.plan.CheckedRuleStages.TheVariants.{All}
-use Rattle.ilk_answers.specs.Answer.{AnswersOnPlantOrRefuses, refusal_lines_of_broken_rules, refusals_from_form_fault, refusals_or_value, plant_or_refusals_of_conf, plant_of_drafts, refusals_if_any_broken_rules}
+use Rattle.ilk_answers.specs.Answer.{AnswersOnPlantOrRefuses, refusal_lines_of_broken_rules, refusals_from_form_fault, ok_unless_refusals, plant_or_refusals_of_conf, plant_of_drafts, refusals_if_any_broken_rules}
 use Rattle.ilk_answers.specs.Refusal.{broken_place_or_pair_text, form_rule_name, place_text, refusal_line, refusal_line_for_rule}
 use Rattle.ilk_answers.specs.Stages.{first_nonempty_broken, first_broken_stage_rules}
 use Rattle.ilk_answers.specs.Strict.{HasSafePlantDespiteColumns, FreeColumnPlantIsValid, has_one_of_beginnings, lines_have_beginnings, harmless_refusal_beginnings}
@@ -45,23 +45,23 @@ plant-drafts net table limits = of_refusals (refusals_if_any_broken_rules (first
     of_network [] later e = (refl, e)
     of_network (b ∷ network) later e = absurd (cc)
 
-    of_refusals : (o : Option Refusals) → refusals_if_any_broken_rules (first_broken_stage_rules (All Free) net table) ≡ o → IfOk (refusals_or_value o (plant_from_drafts net table)) IsPlant
+    of_refusals : (o : Option Refusals) → refusals_if_any_broken_rules (first_broken_stage_rules (All Free) net table) ≡ o → IfOk (ok_unless_refusals o (plant_from_drafts net table)) IsPlant
     of_refusals (Some refusals) is = tt
     of_refusals None is =
         let stages = of_network (network_rules_broken net) (first_nonempty_broken (table_rules_broken net table) []) (none-broken (first_broken_stage_rules (All Free) net table) is) in
         let routes = of_network (table_rules_broken net table) [] stages.1 in
         sound-IsPlant net table (record { limits = limits; network = stages.0; routes = routes.0 })
 
-pub free-plant : (conf : List ℕ) (drafts : Result (NetDraft × TableDraft) FormFault) → net_and_table_drafts conf ≡ drafts → IfOk drafts (λ d. WithinLimits d.0 d.1) → FreeColumnPlantIsValid conf
+pub free-plant : (conf : List ℕ) (drafts : Result (NetDraft × TableDraft) FormFault) → net_and_table_drafts_from_text conf ≡ drafts → IfOk drafts (λ d. WithinLimits d.0 d.1) → FreeColumnPlantIsValid conf
 free-plant conf drafts is limits = of_length (nat_lt MAX_CONFIGURATION_BYTES (length conf))
   where
     of_drafts : (read : Result (NetDraft × TableDraft) FormFault) → IfOk read (λ d. WithinLimits d.0 d.1) → IfOk (plant_of_drafts (All Free) read) IsPlant
     of_drafts (Err fault) within = tt
     of_drafts (Ok (net, table)) within = plant-drafts net table within
 
-    of_length : (b : Bool) → IfOk (if b then Err (refusals_from_form_fault (rule_fault_at_place F1 Document)) else plant_of_drafts (All Free) (net_and_table_drafts conf)) IsPlant
+    of_length : (b : Bool) → IfOk (if b then Err (refusals_from_form_fault (rule_fault_at_place F1 Document)) else plant_of_drafts (All Free) (net_and_table_drafts_from_text conf)) IsPlant
     of_length true = tt
-    of_length false = of_drafts (net_and_table_drafts conf) (subst (λ read. IfOk read (λ d. WithinLimits d.0 d.1)) (sym is) limits)
+    of_length false = of_drafts (net_and_table_drafts_from_text conf) (subst (λ read. IfOk read (λ d. WithinLimits d.0 d.1)) (sym is) limits)
 
 pub holds-if_ok : {A E : Type 0} (r : Result A E) (P : Type 0) → P → OnOk r P
 holds-if_ok (Ok x) P so = so
@@ -119,7 +119,7 @@ first-harmless [] later none h = (refl, h)
 first-harmless (b ∷ first) later none h = let no : b ∷ first ≡ [] = none h in absurd (cc)
 
 safe-drafts : (conf : List ℕ) (net : NetDraft) (table : TableDraft) → nat_lt MAX_CONFIGURATION_BYTES (length conf) ≡ false →
-    net_and_table_drafts conf ≡ Ok (net, table) → FreeColumnPlantIsValid conf →
+    net_and_table_drafts_from_text conf ≡ Ok (net, table) → FreeColumnPlantIsValid conf →
     are_harmless (first_broken_stage_rules (All Strict) net table) ≡ true → HasSafePlantDespiteColumns conf
 safe-drafts conf net table short read sound harmless =
     let p : PlantLists = plant_from_drafts net table in
@@ -127,9 +127,9 @@ safe-drafts conf net table short read sound harmless =
     let routes = first-harmless (table_rules_broken net table) (column_rules_broken p) (table-harmless net table) network.1 in
     let none : first_broken_stage_rules (All Free) net table ≡ [] = ap (λ found. first_nonempty_broken found (first_nonempty_broken (table_rules_broken net table) [])) network.0 ∙ ap (λ found. first_nonempty_broken found []) routes.0 in
     let free : plant_or_refusals_of_conf (All Free) conf ≡ Ok p =
-    ap (λ b. if b then Err (refusals_from_form_fault (rule_fault_at_place F1 Document)) else plant_of_drafts (All Free) (net_and_table_drafts conf)) short
+    ap (λ b. if b then Err (refusals_from_form_fault (rule_fault_at_place F1 Document)) else plant_of_drafts (All Free) (net_and_table_drafts_from_text conf)) short
     ∙ ap (plant_of_drafts (All Free)) read
-    ∙ ap (λ found. refusals_or_value (refusals_if_any_broken_rules found) p) none in
+    ∙ ap (λ found. ok_unless_refusals (refusals_if_any_broken_rules found) p) none in
     let plant : IsPlant p = subst (λ found. IfOk found IsPlant) free sound in
     record { plant = p; read = free; safe = strict-forever p plant (strict_from_rules p (harmless-keeps p routes.1)) }
 
@@ -148,19 +148,19 @@ safe-refused conf refusals is sound first rest = of_length (nat_lt MAX_CONFIGURA
         let there : are_harmless found ≡ true = ap (λ (r : Refusals). are_harmless r.rest) same ∙ rest in
         rw (here, there) refl
 
-    of_found : (o : Option Refusals) (p : PlantLists) → refusals_or_value o p ≡ Err refusals → o ≡ Some refusals
+    of_found : (o : Option Refusals) (p : PlantLists) → ok_unless_refusals o p ≡ Err refusals → o ≡ Some refusals
     of_found None p e = absurd (cc)
     of_found (Some found) p e = cc
 
-    of_drafts : (read : Result (NetDraft × TableDraft) FormFault) → nat_lt MAX_CONFIGURATION_BYTES (length conf) ≡ false → net_and_table_drafts conf ≡ read → plant_of_drafts (All Strict) read ≡ Err refusals → HasSafePlantDespiteColumns conf
+    of_drafts : (read : Result (NetDraft × TableDraft) FormFault) → nat_lt MAX_CONFIGURATION_BYTES (length conf) ≡ false → net_and_table_drafts_from_text conf ≡ read → plant_of_drafts (All Strict) read ≡ Err refusals → HasSafePlantDespiteColumns conf
     of_drafts (Err fault) short at e = let same : refusals_from_form_fault fault ≡ refusals = cc in absurd (not_form fault same)
     of_drafts (Ok (net, table)) short at e =
         safe-drafts conf net table short at sound (all_of (first_broken_stage_rules (All Strict) net table) (of_found (refusals_if_any_broken_rules (first_broken_stage_rules (All Strict) net table)) (plant_from_drafts net table) e))
 
-    of_length : (b : Bool) → nat_lt MAX_CONFIGURATION_BYTES (length conf) ≡ b → (if b then Err (refusals_from_form_fault (rule_fault_at_place F1 Document)) else plant_of_drafts (All Strict) (net_and_table_drafts conf)) ≡ Err refusals →
+    of_length : (b : Bool) → nat_lt MAX_CONFIGURATION_BYTES (length conf) ≡ b → (if b then Err (refusals_from_form_fault (rule_fault_at_place F1 Document)) else plant_of_drafts (All Strict) (net_and_table_drafts_from_text conf)) ≡ Err refusals →
         HasSafePlantDespiteColumns conf
     of_length true long e = let same : refusals_from_form_fault (rule_fault_at_place F1 Document) ≡ refusals = cc in absurd (not_form (rule_fault_at_place F1 Document) same)
-    of_length false short e = of_drafts (net_and_table_drafts conf) short refl e
+    of_length false short e = of_drafts (net_and_table_drafts_from_text conf) short refl e
 
 pub deviations-safe :
     (conf : List ℕ) (found : Result PlantLists Refusals) (extra : Option (List ℕ)) (made : Reply) →

@@ -15,7 +15,7 @@ use Rattle.ilk_net_read.specs.Fault.{rule_fault_at_place}
 use Rattle.ilk_net_read.specs.declared.fault.Form.TheVariants.{F1}
 use Rattle.ilk_net_read.specs.declared.fault.FormFault.{FormFault}
 use Rattle.ilk_net_read.specs.declared.fault.Place.TheVariants.{Document}
-use Rattle.ilk_table_read.specs.Table.{net_and_table_drafts}
+use Rattle.ilk_table_read.specs.Table.{net_and_table_drafts_from_text}
 use Rattle.ilk_engine.specs.CertificateOf.{IsCertificateTextOfVerdict}
 use Rattle.ilk_engine.specs.declared.verdict.Verdict.TheVariants.{Safe}
 use Rattle.ilk_forever.proofs.StrictForever.{clean-forever}
@@ -58,9 +58,9 @@ clean-columns conf p clean = of_length (nat_lt MAX_CONFIGURATION_BYTES (length c
         later-none (network_rules_broken net) (first_nonempty_broken (table_rules_broken net table) (broken_column_rules_if_strict Strict (plant_from_drafts net table))) none in
         ap column_rules_broken kept.1 ∙ later-none (table_rules_broken net table) (broken_column_rules_if_strict Strict (plant_from_drafts net table)) later
 
-    of_length : (b : Bool) → (if b then Err (refusals_from_form_fault (rule_fault_at_place F1 Document)) else plant_of_drafts (All Strict) (net_and_table_drafts conf)) ≡ Ok p → column_rules_broken p ≡ []
+    of_length : (b : Bool) → (if b then Err (refusals_from_form_fault (rule_fault_at_place F1 Document)) else plant_of_drafts (All Strict) (net_and_table_drafts_from_text conf)) ≡ Ok p → column_rules_broken p ≡ []
     of_length true e = absurd (cc)
-    of_length false e = of_drafts (net_and_table_drafts conf) e
+    of_length false e = of_drafts (net_and_table_drafts_from_text conf) e
 
 check-safe : (conf : List ℕ) (found : Result PlantLists Refusals) (extra : Option (List ℕ)) (made : Reply) →
     found ≡ plant_or_refusals_of_conf (All Strict) conf → IfOk found IsAcyclicFromSoundDrafts → AnswersOnPlantOrRefuses (Plain Check) found extra made →

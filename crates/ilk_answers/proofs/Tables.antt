@@ -14,7 +14,7 @@ use Rattle.ilk_net_read.specs.Fault.{rule_fault_at_place}
 use Rattle.ilk_net_read.specs.declared.fault.Form.TheVariants.{F1}
 use Rattle.ilk_net_read.specs.declared.fault.FormFault.{FormFault}
 use Rattle.ilk_net_read.specs.declared.fault.Place.TheVariants.{Document}
-use Rattle.ilk_table_read.specs.Table.{net_and_table_drafts}
+use Rattle.ilk_table_read.specs.Table.{net_and_table_drafts_from_text}
 use Rattle.ilk_tablegen.proofs.FoundSound.{drafted-back, found-sound}
 use Rattle.ilk_tablegen.specs.NetworkDraft.{network_draft}
 use Rattle.ilk_tablegen.specs.Rules.{KeepsRulesButC7, no_routes}
@@ -61,7 +61,7 @@ network-table columns net made kept borders sound told good =
       routes = found.1;
       text = conf_v2_text_with_table bare found.0;
       report = ap (λ (r : Reply). r.report) found.2;
-      read = subst (λ n. net_and_table_drafts (conf_v2_text_with_table bare found.0) ≡ Ok (n, found.0)) back (told.read found.0 found.1);
+      read = subst (λ n. net_and_table_drafts_from_text (conf_v2_text_with_table bare found.0) ≡ Ok (n, found.0)) back (told.read found.0 found.1);
       network_kept = drafts.network;
       table_kept = drafts.routes;
       columns_kept = alone;
@@ -78,7 +78,7 @@ table-right columns conf (Err refusals) extra made known sound told good =
     let refused : IsRefused ≡ Good = ap (λ (r : Reply). r.status) (sym told) ∙ good in absurd (cc)
 table-right columns conf (Ok p) extra made known sound told good = of_length (nat_lt MAX_CONFIGURATION_BYTES (length conf)) (sym known)
   where
-    of_drafts : (drafts : Result (NetDraft × TableDraft) FormFault) → net_and_table_drafts conf ≡ drafts → plant_of_drafts (Network columns) drafts ≡ Ok p → ReplyHasTableOfConf columns conf made
+    of_drafts : (drafts : Result (NetDraft × TableDraft) FormFault) → net_and_table_drafts_from_text conf ≡ drafts → plant_of_drafts (Network columns) drafts ≡ Ok p → ReplyHasTableOfConf columns conf made
     of_drafts (Err fault) is e = absurd (cc)
     of_drafts (Ok (net, other)) is e =
         let kept : (refusals_if_any_broken_rules (first_broken_stage_rules (Network columns) net other) ≡ None)
@@ -92,6 +92,6 @@ table-right columns conf (Ok p) extra made known sound told good = of_length (na
               kept.1 told) good;
         }
 
-    of_length : (b : Bool) → (if b then Err (refusals_from_form_fault (rule_fault_at_place F1 Document)) else plant_of_drafts (Network columns) (net_and_table_drafts conf)) ≡ Ok p → ReplyHasTableOfConf columns conf made
+    of_length : (b : Bool) → (if b then Err (refusals_from_form_fault (rule_fault_at_place F1 Document)) else plant_of_drafts (Network columns) (net_and_table_drafts_from_text conf)) ≡ Ok p → ReplyHasTableOfConf columns conf made
     of_length true e = absurd (cc)
-    of_length false e = of_drafts (net_and_table_drafts conf) refl e
+    of_length false e = of_drafts (net_and_table_drafts_from_text conf) refl e

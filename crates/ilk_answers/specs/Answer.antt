@@ -12,7 +12,7 @@ use Rattle.ilk_net_read.specs.Fault.{rule_fault_at_place}
 use Rattle.ilk_net_read.specs.declared.fault.Form.TheVariants.{F1}
 use Rattle.ilk_net_read.specs.declared.fault.FormFault.{FormFault}
 use Rattle.ilk_net_read.specs.declared.fault.Place.TheVariants.{Document, Extra}
-use Rattle.ilk_table_read.specs.Table.{net_and_table_drafts}
+use Rattle.ilk_table_read.specs.Table.{net_and_table_drafts_from_text}
 use Rattle.ilk_replay.specs.Seen.{replay_result}
 use Rattle.ilk_replay.specs.Told.{run_from_text}
 use Rattle.ilk_replay.specs.declared.seen.Seen.{Seen}
@@ -60,22 +60,22 @@ refusals_if_any_broken_rules [] = None
 refusals_if_any_broken_rules (first ∷ rest) = Some (record { first = RuleRefusal first; rest = rest })
 
 -- `Err` with the refusals, if there are any, otherwise `Ok x`.
-abbrev pub refusals_or_value : {A : Type 0} → Option Refusals → A → Result A Refusals
-refusals_or_value None x = Ok x
-refusals_or_value (Some refusals) x = Err refusals
+abbrev pub ok_unless_refusals : {A : Type 0} → Option Refusals → A → Result A Refusals
+ok_unless_refusals None x = Ok x
+ok_unless_refusals (Some refusals) x = Err refusals
 
 -- The plant of two drafts. It is refusals instead if the form has a fault, or the drafts break a
 -- rule of these stages.
 abbrev pub plant_of_drafts : CheckedRuleStages → Result (NetDraft × TableDraft) FormFault → Result PlantLists Refusals
 plant_of_drafts stages (Err fault) = Err (refusals_from_form_fault fault)
 plant_of_drafts stages (Ok (net, table)) =
-    refusals_or_value (refusals_if_any_broken_rules (first_broken_stage_rules stages net table)) (plant_from_drafts net (table_unless_network_only stages table))
+    ok_unless_refusals (refusals_if_any_broken_rules (first_broken_stage_rules stages net table)) (plant_from_drafts net (table_unless_network_only stages table))
 
 -- The plant of a configuration, or its refusals. More than `MAX_CONFIGURATION_BYTES` bytes break
 -- F1.
 abbrev pub plant_or_refusals_of_conf : CheckedRuleStages → List ℕ → Result PlantLists Refusals
 plant_or_refusals_of_conf stages conf =
-    if nat_lt MAX_CONFIGURATION_BYTES (length conf) then Err (refusals_from_form_fault (rule_fault_at_place F1 Document)) else plant_of_drafts stages (net_and_table_drafts conf)
+    if nat_lt MAX_CONFIGURATION_BYTES (length conf) then Err (refusals_from_form_fault (rule_fault_at_place F1 Document)) else plant_of_drafts stages (net_and_table_drafts_from_text conf)
 
 -- The plant of the configuration or its refusals; `None` if the plan reads no configuration or its
 -- bytes are not exposed.

@@ -17,7 +17,7 @@ use Rattle.ilk_words.specs.declared.command.ConfCommandWithoutExtra.TheVariants.
 use Rattle.ilk_words.specs.declared.plan.CheckedRuleStages.TheVariants.{All}
 use Rattle.ilk_plant.specs.declared.draft.NetDraft.{NetDraft}
 use Rattle.ilk_plant.specs.declared.draft.TableDraft.{TableDraft}
-use Rattle.ilk_table_read.specs.Table.{net_and_table_drafts}
+use Rattle.ilk_table_read.specs.Table.{net_and_table_drafts_from_text}
 use Rattle.ilk_answers.specs.Answer.{IsAnswerTo, plant_or_refusals_of_conf}
 use Rattle.ilk_answers.specs.Tables.{ReplyHasValidNetworkTable}
 use Rattle.ilk_answers.specs.declared.reply.Reply.{Reply}
@@ -85,7 +85,7 @@ pub record DriveReportsNoHazard (run conf : List ℕ) (extra : Option (List ℕ)
 pub record ReplyHasTableOfConf (columns : ColumnRuleMode) (conf : List ℕ) (made : Reply) : Type 0 where
   pub net : NetDraft
   pub other : TableDraft
-  pub read : net_and_table_drafts conf ≡ Ok (net, other)
+  pub read : net_and_table_drafts_from_text conf ≡ Ok (net, other)
   pub table : ReplyHasValidNetworkTable columns net made
 
 -- Holds if a reply has these five guarantees, all but `table` for strict columns. `conf` and

@@ -9,7 +9,7 @@ use Rattle.ilk_plant.specs.declared.broken.Rule.TheVariants.{C7}
 use Rattle.ilk_plant.specs.declared.draft.NetDraft.{NetDraft}
 use Rattle.ilk_plant.specs.declared.draft.TableDraft.{TableDraft}
 use Rattle.ilk_net_read.specs.declared.version.Version.TheVariants.{Second}
-use Rattle.ilk_table_read.specs.Table.{net_and_table_drafts}
+use Rattle.ilk_table_read.specs.Table.{net_and_table_drafts_from_text}
 use Rattle.ilk_conf_write.specs.ConfigurationText.{configuration_text}
 use Rattle.ilk_forever.specs.Forever.{AlwaysKeepsInvariant}
 use Rattle.ilk_tablegen.specs.NetworkDraft.{network_draft}
@@ -44,7 +44,7 @@ routes_or_refusal_reply p TooMany = reply Refused too_many_line
 
 -- Holds if the configuration text of this table is read as the plant's network with the same table.
 abbrev pub IsReadBack : PlantLists → TableDraft → Type 0
-IsReadBack p table = net_and_table_drafts (conf_v2_text_with_table p table) ≡ Ok (network_draft p, table)
+IsReadBack p table = net_and_table_drafts_from_text (conf_v2_text_with_table p table) ≡ Ok (network_draft p, table)
 
 -- Holds if a reply has the generated routes of the plant's network, or the reason why there are
 -- none. The printed configuration is read back as the same network and table.
@@ -61,7 +61,7 @@ pub record ReplyHasValidNetworkTable (columns : ColumnRuleMode) (net : NetDraft)
   pub routes : generation_result (plant_from_drafts net no_routes) ≡ Routes table
   pub text : List ℕ
   pub report : made.report ≡ text ++ 10 ∷ []
-  pub read : net_and_table_drafts text ≡ Ok (net, table)
+  pub read : net_and_table_drafts_from_text text ≡ Ok (net, table)
   pub network_kept : network_rules_broken net ≡ []
   pub table_kept : table_rules_broken net table ≡ []
   pub columns_kept : column_rules_broken (plant_from_drafts net table) ≡ broken_for_column_rule (plant_from_drafts net no_routes) C7

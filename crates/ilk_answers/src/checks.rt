@@ -4,7 +4,7 @@ ghost use Rattle.ilk_plant.specs.Limits.{WithinLimits, NetworkWithinLimits};
 ghost use Rattle.ilk_plant.specs.NetNames.{HasBoardsAndNamesOf};
 ghost use Rattle.ilk_plant.specs.NetworkRules.{network_rules_broken};
 ghost use Rattle.ilk_plant.specs.TableRules.{table_rules_broken};
-ghost use Rattle.ilk_answers.specs.Answer.{refusals_or_value, refusals_if_any_broken_rules};
+ghost use Rattle.ilk_answers.specs.Answer.{ok_unless_refusals, refusals_if_any_broken_rules};
 ghost use Rattle.ilk_answers.specs.Stages.{table_unless_network_only, borders_without_board_if_strict, broken_column_rules_if_strict, first_nonempty_broken, first_broken_stage_rules};
 ghost use Rattle.ilk_tablegen.specs.Rules.{no_routes};
 
@@ -34,7 +34,7 @@ fn unless_broken<T: Drop>(
     asked: T,
 ) -> Result<Result<T, Refusals>, AllocError>
     ensures answered { IfOk found (λ broken. result
-        ≡ Ok (refusals_or_value (refusals_if_any_broken_rules broken) asked)) }
+        ≡ Ok (ok_unless_refusals (refusals_if_any_broken_rules broken) asked)) }
     ensures wanting { IfErr found (λ error. result ≡ Err error) }
 {
     match Refusals::from_broken_rules_if_any(found?) {
@@ -49,7 +49,7 @@ fn check_plant(
     plant: Plant,
 ) -> Result<Result<Plant, Refusals>, AllocError>
     ensures { IfOk result
-        (λ found. found ≡ refusals_or_value
+        (λ found. found ≡ ok_unless_refusals
         (refusals_if_any_broken_rules (broken_column_rules_if_strict columns plant)) plant) }
 {
     let found = broken_columns(alloc, columns, &plant);
@@ -67,7 +67,7 @@ fn check_routes(
     requires limits { WithinLimits net.now table.now }
     requires named { HasBoardsAndNamesOf names net.now }
     requires network { network_rules_broken net.now ≡ [] }
-    ensures { IfOk result (λ found. found ≡ refusals_or_value
+    ensures { IfOk result (λ found. found ≡ ok_unless_refusals
         (refusals_if_any_broken_rules
         (first_nonempty_broken (table_rules_broken net.now table.now)
         (broken_column_rules_if_strict columns (plant_from_drafts net.now table.now))))
@@ -90,7 +90,7 @@ fn check_all(
     requires { WithinLimits net.now table.now }
     ensures { IfOk result
         (λ found. found
-        ≡ refusals_or_value (refusals_if_any_broken_rules
+        ≡ ok_unless_refusals (refusals_if_any_broken_rules
         (first_broken_stage_rules (CheckedRuleStages.All columns) net.now table.now))
         (plant_from_drafts net.now table.now)) }
 {
@@ -121,7 +121,7 @@ fn check_plant_borders(
     plant: Plant,
 ) -> Result<Result<Plant, Refusals>, AllocError>
     ensures { IfOk result
-        (λ found. found ≡ refusals_or_value
+        (λ found. found ≡ ok_unless_refusals
         (refusals_if_any_broken_rules (borders_without_board_if_strict columns plant)) plant) }
 {
     let found = broken_borders(alloc, columns, &plant);
@@ -140,7 +140,7 @@ fn check_bare(
     requires network { network_rules_broken net.now ≡ [] }
     ensures { IfOk result
         (λ found. found
-        ≡ refusals_or_value (refusals_if_any_broken_rules (borders_without_board_if_strict columns
+        ≡ ok_unless_refusals (refusals_if_any_broken_rules (borders_without_board_if_strict columns
         (plant_from_drafts net.now no_routes)))
         (plant_from_drafts net.now no_routes)) }
 {
@@ -158,7 +158,7 @@ fn check_network(
     net: &NetDraft,
 ) -> Result<Result<Plant, Refusals>, AllocError>
     requires { NetworkWithinLimits net.now }
-    ensures { IfOk result (λ found. found ≡ refusals_or_value
+    ensures { IfOk result (λ found. found ≡ ok_unless_refusals
         (refusals_if_any_broken_rules
         (first_nonempty_broken (network_rules_broken net.now)
         (borders_without_board_if_strict columns (plant_from_drafts net.now no_routes))))
@@ -184,7 +184,7 @@ pub(crate) fn check_drafts(
     requires { WithinLimits net.now table.now }
     ensures { IfOk result
         (λ found. found
-        ≡ refusals_or_value (refusals_if_any_broken_rules (first_broken_stage_rules stages net.now
+        ≡ ok_unless_refusals (refusals_if_any_broken_rules (first_broken_stage_rules stages net.now
         table.now))
         (plant_from_drafts net.now (table_unless_network_only stages table.now))) }
 {

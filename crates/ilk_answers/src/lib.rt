@@ -5,10 +5,10 @@
 //! `plant_or_refusals_of_conf` turns a configuration into a plant, or into all its refusals
 //! (`checks`, `refusals`). `refuse` is the reply to refusals.
 //!
-//! `answer_on_plant_without_extra` is the reply of a command without extra input: the verdict (`verify`),
-//! the table of routes (`table`) or a formula (`export`). `answer` is the reply to a certificate
-//! (`audit`), a run (`replay`), another solver's refutation (`rup`) or a scenario (`drive`).
-//! `answer_without_conf` is the reply of a command that reads no configuration (`made`).
+//! `answer_on_plant_without_extra` is the reply of a command without extra input: the verdict
+//! (`verify`), the table of routes (`table`) or a formula (`export`). `answer` is the reply to a
+//! certificate (`audit`), a run (`replay`), another solver's refutation (`rup`) or a scenario
+//! (`drive`). `answer_without_conf` is the reply of a command that reads no configuration (`made`).
 //!
 //! The extra input is fed in pieces (`reader`), and a reply is taken in pieces (`content`).
 //! `specs/Answer.antt` defines which replies are answers; the files `Verdicts`, `Audits`,

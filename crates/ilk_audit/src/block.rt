@@ -155,7 +155,7 @@ impl ClauseDb {
     {
         self.codes.reserve(clause.len())?;
         self.bounds.reserve(1)?;
-        self.codes.push_lit_codes_within_capacity(self.vars, clause);
+        self.codes.append_lits_assume_capacity(self.vars, clause);
         self.bounds.push(self.codes.len()).unwrap();
         Ok(())
     }

@@ -93,7 +93,7 @@ impl LitCodes {
 
     /// Appends the literals of `clause`, which are over the variables 1 to `vars`. Memory for them
     /// has to be reserved.
-    pub fn push_lit_codes_within_capacity(&mut self, vars: u64, clause: &[Lit])
+    pub fn append_lits_assume_capacity(&mut self, vars: u64, clause: &[Lit])
         requires numbered { vars ≤ 2 ^ 62 }
         requires fit { IsTrue (lit_codes_fit_width vars self.old) }
         requires within { IsTrue (is_clause_over vars clause.now) }

@@ -5,7 +5,7 @@ use Rattle.std.proofs.lemmas.List.{take-append-le}
 use Rattle.ilk_ir.specs.System.{PlainSystem}
 use Rattle.ilk_lines.specs.Lines.{unterminated_tail, Bytes, lines_of}
 use Rattle.ilk_lines.specs.Written.{LacksByte}
-use Rattle.ilk_unroll.specs.Goal.{PlainGoal}
+use Rattle.ilk_unroll.specs.Goal.{PlainGoalForms}
 use Rattle.ilk_cert_audit.specs.Fed.{HasTakenLines, HasTakenLinesAndRest, IsUnfinishedLineBuffer, IsStageOrRefusalAfter, Keeps}
 use Rattle.ilk_cert_audit.specs.FirstBad.{BeginsCertificate, IsFirstBadOfLines}
 use Rattle.ilk_cert_audit.specs.Stages.{IsNextStage, is_bad_line_prefix, is_refused}
@@ -61,10 +61,11 @@ pub kept-all : (stage : Stage) (kept line : Bytes) → IsUnfinishedLineBuffer st
 kept-all stage [] line k none = refl
 kept-all stage (x ∷ kept) line k none = (let h : [] ≡ x ∷ (kept ++ k.rest) = sym none ∙ k.whole in cc)
 
-pub waits : (s : PlainSystem) (g : PlainGoal) (audit : LineAudit) (unfinished bytes : Bytes) → is_refused audit.stage ≡ false → HasTakenLinesAndRest s g audit unfinished bytes → IsUnfinishedLineBuffer audit.stage unfinished (unterminated_tail bytes)
+pub waits : (s : PlainSystem) (g : PlainGoalForms) (audit : LineAudit) (unfinished bytes : Bytes) → is_refused audit.stage ≡ false → HasTakenLinesAndRest s g audit unfinished bytes
+    → IsUnfinishedLineBuffer audit.stage unfinished (unterminated_tail bytes)
 waits s g audit unfinished bytes open_ fed = keeps-is audit.stage unfinished bytes open_ fed.kept
 
-line-ended : (s : PlainSystem) (g : PlainGoal) (old new : LineAudit) (unfinished kept bytes rest : Bytes)
+line-ended : (s : PlainSystem) (g : PlainGoalForms) (old new : LineAudit) (unfinished kept bytes rest : Bytes)
     → LacksByte 10 rest → HasTakenLinesAndRest s g old unfinished bytes
     → ((lines : List Bytes) → HasTakenLines s g old lines → HasTakenLines s g new (lines ++ (unterminated_tail bytes ++ rest) ∷ []))
     → Keeps new.stage kept (bytes ++ (rest ++ 10 ∷ [])) → HasTakenLinesAndRest s g new kept (bytes ++ (rest ++ 10 ∷ []))
@@ -75,7 +76,7 @@ line-ended s g old new unfinished kept bytes rest lacks fed takes keeps =
       kept = keeps;
     }
 
-pub line-fed : (s : PlainSystem) (g : PlainGoal) (old new : LineAudit) (unfinished bytes rest : Bytes)
+pub line-fed : (s : PlainSystem) (g : PlainGoalForms) (old new : LineAudit) (unfinished bytes rest : Bytes)
     → is_refused old.stage ≡ false → is_bad_line_prefix old.stage unfinished ≡ false → LacksByte 10 rest
     → HasTakenLinesAndRest s g old unfinished bytes
     → ((lines : List Bytes) → HasTakenLines s g old lines → HasTakenLines s g new (lines ++ (unfinished ++ rest) ∷ []))
@@ -86,7 +87,7 @@ line-fed s g old new unfinished bytes rest open_ hope lacks fed takes =
     line-ended s g old new unfinished [] bytes rest lacks fed (subst P (sym same) takes)
     (keeps-from new.stage [] (bytes ++ (rest ++ 10 ∷ [])) (kept-whole new.stage [] (unterminated_tail (bytes ++ (rest ++ 10 ∷ []))) (line-added bytes rest lacks).1))
 
-pub hopeless-fed : (s : PlainSystem) (g : PlainGoal) (old new : LineAudit) (unfinished bytes rest : Bytes)
+pub hopeless-fed : (s : PlainSystem) (g : PlainGoalForms) (old new : LineAudit) (unfinished bytes rest : Bytes)
     → is_refused old.stage ≡ false → is_bad_line_prefix old.stage unfinished ≡ true → is_refused new.stage ≡ true
     → LacksByte 10 rest → HasTakenLinesAndRest s g old unfinished bytes
     → ((lines : List Bytes) (line : Bytes) → HasTakenLines s g old lines → IsNextStage s g old.stage line None → HasTakenLines s g new (lines ++ line ∷ []))
@@ -99,7 +100,7 @@ hopeless-fed s g old new unfinished bytes rest open_ hopeless refused lacks fed 
     line-ended s g old new unfinished unfinished bytes rest lacks fed (λ lines taken. takes lines (unterminated_tail bytes ++ rest) taken bad)
     (keeps-any new.stage unfinished (bytes ++ (rest ++ 10 ∷ [])) refused)
 
-pub rest-fed : (s : PlainSystem) (g : PlainGoal) (audit : LineAudit) (unfinished bytes rest : Bytes)
+pub rest-fed : (s : PlainSystem) (g : PlainGoalForms) (audit : LineAudit) (unfinished bytes rest : Bytes)
     → is_refused audit.stage ≡ false → is_bad_line_prefix audit.stage unfinished ≡ false → LacksByte 10 rest
     → HasTakenLinesAndRest s g audit unfinished bytes → HasTakenLinesAndRest s g audit (unfinished ++ rest) (bytes ++ rest)
 rest-fed s g audit unfinished bytes rest open_ hope lacks fed =
@@ -111,7 +112,7 @@ rest-fed s g audit unfinished bytes rest open_ hope lacks fed =
       kept = keeps-from audit.stage (unfinished ++ rest) (bytes ++ rest) (kept-whole audit.stage (unfinished ++ rest) (unterminated_tail (bytes ++ rest)) (added.1 ∙ ap (λ (u : Bytes). u ++ rest) same));
     }
 
-pub rest-dropped : (s : PlainSystem) (g : PlainGoal) (audit : LineAudit) (unfinished bytes rest : Bytes)
+pub rest-dropped : (s : PlainSystem) (g : PlainGoalForms) (audit : LineAudit) (unfinished bytes rest : Bytes)
     → is_refused audit.stage ≡ false → is_bad_line_prefix audit.stage unfinished ≡ true → LacksByte 10 rest
     → HasTakenLinesAndRest s g audit unfinished bytes → HasTakenLinesAndRest s g audit unfinished (bytes ++ rest)
 rest-dropped s g audit unfinished bytes rest open_ hopeless lacks fed =
@@ -127,7 +128,7 @@ rest-dropped s g audit unfinished bytes rest open_ hopeless lacks fed =
       });
     }
 
-bad-longer : (s : PlainSystem) (g : PlainGoal) (lines more : List Bytes) (m : ℕ) → IsFirstBadOfLines s g lines m → IsFirstBadOfLines s g (lines ++ more) m
+bad-longer : (s : PlainSystem) (g : PlainGoalForms) (lines more : List Bytes) (m : ℕ) → IsFirstBadOfLines s g lines m → IsFirstBadOfLines s g (lines ++ more) m
 bad-longer s g lines more m b =
     let long : length (lines ++ more) ≡ length lines + length more = length-append lines more in
     let before = take-append-le (m - 1) lines more (omega (arith, b.within)) in
@@ -140,7 +141,7 @@ bad-longer s g lines more m b =
       bad = λ h. b.bad (subst P here h);
     }
 
-pub refused-fed : (s : PlainSystem) (g : PlainGoal) (audit : LineAudit) (unfinished bytes rest : Bytes) → is_refused audit.stage ≡ true → HasTakenLinesAndRest s g audit unfinished bytes → HasTakenLinesAndRest s g audit unfinished (bytes ++ rest)
+pub refused-fed : (s : PlainSystem) (g : PlainGoalForms) (audit : LineAudit) (unfinished bytes rest : Bytes) → is_refused audit.stage ≡ true → HasTakenLinesAndRest s g audit unfinished bytes → HasTakenLinesAndRest s g audit unfinished (bytes ++ rest)
 refused-fed s g audit unfinished bytes rest refused fed =
     record {
       taken = record {

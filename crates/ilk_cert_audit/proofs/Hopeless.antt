@@ -14,7 +14,7 @@ use Rattle.ilk_lines.specs.Written.{join_words_with_spaces}
 use Rattle.ilk_log.specs.declared.step.Step.{Step}
 use Rattle.ilk_log.specs.StepText.{lit_word, step_text}
 use Rattle.std.specs.Prelude.{map}
-use Rattle.ilk_unroll.specs.Goal.{PlainGoal, step_count, step_count_is_allowed}
+use Rattle.ilk_unroll.specs.Goal.{PlainGoalForms, step_count, step_count_is_allowed}
 use Rattle.ilk_unroll.specs.declared.queries.Wanted.{Wanted}
 use Rattle.ilk_unroll.specs.declared.queries.Wanted.TheVariants.{Hazard, Breach, Step as StepOf}
 use Rattle.ilk_certificate.specs.CertificateText.{query_header_line}
@@ -53,7 +53,7 @@ no-step begun rest s h same =
     let never : false ≡ true = ap not (sym equal) ∙ parts.1 in
     cc
 
-pub hopeless-bad : (s : PlainSystem) (g : PlainGoal) (stage : Stage) (begun rest : Bytes) → is_valid_stage stage ≡ true → is_bad_line_prefix stage begun ≡ true → IsNextStage s g stage (begun ++ rest) None
+pub hopeless-bad : (s : PlainSystem) (g : PlainGoalForms) (stage : Stage) (begun rest : Bytes) → is_valid_stage stage ≡ true → is_bad_line_prefix stage begun ≡ true → IsNextStage s g stage (begun ++ rest) None
 hopeless-bad s g Head begun rest staged h may k lines f = too-long begun rest (codes "irv certificate 3") h f.0 (omega arith)
 hopeless-bad s g Told begun rest staged h may k lines f = too-long begun rest (safe_line k) h f.0 (safe-short k f.2)
 hopeless-bad s g (Between m None) begun rest staged h may k lines f = too-long begun rest (codes "end") h f.1.0 (omega arith)

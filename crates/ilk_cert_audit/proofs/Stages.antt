@@ -14,7 +14,7 @@ use Rattle.ilk_log.specs.declared.step.Step.{Step as LogStep}
 use Rattle.ilk_log.specs.Derived.{is_empty_clause}
 use Rattle.ilk_unroll.specs.declared.queries.Wanted.{Wanted}
 use Rattle.ilk_unroll.specs.declared.queries.Wanted.TheVariants as wanted
-use Rattle.ilk_unroll.specs.Goal.{PlainGoal}
+use Rattle.ilk_unroll.specs.Goal.{PlainGoalForms}
 use Rattle.ilk_audit.specs.Audited.{AuditState}
 use Rattle.ilk_certificate.specs.Certificate.{hazard_and_breach_query_pair, certified_queries}
 use Rattle.ilk_cert_audit.specs.Grammar.{IfElse, QueriesLinesAndEnd, safe_line, RefutationLinesAndRest, LinesAfterHeader}
@@ -37,7 +37,7 @@ certified-first k =
     ap (λ (ns : List ℕ). flat_map hazard_and_breach_query_pair ns ++ wanted.Step k ∷ []) more
     ∙ ap (λ n. wanted.Hazard 0 ∷ (wanted.Breach 0 ∷ (flat_map hazard_and_breach_query_pair (range_with_len 1 n) ++ wanted.Step k ∷ []))) (sym rest)
 
-pub next-told : (s : PlainSystem) (g : PlainGoal) (line : Bytes) (m : ℕ) → line ≡ safe_line m → is_valid_k m ≡ true → IsNextStage s g Told line (Some (Between m (Some (wanted.Hazard 0))))
+pub next-told : (s : PlainSystem) (g : PlainGoalForms) (line : Bytes) (m : ℕ) → line ≡ safe_line m → is_valid_k m ≡ true → IsNextStage s g Told line (Some (Between m (Some (wanted.Hazard 0))))
 next-told s g line m e num may k lines =
     let p = number-parts m num in
     let Q : List Wanted → Type 0 = λ qs. QueriesLinesAndEnd may s g qs lines in (
@@ -48,13 +48,13 @@ next-told s g line m e num may k lines =
           subst K (sym h.0) (e, p.0, p.1, subst Q (sym (certified-first m)) h.1)),
     )
 
-pub next-end : (s : PlainSystem) (g : PlainGoal) (m : ℕ) (line : Bytes) → line ≡ codes "end" → IsNextStage s g (Between m None) line (Some (Ended m))
+pub next-end : (s : PlainSystem) (g : PlainGoalForms) (m : ℕ) (line : Bytes) → line ≡ codes "end" → IsNextStage s g (Between m None) line (Some (Ended m))
 next-end s g m line e may k lines = ((λ h. (h.0, h.1.1)), (λ h. (h.0, (e, h.1))))
 
-pub bad-step : (s : PlainSystem) (g : PlainGoal) (m : ℕ) (q : Wanted) (a new : AuditState) (line : Bytes) → IsOutcomeOfStepLine line a new Bad → IsNextStage s g (Within m q a) line None
+pub bad-step : (s : PlainSystem) (g : PlainGoalForms) (m : ℕ) (q : Wanted) (a new : AuditState) (line : Bytes) → IsOutcomeOfStepLine line a new Bad → IsNextStage s g (Within m q a) line None
 bad-step s g m q a new line bad may k lines h = bad h.1.0 h.1.1 h.1.2
 
-pub next-good : (s : PlainSystem) (g : PlainGoal) (m : ℕ) (q : Wanted) (a new : AuditState) (line : Bytes) → IsOutcomeOfStepLine line a new Follows → IsNextStage s g (Within m q a) line (Some (Within m q new))
+pub next-good : (s : PlainSystem) (g : PlainGoalForms) (m : ℕ) (q : Wanted) (a new : AuditState) (line : Bytes) → IsOutcomeOfStepLine line a new Follows → IsNextStage s g (Within m q a) line (Some (Within m q new))
 next-good s g m q a new line taken may k lines =
     let f = taken.0 in
     let t = f.step in
@@ -67,7 +67,7 @@ next-good s g m q a new line taken may k lines =
     )
 
 pub next-closed :
-    (s : PlainSystem) (g : PlainGoal) (m : ℕ) (q : Wanted) (next : Option Wanted) (a new : AuditState)
+    (s : PlainSystem) (g : PlainGoalForms) (m : ℕ) (q : Wanted) (next : Option Wanted) (a new : AuditState)
     (line : Bytes) →
     IsOutcomeOfStepLine line a new Closes → certified_queries_from_next m next ≡ certified_queries_after_query m q →
     IsNextStage s g (Within m q a) line (Some (Between m next))

@@ -4,7 +4,7 @@ use Rattle.std.proofs.lemmas.List.{take-append-le, take_all}
 use Rattle.std.proofs.Math.Seq.{take-append_seam}
 use Rattle.ilk_ir.specs.System.{PlainSystem}
 use Rattle.ilk_lines.specs.Lines.{Bytes}
-use Rattle.ilk_unroll.specs.Goal.{PlainGoal}
+use Rattle.ilk_unroll.specs.Goal.{PlainGoalForms}
 use Rattle.ilk_cert_audit.specs.Answers.{saturated_to_64_bits}
 use Rattle.ilk_cert_audit.specs.Fed.{IsStageAndNumberAfter, IsStageOrRefusalAfter}
 use Rattle.ilk_cert_audit.specs.FirstBad.{BeginsCertificate, IsFirstBadOfLines}
@@ -13,7 +13,7 @@ use Rattle.ilk_cert_audit.specs.Stages.{FollowingLines, is_refused, is_valid_sta
 use Rattle.ilk_cert_audit.specs.declared.stage.Stage.{Stage}
 use Rattle.ilk_cert_audit.specs.declared.stage.Stage.TheVariants.{Head, Told, Between, Within, Ended, Refused}
 
-pub reached-at : (s : PlainSystem) (g : PlainGoal) (stage : Stage) (lines : List Bytes) (n : ℕ) → is_valid_stage stage ≡ true → IsStageOrRefusalAfter s g stage lines n → IsStageAndNumberAfter s g stage lines n
+pub reached-at : (s : PlainSystem) (g : PlainGoalForms) (stage : Stage) (lines : List Bytes) (n : ℕ) → is_valid_stage stage ≡ true → IsStageOrRefusalAfter s g stage lines n → IsStageAndNumberAfter s g stage lines n
 reached-at s g Head lines n h r = r
 reached-at s g Told lines n h r = r
 reached-at s g (Between k next) lines n h r = r
@@ -21,7 +21,7 @@ reached-at s g (Within k q a) lines n h r = r
 reached-at s g (Ended k) lines n h r = r
 reached-at s g (Refused m) lines n h r = absurd (cc)
 
-pub at-reached : (s : PlainSystem) (g : PlainGoal) (stage : Stage) (lines : List Bytes) (n : ℕ) → is_valid_stage stage ≡ true → IsStageAndNumberAfter s g stage lines n → IsStageOrRefusalAfter s g stage lines n
+pub at-reached : (s : PlainSystem) (g : PlainGoalForms) (stage : Stage) (lines : List Bytes) (n : ℕ) → is_valid_stage stage ≡ true → IsStageAndNumberAfter s g stage lines n → IsStageOrRefusalAfter s g stage lines n
 at-reached s g Head lines n h r = r
 at-reached s g Told lines n h r = r
 at-reached s g (Between k next) lines n h r = r
@@ -29,7 +29,7 @@ at-reached s g (Within k q a) lines n h r = r
 at-reached s g (Ended k) lines n h r = r
 at-reached s g (Refused m) lines n h r = absurd (cc)
 
-may-stop : (s : PlainSystem) (g : PlainGoal) (stage : Stage) → is_valid_stage stage ≡ true → (k : ℕ) × FollowingLines true s g k stage []
+may-stop : (s : PlainSystem) (g : PlainGoalForms) (stage : Stage) → is_valid_stage stage ≡ true → (k : ℕ) × FollowingLines true s g k stage []
 may-stop s g Head h = (0, refl)
 may-stop s g Told h = (0, refl)
 may-stop s g (Between k None) h = (k, (refl, refl))
@@ -39,7 +39,7 @@ may-stop s g (Ended k) h = (k, (refl, refl))
 may-stop s g (Refused m) h = absurd (cc)
 
 pub at-next :
-    (s : PlainSystem) (g : PlainGoal) (stage next : Stage) (lines : List Bytes) (n m : ℕ) (line : Bytes) →
+    (s : PlainSystem) (g : PlainGoalForms) (stage next : Stage) (lines : List Bytes) (n m : ℕ) (line : Bytes) →
     IsStageAndNumberAfter s g stage lines n → IsNextStage s g stage line (Some next) → is_valid_stage next ≡ true →
     m ≡ saturated_to_64_bits (n + 1) → IsStageAndNumberAfter s g next (lines ++ line ∷ []) m
 at-next s g stage next lines n m line at goes staged counted =
@@ -58,7 +58,7 @@ at-next s g stage next lines n m line at goes staged counted =
     one_more : (k : ℕ) → saturated_to_64_bits (saturated_to_64_bits (k + 1) + 1) ≡ saturated_to_64_bits (k + 1 + 1)
     one_more k = omega arith
 
-pub bad-next : (s : PlainSystem) (g : PlainGoal) (stage : Stage) (lines : List Bytes) (n : ℕ) (line : Bytes) → IsStageAndNumberAfter s g stage lines n → IsNextStage s g stage line None → IsStageOrRefusalAfter s g (Refused n) (lines ++
+pub bad-next : (s : PlainSystem) (g : PlainGoalForms) (stage : Stage) (lines : List Bytes) (n : ℕ) (line : Bytes) → IsStageAndNumberAfter s g stage lines n → IsNextStage s g stage line None → IsStageOrRefusalAfter s g (Refused n) (lines ++
     line ∷ []) n
 bad-next s g stage lines n line at bad =
     let long : length (lines ++ line ∷ []) ≡ length lines + 1 = length-append lines (line ∷ []) in
@@ -76,7 +76,7 @@ bad-next s g stage lines n line at bad =
       at.number_is,
     )
 
-pub bad-more : (s : PlainSystem) (g : PlainGoal) (lines : List Bytes) (m : ℕ) (line : Bytes) → IsFirstBadOfLines s g lines m → IsFirstBadOfLines s g (lines ++ line ∷ []) m
+pub bad-more : (s : PlainSystem) (g : PlainGoalForms) (lines : List Bytes) (m : ℕ) (line : Bytes) → IsFirstBadOfLines s g lines m → IsFirstBadOfLines s g (lines ++ line ∷ []) m
 bad-more s g lines m line b =
     let long : length (lines ++ line ∷ []) ≡ length lines + 1 = length-append lines (line ∷ []) in
     let before = take-append-le (m - 1) lines (line ∷ []) (omega (arith, b.within)) in

@@ -13,7 +13,7 @@ use Rattle.ilk_log.specs.declared.step.Step.{Step as LogStep}
 use Rattle.ilk_log.specs.Derived.{each_derived, only_last_clause_is_empty, is_derived, is_empty_clause}
 use Rattle.ilk_log.specs.StepText.{step_text}
 use Rattle.ilk_unroll.specs.declared.queries.Wanted.{Wanted}
-use Rattle.ilk_unroll.specs.Goal.{PlainGoal}
+use Rattle.ilk_unroll.specs.Goal.{PlainGoalForms}
 use Rattle.ilk_unroll.specs.Query.{query_formula}
 use Rattle.ilk_certificate.specs.Certificate.{certified_queries, IsValidCertificate, IsRefuted}
 use Rattle.ilk_certificate.specs.CertificateText.{query_and_log_lines, certificate_lines, query_header_line}
@@ -21,7 +21,7 @@ use Rattle.ilk_certificate.specs.declared.asked.Asked.{Asked}
 use Rattle.ilk_cert_audit.specs.Grammar.{CertificateLines, IfElse, QueriesLinesAndEnd, safe_line, RefutationLinesAndRest}
 use Rattle.ilk_cert_audit.proofs.Plain.{certificate-plain}
 
-abbrev pub refuted_by : PlainSystem → PlainGoal → Asked → Type 0
+abbrev pub refuted_by : PlainSystem → PlainGoalForms → Asked → Type 0
 refuted_by s g a = IsRefuted s g a.query a.log
 
 ends-more : (s : LogStep) (log : List LogStep) → is_empty_clause s.clause ≡ false → only_last_clause_is_empty log ≡ true → only_last_clause_is_empty (s ∷ log) ≡ true
@@ -79,7 +79,7 @@ steps-back n clauses After (line ∷ lines) h = by_end (is_empty_clause h.0.clau
           after = r.after;
         })
 
-queries-lines : (s : PlainSystem) (g : PlainGoal) (asked : List Asked) → All (refuted_by s g) asked → QueriesLinesAndEnd false s g (map (λ (a : Asked). a.query) asked) (flat_map query_and_log_lines asked ++ codes "end" ∷ [])
+queries-lines : (s : PlainSystem) (g : PlainGoalForms) (asked : List Asked) → All (refuted_by s g) asked → QueriesLinesAndEnd false s g (map (λ (a : Asked). a.query) asked) (flat_map query_and_log_lines asked ++ codes "end" ∷ [])
 queries-lines s g [] refuted = (refl, refl)
 queries-lines s g (a ∷ asked) refuted =
     let f = query_formula s g a.query in
@@ -90,13 +90,13 @@ queries-lines s g (a ∷ asked) refuted =
     let P : List Bytes → Type 0 = λ xs. RefutationLinesAndRest false f.vars f.clauses After xs in
     (refl, subst P (sym (append_assoc (map step_text a.log) (flat_map query_and_log_lines asked) (codes "end" ∷ []))) (steps-lines f.vars f.clauses After a.log rest p.0 p.1 more))
 
-record Asking (s : PlainSystem) (g : PlainGoal) (qs : List Wanted) (lines : List Bytes) : Type 0 where
+record Asking (s : PlainSystem) (g : PlainGoalForms) (qs : List Wanted) (lines : List Bytes) : Type 0 where
   asked : List Asked
   queries : map (λ (a : Asked). a.query) asked ≡ qs
   refuted : All (refuted_by s g) asked
   same : lines ≡ flat_map query_and_log_lines asked ++ codes "end" ∷ []
 
-queries-back : (s : PlainSystem) (g : PlainGoal) (qs : List Wanted) (lines : List Bytes) → QueriesLinesAndEnd false s g qs lines → Asking s g qs lines
+queries-back : (s : PlainSystem) (g : PlainGoalForms) (qs : List Wanted) (lines : List Bytes) → QueriesLinesAndEnd false s g qs lines → Asking s g qs lines
 queries-back s g [] [] h = absurd (cc)
 queries-back s g [] (line ∷ lines) h = record {
   asked = [];
@@ -118,7 +118,7 @@ queries-back s g (q ∷ qs) (line ∷ lines) h =
           ∙ ap (λ (xs : List Bytes). query_header_line q ∷ xs) (r.same ∙ ap (λ (xs : List Bytes). map step_text r.log ++ xs) m.same ∙ sym (append_assoc (map step_text r.log) (flat_map query_and_log_lines m.asked) (codes "end" ∷ [])));
     }
 
-pub certificate_lines-whole : (s : PlainSystem) (g : PlainGoal) (k : ℕ) (bytes : Bytes) → IsValidCertificate s g k bytes → CertificateLines false s g k (lines_of bytes) × (unterminated_tail bytes ≡ [])
+pub certificate_lines-whole : (s : PlainSystem) (g : PlainGoalForms) (k : ℕ) (bytes : Bytes) → IsValidCertificate s g k bytes → CertificateLines false s g k (lines_of bytes) × (unterminated_tail bytes ≡ [])
 certificate_lines-whole s g k bytes c =
     let back = lines_back (certificate_lines (safe_line k) c.asked) (certificate-plain k c.asked) in
     let lines = ap lines_of c.text ∙ back.0 in
@@ -126,7 +126,7 @@ certificate_lines-whole s g k bytes c =
     let Q : List Wanted → Type 0 = λ qs. QueriesLinesAndEnd false s g qs (flat_map query_and_log_lines c.asked ++ codes "end" ∷ []) in
     (subst P (sym lines) (refl, (refl, c.some, c.most, subst Q c.queries (queries-lines s g c.asked c.refuted))), ap unterminated_tail c.text ∙ back.1)
 
-pub whole-certificate : (s : PlainSystem) (g : PlainGoal) (k : ℕ) (bytes : Bytes) → CertificateLines false s g k (lines_of bytes) → unterminated_tail bytes ≡ [] → IsValidCertificate s g k bytes
+pub whole-certificate : (s : PlainSystem) (g : PlainGoalForms) (k : ℕ) (bytes : Bytes) → CertificateLines false s g k (lines_of bytes) → unterminated_tail bytes ≡ [] → IsValidCertificate s g k bytes
 whole-certificate s g k bytes h ends = go (lines_of bytes) refl h
   where
     go : (lines : List Bytes) → lines_of bytes ≡ lines → CertificateLines false s g k lines → IsValidCertificate s g k bytes

@@ -3,7 +3,7 @@
 use Rattle.std.specs.Prelude.{ℕ, Bool, false, ◌≡◌, ◌+◌, ◌↔◌, List, [], ◌++◌, length}
 use Rattle.ilk_ir.specs.System.{PlainSystem, plain_system}
 use Rattle.ilk_lines.specs.Lines.{Bytes, unterminated_tail, lines_of}
-use Rattle.ilk_unroll.specs.Goal.{PlainGoal, plain_goal}
+use Rattle.ilk_unroll.specs.Goal.{PlainGoalForms, plain_goal}
 use Rattle.ilk_cert_audit.specs.Answers.{saturated_to_64_bits}
 use Rattle.ilk_cert_audit.specs.FirstBad.{BeginsCertificate, IsFirstBadOfLines}
 use Rattle.ilk_cert_audit.specs.Grammar.{CertificateLines}
@@ -15,14 +15,14 @@ use Rattle.ilk_cert_audit.specs.declared.stage.Stage.TheVariants.{Refused}
 
 -- Holds if the lines begin a certificate, the stage tells exactly which lines may follow, and
 -- `number` is that of the next line.
-pub record IsStageAndNumberAfter (s : PlainSystem) (g : PlainGoal) (stage : Stage) (lines : List Bytes) (number : ℕ) : Type 0 where
+pub record IsStageAndNumberAfter (s : PlainSystem) (g : PlainGoalForms) (stage : Stage) (lines : List Bytes) (number : ℕ) : Type 0 where
   pub begins : BeginsCertificate s g lines
   pub follows : (may_stop : Bool) (k : ℕ) (more : List Bytes) → CertificateLines may_stop s g k (lines ++ more) ↔ FollowingLines may_stop s g k stage more
   pub number_is : number ≡ saturated_to_64_bits (length lines + 1)
 
 -- Holds if the stage is right after these lines, and `number` is that of the next line. A `Refused`
 -- stage has to name the first bad line.
-abbrev pub IsStageOrRefusalAfter : PlainSystem → PlainGoal → Stage → List Bytes → ℕ → Type 0
+abbrev pub IsStageOrRefusalAfter : PlainSystem → PlainGoalForms → Stage → List Bytes → ℕ → Type 0
 IsStageOrRefusalAfter s g (Refused n) lines number = (m : ℕ) × IsFirstBadOfLines s g lines m × (n ≡ saturated_to_64_bits m)
 IsStageOrRefusalAfter s g stage lines number = IsStageAndNumberAfter s g stage lines number
 
@@ -39,16 +39,16 @@ Keeps (Refused n) unfinished bytes = Unit {0}
 Keeps stage unfinished bytes = IsUnfinishedLineBuffer stage unfinished (unterminated_tail bytes)
 
 -- Holds if the check, of this system and goal, has taken these lines.
-pub record HasTakenLines (s : PlainSystem) (g : PlainGoal) (audit : LineAudit) (lines : List Bytes) : Type 0 where
+pub record HasTakenLines (s : PlainSystem) (g : PlainGoalForms) (audit : LineAudit) (lines : List Bytes) : Type 0 where
   pub system : plain_system audit.system ≡ s
   pub goal : plain_goal audit.goal ≡ g
   pub reached : IsStageOrRefusalAfter s g audit.stage lines audit.line
 
 -- Holds if the check has taken the lines of these bytes, and keeps what follows the last line feed.
-pub record HasTakenLinesAndRest (s : PlainSystem) (g : PlainGoal) (audit : LineAudit) (unfinished bytes : Bytes) : Type 0 where
+pub record HasTakenLinesAndRest (s : PlainSystem) (g : PlainGoalForms) (audit : LineAudit) (unfinished bytes : Bytes) : Type 0 where
   pub taken : HasTakenLines s g audit (lines_of bytes)
   pub kept : Keeps audit.stage unfinished bytes
 
 -- Holds if the check, of this system and goal, has taken these bytes, in one or more pieces.
-abbrev pub HasTakenBytes : PlainSystem → PlainGoal → SystemCertAudit → Bytes → Type 0
+abbrev pub HasTakenBytes : PlainSystem → PlainGoalForms → SystemCertAudit → Bytes → Type 0
 HasTakenBytes s g audit bytes = HasTakenLinesAndRest s g audit.lines audit.unfinished.items bytes

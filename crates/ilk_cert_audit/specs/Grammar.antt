@@ -10,7 +10,7 @@ use Rattle.ilk_log.specs.declared.step.Step.{Step as LogStep}
 use Rattle.ilk_log.specs.Derived.{is_derived, is_empty_clause}
 use Rattle.ilk_log.specs.StepText.{step_text}
 use Rattle.ilk_unroll.specs.declared.queries.Wanted.{Wanted}
-use Rattle.ilk_unroll.specs.Goal.{PlainGoal}
+use Rattle.ilk_unroll.specs.Goal.{PlainGoalForms}
 use Rattle.ilk_unroll.specs.Query.{query_formula}
 use Rattle.ilk_certificate.specs.Certificate.{certified_queries}
 use Rattle.ilk_certificate.specs.CertificateText.{query_header_line}
@@ -30,7 +30,7 @@ RefutationLinesAndRest may_stop n clauses After (line ∷ lines) =
 
 -- Holds if the lines are those of these queries, each with the steps that refute its formula, and
 -- then the line `end`.
-abbrev pub QueriesLinesAndEnd : Bool → PlainSystem → PlainGoal → List Wanted → List Bytes → Type 0
+abbrev pub QueriesLinesAndEnd : Bool → PlainSystem → PlainGoalForms → List Wanted → List Bytes → Type 0
 QueriesLinesAndEnd may_stop s g [] [] = IsTrue may_stop
 QueriesLinesAndEnd may_stop s g [] (line ∷ lines) = (line ≡ codes "end") × (lines ≡ [])
 QueriesLinesAndEnd may_stop s g (q ∷ qs) [] = IsTrue may_stop
@@ -43,11 +43,11 @@ safe_line k = join_words_with_spaces (codes "safe" ∷ decimal k ∷ [])
 
 -- Holds if the lines are those of a certificate for `k` after its header: `safe k`, `k` from 1 to
 -- 16, and its queries.
-abbrev pub LinesAfterHeader : Bool → PlainSystem → PlainGoal → ℕ → List Bytes → Type 0
+abbrev pub LinesAfterHeader : Bool → PlainSystem → PlainGoalForms → ℕ → List Bytes → Type 0
 LinesAfterHeader may_stop s g k [] = IsTrue may_stop
 LinesAfterHeader may_stop s g k (line ∷ lines) = (line ≡ safe_line k) × (0 < k) × (k ≤ 16) × QueriesLinesAndEnd may_stop s g (certified_queries k) lines
 
 -- Holds if the lines are those of a certificate for `k`.
-abbrev pub CertificateLines : Bool → PlainSystem → PlainGoal → ℕ → List Bytes → Type 0
+abbrev pub CertificateLines : Bool → PlainSystem → PlainGoalForms → ℕ → List Bytes → Type 0
 CertificateLines may_stop s g k [] = IsTrue may_stop
 CertificateLines may_stop s g k (line ∷ lines) = (line ≡ codes "irv certificate 3") × LinesAfterHeader may_stop s g k lines

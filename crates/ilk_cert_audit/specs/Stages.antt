@@ -5,7 +5,7 @@ use Rattle.ilk_ir.specs.System.{PlainSystem}
 use Rattle.ilk_lines.specs.Lines.{Bytes}
 use Rattle.ilk_unroll.specs.declared.queries.Wanted.{Wanted}
 use Rattle.ilk_unroll.specs.declared.queries.Wanted.TheVariants as wanted
-use Rattle.ilk_unroll.specs.Goal.{PlainGoal, step_count, step_count_is_allowed}
+use Rattle.ilk_unroll.specs.Goal.{PlainGoalForms, step_count, step_count_is_allowed}
 use Rattle.ilk_audit.specs.Audited.{AuditState, with_step}
 use Rattle.ilk_log.specs.declared.step.Step.{Step as LogStep}
 use Rattle.ilk_log.specs.Derived.{is_derived, is_empty_clause}
@@ -35,7 +35,7 @@ is_valid_query_within_k k q = nat_le (step_count q) k && step_count_is_allowed q
 
 -- Holds if the lines may follow at a stage of a certificate for `k`, up to its last line. If
 -- `may_stop` is true, they may stop earlier.
-abbrev pub FollowingLines : Bool → PlainSystem → PlainGoal → ℕ → Stage → List Bytes → Type 0
+abbrev pub FollowingLines : Bool → PlainSystem → PlainGoalForms → ℕ → Stage → List Bytes → Type 0
 FollowingLines may_stop s g k Head lines = CertificateLines may_stop s g k lines
 FollowingLines may_stop s g k Told lines = LinesAfterHeader may_stop s g k lines
 FollowingLines may_stop s g k (Between m next) lines = (k ≡ m) × QueriesLinesAndEnd may_stop s g (certified_queries_from_next m next) lines
@@ -83,7 +83,7 @@ is_bad_line_prefix (Ended k) begun = nat_lt MAX_NON_STEP_LINE (length begun)
 is_bad_line_prefix (Refused n) begun = nat_lt MAX_NON_STEP_LINE (length begun)
 
 -- Holds if `next` is the stage after this line, or `None` if the line may not follow.
-abbrev pub IsNextStage : PlainSystem → PlainGoal → Stage → Bytes → Option Stage → Type 0
+abbrev pub IsNextStage : PlainSystem → PlainGoalForms → Stage → Bytes → Option Stage → Type 0
 IsNextStage s g stage line None = (may_stop : Bool) (k : ℕ) (lines : List Bytes) → ¬ (FollowingLines may_stop s g k stage (line ∷ lines))
 IsNextStage s g stage line (Some next) =
     (may_stop : Bool) (k : ℕ) (lines : List Bytes) → FollowingLines may_stop s g k stage (line ∷ lines) ↔ FollowingLines may_stop s g k next lines

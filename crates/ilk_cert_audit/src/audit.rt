@@ -37,7 +37,7 @@ impl SystemCertAudit {
     ghost use Rattle.std.specs.Prelude.{ℕ, List, ◌++◌, ◌∷◌, [], IfOk, OnOk, IsTrue};
     ghost use Rattle.ilk_ir.specs.System.{PlainSystem, plain_system, system_valid};
     ghost use Rattle.ilk_lines.specs.Written.{LacksByte};
-    ghost use Rattle.ilk_unroll.specs.Goal.{PlainGoal, plain_goal, goal_valid};
+    ghost use Rattle.ilk_unroll.specs.Goal.{PlainGoalForms, plain_goal, goal_valid};
     ghost use Rattle.ilk_cert_audit.specs.Answers.{IsFinalAnswer, IsAnswerAfterBytes};
     ghost use Rattle.ilk_cert_audit.specs.Fed.{HasTakenBytes};
 
@@ -57,7 +57,8 @@ impl SystemCertAudit {
     fn end_line(&mut self, rest: &[u8]) -> Result<(), AllocError>
         requires { LacksByte 10 rest.now }
         ensures { OnOk result
-            ((s : PlainSystem) (g : PlainGoal) (bytes : List ℕ) → HasTakenBytes s g self.old bytes →
+            ((s : PlainSystem) (g : PlainGoalForms) (bytes : List ℕ) →
+            HasTakenBytes s g self.old bytes →
             HasTakenBytes s g self.new (bytes ++ (rest.now ++ 10 ∷ []))) }
     {
         if self.lines.is_refused() {
@@ -80,7 +81,8 @@ impl SystemCertAudit {
     fn keep(&mut self, rest: &[u8]) -> Result<(), AllocError>
         requires { LacksByte 10 rest.now }
         ensures { OnOk result
-            ((s : PlainSystem) (g : PlainGoal) (bytes : List ℕ) → HasTakenBytes s g self.old bytes →
+            ((s : PlainSystem) (g : PlainGoalForms) (bytes : List ℕ) →
+            HasTakenBytes s g self.old bytes →
             HasTakenBytes s g self.new (bytes ++ rest.now)) }
     {
         if self.lines.is_refused() {
@@ -95,7 +97,8 @@ impl SystemCertAudit {
 
     fn split(&mut self, piece: &[u8]) -> Result<(), AllocError>
         ensures { OnOk result
-            ((s : PlainSystem) (g : PlainGoal) (bytes : List ℕ) → HasTakenBytes s g self.old bytes →
+            ((s : PlainSystem) (g : PlainGoalForms) (bytes : List ℕ) →
+            HasTakenBytes s g self.old bytes →
             HasTakenBytes s g self.new (bytes ++ piece.now)) }
     {
         let mut left = piece;
@@ -110,10 +113,11 @@ impl SystemCertAudit {
     /// answer doesn't depend on how the bytes are divided. After an error, the check is unusable.
     pub fn feed(&mut self, piece: &[u8]) -> Result<Fed, AllocError>
         ensures fed { OnOk result
-            ((s : PlainSystem) (g : PlainGoal) (bytes : List ℕ) → HasTakenBytes s g self.old bytes →
+            ((s : PlainSystem) (g : PlainGoalForms) (bytes : List ℕ) →
+            HasTakenBytes s g self.old bytes →
             HasTakenBytes s g self.new (bytes ++ piece.now)) }
         ensures answer { IfOk result
-            (λ fed. (s : PlainSystem) (g : PlainGoal) (bytes : List ℕ) →
+            (λ fed. (s : PlainSystem) (g : PlainGoalForms) (bytes : List ℕ) →
             HasTakenBytes s g self.old bytes → IsAnswerAfterBytes s g (bytes ++ piece.now) fed) }
     {
         self.split(piece)?;
@@ -123,7 +127,7 @@ impl SystemCertAudit {
     /// Returns whether all bytes taken are a certificate, and for which number, or the first bad
     /// line.
     pub fn end(self) -> Ended
-        ensures { (s : PlainSystem) (g : PlainGoal) (bytes : List ℕ) →
+        ensures { (s : PlainSystem) (g : PlainGoalForms) (bytes : List ℕ) →
             HasTakenBytes s g self bytes →
             IsFinalAnswer s g bytes result }
     {

@@ -38,7 +38,7 @@ impl LineAudit {
     ghost use Rattle.std.specs.Prelude.{ℕ, List, ◌↔◌, ◌++◌, ◌∷◌, [], true, false, None, OnOk};
     ghost use Rattle.ilk_ir.specs.System.{PlainSystem};
     ghost use Rattle.ilk_lines.specs.Lines.{Bytes, unterminated_tail, lines_of};
-    ghost use Rattle.ilk_unroll.specs.Goal.{PlainGoal};
+    ghost use Rattle.ilk_unroll.specs.Goal.{PlainGoalForms};
     ghost use Rattle.ilk_cert_audit.specs.Answers.{IsFinalAnswer, ReportsFirstBad};
     ghost use Rattle.ilk_cert_audit.specs.Fed.{HasTakenLines};
     ghost use Rattle.ilk_cert_audit.specs.Stages.{IsNextStage, is_bad_line_prefix};
@@ -79,7 +79,7 @@ impl LineAudit {
 
     /// Takes the next line, known to be bad, without its bytes.
     pub fn refuse(&mut self)
-        ensures bad { (s : PlainSystem) (g : PlainGoal) (lines : List Bytes) (line : Bytes)
+        ensures bad { (s : PlainSystem) (g : PlainGoalForms) (lines : List Bytes) (line : Bytes)
             → HasTakenLines s g self.old lines → is_refused self.old.stage ≡ false
             → IsNextStage s g self.old.stage line None
             → HasTakenLines s g self.new (lines ++ line ∷ []) }
@@ -93,7 +93,7 @@ impl LineAudit {
     /// unusable.
     pub fn take(&mut self, line: &[u8]) -> Result<(), AllocError>
         ensures { OnOk result
-            ((s : PlainSystem) (g : PlainGoal) (lines : List Bytes) →
+            ((s : PlainSystem) (g : PlainGoalForms) (lines : List Bytes) →
             HasTakenLines s g self.old lines
             →
             HasTakenLines s g self.new (lines ++ line.now ∷ [])) }
@@ -113,7 +113,7 @@ impl LineAudit {
 
     /// Returns the number of the first bad line among those taken, or `More` if none was bad.
     pub fn first_bad_line_so_far(&self) -> Fed
-        ensures { (s : PlainSystem) (g : PlainGoal) (lines : List Bytes) →
+        ensures { (s : PlainSystem) (g : PlainGoalForms) (lines : List Bytes) →
             HasTakenLines s g self.now lines → ReportsFirstBad s g lines result }
     {
         match self.stage {
@@ -125,7 +125,7 @@ impl LineAudit {
     /// Returns the answer at the end of the text. `is_whole` says whether nothing follows the last
     /// line feed; otherwise the text is not a certificate.
     pub fn end(&self, is_whole: bool) -> Ended
-        ensures { (s : PlainSystem) (g : PlainGoal) (bytes : List ℕ) →
+        ensures { (s : PlainSystem) (g : PlainGoalForms) (bytes : List ℕ) →
             HasTakenLines s g self.now (lines_of bytes) →
             (is_refused self.now.stage ≡ false →
             (is_whole ≡ true) ↔ (unterminated_tail bytes ≡ [])) →

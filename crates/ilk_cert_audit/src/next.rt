@@ -1,7 +1,7 @@
 ghost use Rattle.std.specs.Prelude.{◌≡◌, false, Some, IfOk, IfSome, IsTrue};
 ghost use Rattle.ilk_certificate.specs.CertificateText.{query_header_line};
 ghost use Rattle.ilk_ir.specs.System.{PlainSystem, plain_system, system_valid};
-ghost use Rattle.ilk_unroll.specs.Goal.{PlainGoal, plain_goal, goal_valid};
+ghost use Rattle.ilk_unroll.specs.Goal.{PlainGoalForms, plain_goal, goal_valid};
 ghost use Rattle.ilk_cert_audit.specs.Stages.{IsOutcomeOfStepLine, IsNextStage, is_valid_k, is_valid_stage, is_valid_query_within_k};
 ghost use Rattle.ilk_cert_audit.specs.declared.stage.Stage.TheVariants.{Between, Told, Within};
 
@@ -75,7 +75,7 @@ fn after_step(
     requires unfinished { auditor.closed ≡ false }
     ensures stage { IfOk result (λ next. IfSome next (λ stage. IsTrue (is_valid_stage stage))) }
     ensures next { IfOk result
-        (λ next. (s : PlainSystem) (g : PlainGoal) →
+        (λ next. (s : PlainSystem) (g : PlainGoalForms) →
         IsNextStage s g (Within k query auditor) line.now next) }
 {
     match take_step(step, &mut auditor, line)? {
@@ -90,7 +90,7 @@ fn after_step(
 
 fn after_told(line: &[u8]) -> Option<Stage>
     ensures stage { IfSome result (λ stage. IsTrue (is_valid_stage stage)) }
-    ensures next { (s : PlainSystem) (g : PlainGoal) → IsNextStage s g Told line.now result }
+    ensures next { (s : PlainSystem) (g : PlainGoalForms) → IsNextStage s g Told line.now result }
 {
     let k = read_safe_line(line)?;
     Some(Stage::Between {

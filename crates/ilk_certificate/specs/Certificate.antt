@@ -6,13 +6,13 @@ use Rattle.ilk_log.specs.declared.step.Step.{Step as LogStep}
 use Rattle.ilk_log.specs.Derived.{is_refutation}
 use Rattle.ilk_unroll.specs.declared.queries.Wanted.{Wanted}
 use Rattle.ilk_unroll.specs.declared.queries.Wanted.TheVariants.{Hazard, Breach, Step}
-use Rattle.ilk_unroll.specs.Goal.{PlainGoal}
+use Rattle.ilk_unroll.specs.Goal.{PlainGoalForms}
 use Rattle.ilk_unroll.specs.Query.{query_formula}
 use Rattle.ilk_certificate.specs.declared.asked.Asked.{Asked}
 use Rattle.ilk_certificate.specs.CertificateText.{safe_text}
 
 -- Holds if the log is a refutation of the query's formula.
-abbrev pub IsRefuted : PlainSystem → PlainGoal → Wanted → List LogStep → Type 0
+abbrev pub IsRefuted : PlainSystem → PlainGoalForms → Wanted → List LogStep → Type 0
 IsRefuted s g q log = IsTrue (is_refutation (query_formula s g q) log)
 
 -- The hazard query and the breach query for runs of `n` steps.
@@ -26,7 +26,7 @@ certified_queries k = flat_map hazard_and_breach_query_pair (range_with_len 0 (k
 
 -- Holds if the bytes are a certificate for `k`, from 1 to 16: the text that states `safe k`, with
 -- its queries, each followed by a log that refutes it.
-pub record IsValidCertificate (s : PlainSystem) (g : PlainGoal) (k : ℕ) (bytes : Bytes) : Type 0 where
+pub record IsValidCertificate (s : PlainSystem) (g : PlainGoalForms) (k : ℕ) (bytes : Bytes) : Type 0 where
   pub asked : List Asked
   pub some : 0 < k
   pub most : k ≤ 16

@@ -29,7 +29,7 @@ use Rattle.ilk_net_read.specs.Section.{as_section}
 use Rattle.ilk_net_read.specs.declared.version.Version.{Version}
 use Rattle.ilk_net_read.specs.declared.version.Version.TheVariants.{First, Second}
 use Rattle.ilk_table_read.specs.Route.{as_listed_point, as_route}
-use Rattle.ilk_table_read.specs.Table.{net_and_table_drafts, route_draft_from_value, table_draft_from_conf_value}
+use Rattle.ilk_table_read.specs.Table.{net_and_table_drafts_from_text, route_draft_from_value, table_draft_from_conf_value}
 use Rattle.ilk_net_read.proofs.Values.{value_of-read}
 use Rattle.ilk_conf_write.specs.ConfigurationText.{configuration_text, configuration_value, table_fits_version, route_has_no_protection, listed_point_value, text_or_null_value, route_value, section_value}
 
@@ -184,7 +184,7 @@ depth-few version net table =
 
 pub text-read : (version : Version) (net : NetDraft) (table : TableDraft) (text : List ℕ) →
     WithinLimits net table → table_fits_version version table ≡ true → IsUtf8 text →
-    read text ≡ Some (configuration_value version net table) → net_and_table_drafts text ≡ Ok (net, table)
+    read text ≡ Some (configuration_value version net table) → net_and_table_drafts_from_text text ≡ Ok (net, table)
 text-read version net table text limits in_version utf8 is =
     rw (value_of-read text (configuration_value version net table) utf8 is, network-read version net table limits, table-read version net table limits in_version) refl
 
@@ -233,7 +233,7 @@ pub read-of :
     (table : TableDraft) →
     WithinLimits net table → table_fits_version version table ≡ true → d ≡ configuration_value version net table →
     IfOk written (λ b. IsUtf8 (bytes b)) → IfOk written (λ b. depth d ≤ max_depth → read (bytes b) ≡ Some d) →
-    IfOk written (λ b. net_and_table_drafts (bytes b) ≡ Ok (net, table))
+    IfOk written (λ b. net_and_table_drafts_from_text (bytes b) ≡ Ok (net, table))
 read-of bytes (Err e) d version net table limits in_version same utf8 told = tt
 read-of bytes (Ok b) d version net table limits in_version same utf8 told =
     let shallow : depth d ≤ max_depth = subst (λ (v : Data). depth v ≤ max_depth) (sym same) (depth-few version net table) in

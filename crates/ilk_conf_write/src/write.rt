@@ -1,6 +1,6 @@
 ghost use Rattle.std.specs.Prelude.{◌≡◌, IfOk, IsTrue, Ok};
 ghost use Rattle.ilk_plant.specs.Limits.{WithinLimits};
-ghost use Rattle.ilk_table_read.specs.Table.{net_and_table_drafts};
+ghost use Rattle.ilk_table_read.specs.Table.{net_and_table_drafts_from_text};
 ghost use Rattle.ilk_conf_write.specs.ConfigurationText.{configuration_text, table_fits_version};
 
 use crate::value::configuration_value;
@@ -21,7 +21,8 @@ pub fn configuration_json(
     requires limits { WithinLimits net.now table.now }
     requires version { IsTrue (table_fits_version version table.now) }
     ensures text { IfOk result (λ text. text.items ≡ configuration_text version net.now table.now) }
-    ensures read { IfOk result (λ text. net_and_table_drafts text.items ≡ Ok (net.now, table.now)) }
+    ensures read { IfOk result (λ text. net_and_table_drafts_from_text text.items
+        ≡ Ok (net.now, table.now)) }
 {
     configuration_value(alloc, version, net, table)?.to_vec(alloc)
 }

@@ -26,8 +26,8 @@ use Rattle.ilk_layout.specs.Variables.{detected_var, board_var, boards_begin, lo
 use Rattle.ilk_layout.specs.declared.values.Occupancy.{Occupancy}
 use Rattle.ilk_layout.specs.declared.values.Occupancy.TheVariants.{Vacant, Taken, Crash}
 use Rattle.ilk_layout.proofs.Writes.{at-at, board-at, lock-at, mode-at, occupancy-at, rel-at, seen-at, to-at}
-use Rattle.ilk_decode.specs.Numbered.{aspect_from_number, hold_from_number, lie_from_number, mode_from_number, occupancy_from_number, position_from_number}
-use Rattle.ilk_decode.specs.Read.{decoded_board, decoded_lock, decoded_occupancy, decoded_point, decoded_route}
+use Rattle.ilk_decode.specs.Numbered.{aspect_from_number, lock_state_from_number, lie_from_number, mode_from_number, occupancy_from_number, position_from_number}
+use Rattle.ilk_decode.specs.Read.{decoded_board, decoded_lock_state, decoded_occupancy, decoded_point, decoded_route}
 
 mode-numbered : (m : Mode) → mode_from_number (mode_value m) ≡ m
 mode-numbered Free = refl
@@ -49,7 +49,7 @@ aspect-numbered : (a : Aspect) → aspect_from_number (aspect_value a) ≡ a
 aspect-numbered Open = refl
 aspect-numbered Closed = refl
 
-hold-numbered : (h : Hold) → hold_from_number (lock_value h) ≡ h
+hold-numbered : (h : Hold) → lock_state_from_number (lock_value h) ≡ h
 hold-numbered FreeLock = refl
 hold-numbered LockedLock = refl
 hold-numbered UsedLock = refl
@@ -105,10 +105,10 @@ module _ (p : PlantLists) (s : State) (shape : HasShape p s) where
       mapped-range (decoded_board (image_of p s) (boards_begin p)) (length p.boards) s.boards shape.boards (λ m aspect at.
       ap aspect_from_number (value-is (board_var p m) (aspect_value aspect) (board-at p s (occupancy_values p s) shape m aspect at)) ∙ aspect-numbered aspect)
 
-  pub locks-back : map (decoded_lock (image_of p s) (locks_begin p)) (range_with_len 0 (length p.sections)) ≡ s.locks
+  pub locks-back : map (decoded_lock_state (image_of p s) (locks_begin p)) (range_with_len 0 (length p.sections)) ≡ s.locks
   locks-back =
-      mapped-range (decoded_lock (image_of p s) (locks_begin p)) (length p.sections) s.locks shape.locks (λ x hold at.
-      ap hold_from_number (value-is (lock_var p x) (lock_value hold) (lock-at p s (occupancy_values p s) shape x hold at)) ∙ hold-numbered hold)
+      mapped-range (decoded_lock_state (image_of p s) (locks_begin p)) (length p.sections) s.locks shape.locks (λ x hold at.
+      ap lock_state_from_number (value-is (lock_var p x) (lock_value hold) (lock-at p s (occupancy_values p s) shape x hold at)) ∙ hold-numbered hold)
 
   pub occupancies-back : map (decoded_occupancy (image_of p s) (occupancies_begin p)) (range_with_len 0 (length p.sections)) ≡ map (occupancy_or_crash p s) (range_with_len 0 (length p.sections))
   occupancies-back =

@@ -32,8 +32,8 @@ position_from_number number = if number == 0 then Plus else Minus
 abbrev pub aspect_from_number : ℕ → Aspect
 aspect_from_number number = if number == 0 then Open else Closed
 
-abbrev pub hold_from_number : ℕ → Hold
-hold_from_number number = if number == 0 then FreeLock else if number == 1 then LockedLock else UsedLock
+abbrev pub lock_state_from_number : ℕ → Hold
+lock_state_from_number number = if number == 0 then FreeLock else if number == 1 then LockedLock else UsedLock
 
 abbrev pub occupancy_from_number : ℕ → Occupancy
 occupancy_from_number number =

@@ -14,7 +14,7 @@ use Rattle.ilk_layout.specs.Decoded.{iterates_until_none}
 use Rattle.ilk_layout.specs.Variables.{boards_begin, locks_begin, mode_var, occupancies_begin, points_begin, released_count_var, seen_count_var}
 use Rattle.ilk_layout.specs.declared.values.Occupancy.{Occupancy}
 use Rattle.ilk_layout.specs.declared.values.Occupancy.TheVariants.{Vacant, Taken, Crash}
-use Rattle.ilk_decode.specs.Numbered.{aspect_from_number, hold_from_number, lie_from_number, mode_from_number, occupancy_from_number, position_from_number}
+use Rattle.ilk_decode.specs.Numbered.{aspect_from_number, lock_state_from_number, lie_from_number, mode_from_number, occupancy_from_number, position_from_number}
 
 -- Returns the state of route `r` by these values.
 abbrev pub decoded_route : List ℕ → ℕ → RouteState
@@ -29,8 +29,8 @@ abbrev pub decoded_board : List ℕ → ℕ → ℕ → Aspect
 decoded_board values begin m = aspect_from_number (get_or values (begin + m) 0)
 
 -- Returns the lock of section `x` by these values. `begin` is the locks' first variable.
-abbrev pub decoded_lock : List ℕ → ℕ → ℕ → Hold
-decoded_lock values begin x = hold_from_number (get_or values (begin + x) 0)
+abbrev pub decoded_lock_state : List ℕ → ℕ → ℕ → Hold
+decoded_lock_state values begin x = lock_state_from_number (get_or values (begin + x) 0)
 
 -- Returns the occupancy of section `x` by these values. `begin` is the occupancies' first variable.
 abbrev pub decoded_occupancy : List ℕ → ℕ → ℕ → Occupancy
@@ -42,7 +42,7 @@ decoded_without_trains p values = record {
   routes = map (decoded_route values) (range_with_len 0 (length p.routes));
   points = map (decoded_point values (points_begin p)) (range_with_len 0 (point_count p));
   boards = map (decoded_board values (boards_begin p)) (range_with_len 0 (length p.boards));
-  locks = map (decoded_lock values (locks_begin p)) (range_with_len 0 (length p.sections));
+  locks = map (decoded_lock_state values (locks_begin p)) (range_with_len 0 (length p.sections));
   trains = [];
 }
 

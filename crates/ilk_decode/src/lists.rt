@@ -1,9 +1,9 @@
 ghost use Rattle.std.specs.Prelude.{◌≡◌, ◌<◌, ◌^◌, IfOk, map};
 ghost use Rattle.std.specs.List.{range_with_len};
-ghost use Rattle.ilk_decode.specs.Read.{decoded_board, decoded_lock, decoded_occupancy, decoded_point, decoded_route};
+ghost use Rattle.ilk_decode.specs.Read.{decoded_board, decoded_lock_state, decoded_occupancy, decoded_point, decoded_route};
 
 use crate::numbers::{
-    aspect_from_number, hold_from_number, lie_from_number, mode_from_number, number_at,
+    aspect_from_number, lie_from_number, lock_state_from_number, mode_from_number, number_at,
     occupancy_from_number, position_from_number,
 };
 use ilk_base::Row;
@@ -76,11 +76,11 @@ pub(crate) fn decode_locks(
 ) -> Result<Row<Hold>, AllocError>
     requires { begin < 2 ^ 40 }
     ensures { IfOk result
-        (λ made. made ≡ map (decoded_lock values.now begin) (range_with_len 0 count)) }
+        (λ made. made ≡ map (decoded_lock_state values.now begin) (range_with_len 0 count)) }
 {
     let mut made = Row::new(alloc);
     for x in 0..count {
-        made.push(hold_from_number(number_at(values, begin + x as u64)))?;
+        made.push(lock_state_from_number(number_at(values, begin + x as u64)))?;
     }
     Ok(made)
 }

@@ -54,8 +54,8 @@ pub(crate) fn aspect_from_number(number: u8) -> Aspect
     }
 }
 
-pub(crate) fn hold_from_number(number: u8) -> Hold
-    ensures { result ≡ numbered.hold_from_number number }
+pub(crate) fn lock_state_from_number(number: u8) -> Hold
+    ensures { result ≡ numbered.lock_state_from_number number }
 {
     match number {
         0 => Hold::Free,

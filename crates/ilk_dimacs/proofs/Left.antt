@@ -6,8 +6,8 @@ use Rattle.ilk_cnf.specs.Formula.{Formula}
 use Rattle.ilk_lines.specs.Lines.{Bytes}
 use Rattle.ilk_log.specs.StepText.{lit_word}
 use Rattle.ilk_dimacs.specs.DimacsText.{clause_words, dimacs_text, header_words}
-use Rattle.ilk_dimacs.specs.Left.{clauses_text_after_lits, line_with_feed, clause_lines_text, lits_with_space_after_each}
-use Rattle.ilk_dimacs.proofs.Lines.{line-lits, lines-line_with_feed}
+use Rattle.ilk_dimacs.specs.Left.{clauses_text_after_lits, line_of_words_with_feed, clause_lines_text, lits_with_space_after_each}
+use Rattle.ilk_dimacs.proofs.Lines.{line-lits, lines-line_of_words_with_feed}
 use Rattle.ilk_base.proofs.Lists.{drop_from}
 
 pub left_whole : (cs : List (List Literal)) → clauses_text_after_lits 0 cs ≡ clause_lines_text cs
@@ -15,7 +15,7 @@ left_whole [] = refl
 left_whole (c ∷ cs) =
     sym (append_assoc (lits_with_space_after_each c) (codes "0\n") (clause_lines_text cs)) ∙ ap (λ (t : Bytes). t ++ clause_lines_text cs) (line-fed c)
   where
-    line-fed : (c : List Literal) → lits_with_space_after_each c ++ codes "0\n" ≡ line_with_feed (clause_words c)
+    line-fed : (c : List Literal) → lits_with_space_after_each c ++ codes "0\n" ≡ line_of_words_with_feed (clause_words c)
     line-fed c = sym (append_assoc (lits_with_space_after_each c) (codes "0") (10 ∷ [])) ∙ ap (λ (t : Bytes). t ++ 10 ∷ []) (sym (line-lits c))
 
 pub left-literal : (cs : List (List Literal)) (i n : ℕ) (c : List Literal) (l : Literal) → slice_get cs (i + 1 - 1) ≡ Some c → slice_get c n ≡ Some l →
@@ -36,9 +36,9 @@ left-end cs i n c clause past =
     ∙ ap (λ (ls : List Literal). lits_with_space_after_each ls ++ (codes "0\n" ++ clause_lines_text (drop (i + 1) cs))) (sym (drop_all n c past))
     ∙ ap (clauses_text_after_lits n) (sym here)
 
-pub text_is : (f : Formula) (header rest : Bytes) → header ≡ line_with_feed (header_words f) → rest ≡ clause_lines_text f.clauses → header ++ rest ≡ dimacs_text f
+pub text_is : (f : Formula) (header rest : Bytes) → header ≡ line_of_words_with_feed (header_words f) → rest ≡ clause_lines_text f.clauses → header ++ rest ≡ dimacs_text f
 text_is f header rest first clauses =
-    ap (λ (t : Bytes). t ++ rest) first ∙ ap (λ (t : Bytes). line_with_feed (header_words f) ++ t) (clauses ∙ lines-line_with_feed f.clauses)
+    ap (λ (t : Bytes). t ++ rest) first ∙ ap (λ (t : Bytes). line_of_words_with_feed (header_words f) ++ t) (clauses ∙ lines-line_of_words_with_feed f.clauses)
 
 pub literal-made :
     (cs : List (List Literal)) (i n : ℕ) (c : List Literal) (l : Literal) (made whole : Bytes) →

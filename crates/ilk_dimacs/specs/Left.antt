@@ -9,8 +9,8 @@ use Rattle.ilk_dimacs.specs.DimacsText.{clause_words}
 use Rattle.ilk_dimacs.specs.declared.clauses_text.Position.{Position}
 
 -- Returns the line of these words, with its line feed.
-abbrev pub line_with_feed : List Bytes → Bytes
-line_with_feed words = join_words_with_spaces words ++ 10 ∷ []
+abbrev pub line_of_words_with_feed : List Bytes → Bytes
+line_of_words_with_feed words = join_words_with_spaces words ++ 10 ∷ []
 
 -- Returns the text of literals, with a space after each.
 abbrev pub lits_with_space_after_each : List Literal → Bytes
@@ -18,7 +18,7 @@ lits_with_space_after_each c = flat_map (λ l. lit_word l ++ 32 ∷ []) c
 
 -- Returns the lines of clauses, each with its line feed.
 abbrev pub clause_lines_text : List (List Literal) → Bytes
-clause_lines_text cs = flat_map (λ c. line_with_feed (clause_words c)) cs
+clause_lines_text cs = flat_map (λ c. line_of_words_with_feed (clause_words c)) cs
 
 -- Returns the lines of clauses, without the first `n` literals of the first.
 abbrev pub clauses_text_after_lits : ℕ → List (List Literal) → Bytes

@@ -14,7 +14,7 @@ use Rattle.ilk_model.specs.declared.event.Event.{Event}
 use Rattle.ilk_drive.specs.Awakening.{may_enable_automatic}
 use Rattle.ilk_drive.specs.Commands.{is_command}
 use Rattle.ilk_drive.specs.Drive.{automatic_events, first_automatic}
-use Rattle.ilk_drive.specs.Places.{ContainsIndicesEventMayEnable, ContainsEnabledAutomaticIndices, ContainsEnabledAutomaticIndicesExcept, IsLowerBoundOf, HasIndicesEachMayEnable}
+use Rattle.ilk_drive.specs.Places.{ContainsIndicesEventMayEnable, ContainsEnabledAutomaticIndices, ContainsEnabledAutomaticIndicesExcept, IsLowerBoundOf, ListsIndicesEachEventMayEnable}
 use Rattle.ilk_drive.proofs.Awakes.{awakes}
 use Rattle.ilk_drive.proofs.Changes.{true-false}
 use Rattle.ilk_drive.proofs.Found.{NoneBefore, first-none, left-alone}
@@ -52,7 +52,7 @@ pub wakes-more :
     (p : PlantLists) (events : List Event) (woken new : List (List ℕ)) (i : ℕ) (event : Event)
     (places : List ℕ) →
     length woken ≡ i → slice_get events i ≡ Some event → ContainsIndicesEventMayEnable p event places →
-    new ≡ woken ++ places ∷ [] → HasIndicesEachMayEnable p events woken → HasIndicesEachMayEnable p events new
+    new ≡ woken ++ places ∷ [] → ListsIndicesEachEventMayEnable p events woken → ListsIndicesEachEventMayEnable p events new
 wakes-more p events woken new i event places long here wakes grown before k other listed at listed_at = elim (slice_get-push_cases woken places listed k (ap (λ (l : List (List ℕ)). slice_get l k) (sym grown) ∙ listed_at)) [
   | inl old ↦ before k other listed at old
   | inr last ↦

@@ -38,22 +38,22 @@ use Rattle.ilk_model.specs.Event.{next}
 use Rattle.ilk_model.specs.declared.event.Event.TheVariants.{Throw, Settle, Head, Tail, Leave}
 use Rattle.ilk_plant.proofs.InLists.{section-at}
 use Rattle.ilk_strict.proofs.After.{same-occupied}
-use Rattle.ilk_drive.specs.Awakening.{route_has_element_on, route_affects_allocation_or_locking, numbered_route_has_element_on, source_protects_route, route_may_affect_by_number, routes_lock_common_section, is_board_on_section}
+use Rattle.ilk_drive.specs.Awakening.{route_has_element_on, route_affects_allocation_or_locking, numbered_route_has_element_on, source_is_protecting_board_of, route_may_affect_by_number, routes_lock_common_section, is_board_on_section}
 use Rattle.ilk_drive.proofs.Back.{first_dir, head-back, leave-back, settle-back, tail-back, throw-back}
 use Rattle.ilk_drive.proofs.Changes.{apart, claimed-alike, lock-same, locks-stay, neither, state-new, true-false}
 
 pub record AreApart (r : ℕ) (route other : Route) : Type 0 where
   pub conflict : list_any (λ c. c == r) other.conflicts ≡ false
   pub sections : routes_lock_common_section route other ≡ false
-  pub guarded : source_protects_route route other ≡ false
-  pub guarding : source_protects_route other route ≡ false
+  pub guarded : source_is_protecting_board_of route other ≡ false
+  pub guarding : source_is_protecting_board_of other route ≡ false
 
 pub are-apart : (p : PlantLists) (r q : ℕ) (route other : Route) → slice_get p.routes r ≡ Some route → slice_get p.routes q ≡ Some other → route_may_affect_by_number p r q ≡ false → AreApart r route other
 are-apart p r q route other known that out =
     let same : route_may_affect_by_number p r q ≡ route_affects_allocation_or_locking r route other = rw (known, that) refl in
-    let one = neither (list_any (λ c. c == r) other.conflicts) (routes_lock_common_section route other || (source_protects_route route other || source_protects_route other route)) (sym same ∙ out) in
-    let two = neither (routes_lock_common_section route other) (source_protects_route route other || source_protects_route other route) one.1 in
-    let three = neither (source_protects_route route other) (source_protects_route other route) two.1 in
+    let one = neither (list_any (λ c. c == r) other.conflicts) (routes_lock_common_section route other || (source_is_protecting_board_of route other || source_is_protecting_board_of other route)) (sym same ∙ out) in
+    let two = neither (routes_lock_common_section route other) (source_is_protecting_board_of route other || source_is_protecting_board_of other route) one.1 in
+    let three = neither (source_is_protecting_board_of route other) (source_is_protecting_board_of other route) two.1 in
     record { conflict = one.0; sections = two.0; guarded = three.0; guarding = three.1 }
 
 pub not-shared : (a b : Route) → routes_lock_common_section a b ≡ false → (x : ℕ) → contains_section x (sections_locked_for b) ≡ true → contains_section x (sections_locked_for a) ≡ false

@@ -18,15 +18,15 @@ abbrev pub routes_lock_common_section : Route → Route → Bool
 routes_lock_common_section a b = list_any (λ x. contains_section x (sections_locked_for b)) (sections_locked_for a)
 
 -- Returns whether the source of the first route is a protecting board of the second.
-abbrev pub source_protects_route : Route → Route → Bool
-source_protects_route a b = has_number a.source b.protecting_boards
+abbrev pub source_is_protecting_board_of : Route → Route → Bool
+source_is_protecting_board_of a b = has_number a.source b.protecting_boards
 
 -- Returns whether the state of `route`, which has number `r`, may affect the allocation or locking
 -- of `other`. This needs `other` to list `r` as a conflict, a section locked for both, or a source
 -- of one that is a protecting board of the other.
 abbrev pub route_affects_allocation_or_locking : ℕ → Route → Route → Bool
 route_affects_allocation_or_locking r route other =
-    has_number r other.conflicts || (routes_lock_common_section route other || (source_protects_route route other || source_protects_route other route))
+    has_number r other.conflicts || (routes_lock_common_section route other || (source_is_protecting_board_of route other || source_is_protecting_board_of other route))
 
 -- Returns whether the state of route number `r` may affect the allocation or locking of route
 -- number `q`.

@@ -24,15 +24,15 @@ ContainsIndicesEventMayEnable p event places = (j : ℕ) (other : Event) → sli
 
 -- Holds if each of these events has, in `woken`, the indices of the automatic events that it may
 -- enable.
-abbrev pub HasIndicesEachMayEnable : PlantLists → List Event → List (List ℕ) → Type 0
-HasIndicesEachMayEnable p events woken = (i : ℕ) (event : Event) (places : List ℕ) → slice_get events i ≡ Some event → slice_get woken i ≡ Some places → ContainsIndicesEventMayEnable p event places
+abbrev pub ListsIndicesEachEventMayEnable : PlantLists → List Event → List (List ℕ) → Type 0
+ListsIndicesEachEventMayEnable p events woken = (i : ℕ) (event : Event) (places : List ℕ) → slice_get events i ≡ Some event → slice_get woken i ≡ Some places → ContainsIndicesEventMayEnable p event places
 
 -- Holds if `automatic` has the automatic events of the plant and, for each, the indices of those
 -- that it may enable.
 pub record IsAutomaticEnablingGraphOf (p : PlantLists) (automatic : Automatic) : Type 0 where
   pub events : automatic.events ≡ automatic_events p
   pub long : length automatic.woken ≡ length automatic.events
-  pub woken : HasIndicesEachMayEnable p automatic.events automatic.woken
+  pub woken : ListsIndicesEachEventMayEnable p automatic.events automatic.woken
 
 -- Holds if each automatic event that is enabled in state `s` has index `place`, or its index is in
 -- the list.

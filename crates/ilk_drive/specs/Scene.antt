@@ -30,6 +30,6 @@ scene_from_text p text = answer (commands_from_lines p (lines_of text) (untermin
     answer (Err n) = Bad n
 
 -- Holds if a scenario that was read contains only commands. It also holds if none was read.
-abbrev pub HasOnlyCommands : Scene → Type 0
-HasOnlyCommands (IsScene commands) = EachEventIsCommand commands
-HasOnlyCommands (Bad n) = Unit {0}
+abbrev pub HasOnlyCommandsIfRead : Scene → Type 0
+HasOnlyCommandsIfRead (IsScene commands) = EachEventIsCommand commands
+HasOnlyCommandsIfRead (Bad n) = Unit {0}

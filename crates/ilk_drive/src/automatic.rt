@@ -2,7 +2,7 @@ ghost use Rattle.std.specs.Prelude.{ℕ, ◌≡◌, ◌++◌, ◌<◌, ◌^◌, 
 ghost use Rattle.std.specs.List.{range_with_len};
 ghost use Rattle.ilk_model.specs.declared.event.Event.{Event};
 ghost use Rattle.ilk_drive.specs.Drive.{automatic_events};
-ghost use Rattle.ilk_drive.specs.Places.{IsAutomaticEnablingGraphOf, HasIndicesEachMayEnable};
+ghost use Rattle.ilk_drive.specs.Places.{IsAutomaticEnablingGraphOf, ListsIndicesEachEventMayEnable};
 ghost use Rattle.ilk_base.specs.Numbers.{has_number};
 
 use crate::candidates::Candidates;
@@ -61,7 +61,8 @@ fn woken_by_each(
 ) -> Result<Row<Row<u64>>, AllocError>
     requires { events.now ≡ automatic_events plant.now }
     ensures long { IfOk result (λ woken. length woken ≡ length events.now) }
-    ensures woken { IfOk result (λ woken. HasIndicesEachMayEnable plant.now events.now woken) }
+    ensures woken { IfOk result
+        (λ woken. ListsIndicesEachEventMayEnable plant.now events.now woken) }
 {
     let mut woken = Row::new(alloc);
     for event in events.as_slice() {

@@ -2,7 +2,7 @@ ghost use Rattle.std.specs.Prelude.{◌≡◌, IfOk};
 ghost use Rattle.ilk_lines.specs.Answers.{ResultMatchesUnlessOutOfMemory};
 ghost use Rattle.ilk_lines.specs.Lines.{unterminated_tail, lines_of};
 ghost use Rattle.ilk_drive.specs.CommandLine.{command_from_line};
-ghost use Rattle.ilk_drive.specs.Scene.{HasOnlyCommands, commands_from_lines, scene_from_text};
+ghost use Rattle.ilk_drive.specs.Scene.{HasOnlyCommandsIfRead, commands_from_lines, scene_from_text};
 
 use crate::command_line::command_from_line;
 use ilk_lines::{LineFault, Lines, read_while_some};
@@ -36,7 +36,7 @@ fn read_commands(alloc: Global, plant: &Plant, text: &[u8]) -> Result<Row<Event>
 /// first bad line, from 1. Fails only if memory runs out.
 pub fn read_scene(alloc: Global, plant: &Plant, text: &[u8]) -> Result<Scene, AllocError>
     ensures scene { IfOk result (λ scene. scene ≡ scene_from_text plant.now text.now) }
-    ensures commands { IfOk result HasOnlyCommands }
+    ensures commands { IfOk result HasOnlyCommandsIfRead }
 {
     match read_commands(alloc, plant, text) {
         Ok(commands) => Ok(Scene::Scene(commands)),

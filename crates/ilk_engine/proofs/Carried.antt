@@ -6,7 +6,7 @@ use Rattle.ilk_unroll.specs.declared.queries.Wanted.{Wanted}
 use Rattle.ilk_unroll.specs.declared.queries.Wanted.TheVariants.{Hazard, Breach, Step}
 use Rattle.ilk_unroll.specs.Evidence.{HoldsForNoneUpTo, ReachesHazard, ReachesBreach, IsInductiveAt}
 use Rattle.ilk_forever.proofs.CarriedForever.{step-valid}
-use Rattle.ilk_induct.specs.Right.{IsShortestHazardLength, IsShortestBreachWithoutHazard, IsLeastSafeInductionLength, NeitherBreachNorInductive}
+use Rattle.ilk_induct.specs.Right.{IsShortestHazardLength, IsShortestBreachWithoutHazard, IsLeastSafeInductionLength, NoHazardBreachInductionUpTo}
 
 module _ (Values Events : Wanted → Type 0) (to : (q : Wanted) → Events q → Values q) (from : (q : Wanted) → step_count_is_allowed q ≡ true → Values q → Events q) where
   never-endangers : (depth : ℕ) → HoldsForNoneUpTo depth (ReachesHazard Values) → HoldsForNoneUpTo depth (ReachesHazard Events)
@@ -54,7 +54,7 @@ module _ (Values Events : Wanted → Type 0) (to : (q : Wanted) → Events q →
         };
       }
 
-  pub carried-not : (depth : ℕ) → depth ≤ 16 → NeitherBreachNorInductive Values depth → NeitherBreachNorInductive Events depth
+  pub carried-not : (depth : ℕ) → depth ≤ 16 → NoHazardBreachInductionUpTo Values depth → NoHazardBreachInductionUpTo Events depth
   carried-not depth few is =
       record {
         no_hazard = never-endangers depth is.no_hazard;

@@ -8,20 +8,20 @@ use Rattle.ilk_base.proofs.Options.{bind_some, some-is}
 use Rattle.ilk_plant.specs.Plant.{PlantLists}
 use Rattle.ilk_model.specs.declared.event.Event.{Event}
 use Rattle.ilk_behave.specs.Behaviour.{event_of_rule}
-use Rattle.ilk_queries.specs.Lifting.{events_by_rules}
+use Rattle.ilk_queries.specs.Lifting.{events_of_rule_numbers_or_none}
 use Rattle.ilk_engine.specs.Lifted.{events_of_fired_rules}
 
-fired-are : (p : PlantLists) (rules : List ℕ) (events : List Event) → events_by_rules p rules ≡ Some events → events_of_fired_rules p rules ≡ events
+fired-are : (p : PlantLists) (rules : List ℕ) (events : List Event) → events_of_rule_numbers_or_none p rules ≡ Some events → events_of_fired_rules p rules ≡ events
 fired-are p [] events e = same_Some [] events e
 fired-are p (i ∷ rules) events e =
-    let first = bind_some (event_of_rule p i) (λ event. events_by_rules p rules >>= (λ rest. Some (event ∷ rest))) events e in
-    let rest = bind_some (events_by_rules p rules) (λ rest. Some (first.0 ∷ rest)) events first.2 in
+    let first = bind_some (event_of_rule p i) (λ event. events_of_rule_numbers_or_none p rules >>= (λ rest. Some (event ∷ rest))) events e in
+    let rest = bind_some (events_of_rule_numbers_or_none p rules) (λ rest. Some (first.0 ∷ rest)) events first.2 in
     ap (λ (o : Option Event). option_to_list o ++ events_of_fired_rules p rules) first.1
     ∙ ap (λ (xs : List Event). first.0 ∷ xs) (fired-are p rules rest.0 rest.1) ∙ same_Some (first.0 ∷ rest.0) events rest.2
 
-pub fired-by : (p : PlantLists) (rules : List ℕ) (events : List Event) → is_some (events_by_rules p rules) ≡ true → events ≡ events_of_fired_rules p rules → events_by_rules p rules ≡ Some events
+pub fired-by : (p : PlantLists) (rules : List ℕ) (events : List Event) → is_some (events_of_rule_numbers_or_none p rules) ≡ true → events ≡ events_of_fired_rules p rules → events_of_rule_numbers_or_none p rules ≡ Some events
 fired-by p rules events some are =
-    let is = some-is (events_by_rules p rules) some in
+    let is = some-is (events_of_rule_numbers_or_none p rules) some in
     is.1 ∙ ap (λ (xs : List Event). Some xs) (sym (are ∙ fired-are p rules is.0 is.1))
 
 pub fired-begins : (p : PlantLists) (events : List Event) (items rules : List ℕ) → items ≡ rules → events ++ events_of_fired_rules p (drop 0 items) ≡ events ++ events_of_fired_rules p rules

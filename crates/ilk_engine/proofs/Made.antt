@@ -13,11 +13,11 @@ use Rattle.ilk_layout.specs.Variables.{ranges_of_plant}
 use Rattle.ilk_layout.specs.Wellformed.{is_wellformed}
 use Rattle.ilk_behave.specs.Behaviour.{system_of_plant}
 use Rattle.ilk_behave.specs.Steps.{SystemMatchesEvents}
-use Rattle.ilk_unroll.specs.Goal.{PlainGoal}
+use Rattle.ilk_unroll.specs.Goal.{PlainGoalForms}
 use Rattle.ilk_unroll.specs.declared.reading.Trace.{Trace}
 use Rattle.ilk_queries.specs.Asked.{ends_in_breach, ends_in_hazard}
 use Rattle.ilk_queries.specs.Goal.{goal_of_plant}
-use Rattle.ilk_queries.specs.Lifting.{GoalFormsMatchPlant, events_by_rules}
+use Rattle.ilk_queries.specs.Lifting.{GoalFormsMatchPlant, events_of_rule_numbers_or_none}
 use Rattle.ilk_queries.proofs.Steps.{rules-step}
 use Rattle.ilk_induct.specs.Right.{IsExactSystemVerdict, SystemVerdictHoldsAtAnyLength}
 use Rattle.ilk_induct.specs.declared.verdict.Verdict.{Verdict as SystemVerdict}
@@ -29,15 +29,15 @@ use Rattle.ilk_forever.proofs.OnPlant.{safe-forever}
 use Rattle.ilk_engine.proofs.Verdicts as on
 
 module _ (p : PlantLists) (plant : IsPlant p) (steps : SystemMatchesEvents p) (goal : GoalFormsMatchPlant p (goal_of_plant p)) where
-  pub unsafe-fires : (depth : ℕ) (trace : Trace) → depth ≤ 16 → IsExactSystemVerdict (system_of_plant p) (goal_of_plant p) depth (system.Unsafe trace) → is_some (events_by_rules p trace.rules) ≡ true
+  pub unsafe-fires : (depth : ℕ) (trace : Trace) → depth ≤ 16 → IsExactSystemVerdict (system_of_plant p) (goal_of_plant p) depth (system.Unsafe trace) → is_some (events_of_rule_numbers_or_none p trace.rules) ≡ true
   unsafe-fires = on.unsafe-fires p (rules-step p plant steps) (goal_of_plant p) goal
 
-  pub unsafe-ends : (depth : ℕ) (trace : Trace) (events : List Event) → depth ≤ 16 → IsExactSystemVerdict (system_of_plant p) (goal_of_plant p) depth (system.Unsafe trace) → events_by_rules p trace.rules ≡ Some events →
+  pub unsafe-ends : (depth : ℕ) (trace : Trace) (events : List Event) → depth ≤ 16 → IsExactSystemVerdict (system_of_plant p) (goal_of_plant p) depth (system.Unsafe trace) → events_of_rule_numbers_or_none p trace.rules ≡ Some events →
       ends_in_hazard p (start p) events ≡ true
   unsafe-ends = on.unsafe-ends p (rules-step p plant steps) (goal_of_plant p) goal
 
   pub unsafe-made : (depth : ℕ) (trace : Trace) (events : List Event) (at : HazardAt) → depth ≤ 16 →
-      IsExactSystemVerdict (system_of_plant p) (goal_of_plant p) depth (system.Unsafe trace) → events_by_rules p trace.rules ≡ Some events →
+      IsExactSystemVerdict (system_of_plant p) (goal_of_plant p) depth (system.Unsafe trace) → events_of_rule_numbers_or_none p trace.rules ≡ Some events →
       hazard_after p events ≡ Some at → IsRightVerdictLiftedFrom p depth (system.Unsafe trace) (Unsafe events at)
   unsafe-made depth trace events at few right by is = record {
     right = inl (on.unsafe-right p (rules-step p plant steps) (goal_of_plant p) goal depth trace events at few right by is);
@@ -45,15 +45,15 @@ module _ (p : PlantLists) (plant : IsPlant p) (steps : SystemMatchesEvents p) (g
     asked = λ conflicts asked was. (trace, by, was);
   }
 
-  pub breach-fires : (depth : ℕ) (trace : Trace) → depth ≤ 16 → IsExactSystemVerdict (system_of_plant p) (goal_of_plant p) depth (system.Breach trace) → is_some (events_by_rules p trace.rules) ≡ true
+  pub breach-fires : (depth : ℕ) (trace : Trace) → depth ≤ 16 → IsExactSystemVerdict (system_of_plant p) (goal_of_plant p) depth (system.Breach trace) → is_some (events_of_rule_numbers_or_none p trace.rules) ≡ true
   breach-fires = on.breach-fires p (rules-step p plant steps) (goal_of_plant p) goal
 
-  pub breach-ends : (depth : ℕ) (trace : Trace) (events : List Event) → depth ≤ 16 → IsExactSystemVerdict (system_of_plant p) (goal_of_plant p) depth (system.Breach trace) → events_by_rules p trace.rules ≡ Some events →
+  pub breach-ends : (depth : ℕ) (trace : Trace) (events : List Event) → depth ≤ 16 → IsExactSystemVerdict (system_of_plant p) (goal_of_plant p) depth (system.Breach trace) → events_of_rule_numbers_or_none p trace.rules ≡ Some events →
       ends_in_breach p (start p) events ≡ true
   breach-ends = on.breach-ends p (rules-step p plant steps) (goal_of_plant p) goal
 
   pub breach-made : (depth : ℕ) (trace : Trace) (events : List Event) (family : ℕ) → depth ≤ 16 →
-      IsExactSystemVerdict (system_of_plant p) (goal_of_plant p) depth (system.Breach trace) → events_by_rules p trace.rules ≡ Some events →
+      IsExactSystemVerdict (system_of_plant p) (goal_of_plant p) depth (system.Breach trace) → events_of_rule_numbers_or_none p trace.rules ≡ Some events →
       broken_family_after p events ≡ Some family → IsRightVerdictLiftedFrom p depth (system.Breach trace) (Breach events family)
   breach-made depth trace events family few right by is = record {
     right = inl (on.breach-right p (rules-step p plant steps) (goal_of_plant p) goal depth trace events family few right by is);
@@ -68,13 +68,13 @@ module _ (p : PlantLists) (plant : IsPlant p) (steps : SystemMatchesEvents p) (g
   first-wellformed = on.first-wellformed p (rules-step p plant steps) (goal_of_plant p) goal
 
   pub out-fires : (depth : ℕ) (trace : Trace) (first : State) → IsWellFormedAndSafe p first → image_of p first ≡ trace.first → IsExactSystemVerdict (system_of_plant p) (goal_of_plant p) depth (system.NotInductive trace)
-      → is_some (events_by_rules p trace.rules) ≡ true
+      → is_some (events_of_rule_numbers_or_none p trace.rules) ≡ true
   out-fires = on.out-fires p (rules-step p plant steps) (goal_of_plant p) goal
 
   pub out-made : (depth : ℕ) (trace : Trace) (first : State) (events : List Event) → depth ≤ 16 →
       IsWellFormedAndSafe p first → image_of p first ≡ trace.first →
       IsExactSystemVerdict (system_of_plant p) (goal_of_plant p) depth (system.NotInductive trace) →
-      events_by_rules p trace.rules ≡ Some events →
+      events_of_rule_numbers_or_none p trace.rules ≡ Some events →
       IsRightVerdictLiftedFrom p depth (system.NotInductive trace) (NotInductive first events)
   out-made depth trace first events few calm image right by = record {
     right = inl (on.out-right p (rules-step p plant steps) (goal_of_plant p) goal depth trace first events few calm image right by);
@@ -90,12 +90,12 @@ module _ (p : PlantLists) (plant : IsPlant p) (steps : SystemMatchesEvents p) (g
     asked = λ conflicts asked was. was;
   }
 
-pub right-safe : (s : PlainSystem) (g : PlainGoal) (depth : ℕ) (verdict : SystemVerdict) (k : ℕ) → verdict ≡ system.Safe k → IsExactSystemVerdict s g depth verdict ⊎ (verdict ≡ system.Spent) → IsExactSystemVerdict s g depth (system.Safe k)
+pub right-safe : (s : PlainSystem) (g : PlainGoalForms) (depth : ℕ) (verdict : SystemVerdict) (k : ℕ) → verdict ≡ system.Safe k → IsExactSystemVerdict s g depth verdict ⊎ (verdict ≡ system.Spent) → IsExactSystemVerdict s g depth (system.Safe k)
 right-safe s g depth verdict k same (inl right) = subst (IsExactSystemVerdict s g depth) same right
 right-safe s g depth verdict k same (inr spent) = let clash : system.Safe k ≡ system.Spent = sym same ∙ spent in absurd cc
 
-pub over : (P : PlainSystem → PlainGoal → Type 0) (s t : PlainSystem) (g h : PlainGoal) → s ≡ t → g ≡ h → P s g → P t h
-over P s t g h same also has = subst (λ (k : PlainGoal). P t k) also (subst (λ (u : PlainSystem). P u g) same has)
+pub over : (P : PlainSystem → PlainGoalForms → Type 0) (s t : PlainSystem) (g h : PlainGoalForms) → s ≡ t → g ≡ h → P s g → P t h
+over P s t g h same also has = subst (λ (k : PlainGoalForms). P t k) also (subst (λ (u : PlainSystem). P u g) same has)
 
 pub safe-lifted :
     (p : PlantLists) (plant : IsPlant p) (steps : SystemMatchesEvents p) (goal : GoalFormsMatchPlant p (goal_of_plant p)) (depth k : ℕ)

@@ -14,25 +14,25 @@ use Rattle.ilk_layout.specs.Laws.{AreImageOfSafeState, IsWellFormedAndSafe, Well
 use Rattle.ilk_layout.specs.Variables.{ranges_of_plant}
 use Rattle.ilk_layout.specs.Wellformed.{is_wellformed}
 use Rattle.ilk_behave.specs.Behaviour.{system_of_plant}
-use Rattle.ilk_unroll.specs.Goal.{PlainGoal, step_count_is_allowed}
+use Rattle.ilk_unroll.specs.Goal.{PlainGoalForms, step_count_is_allowed}
 use Rattle.ilk_unroll.specs.Run.{is_wanted_run}
 use Rattle.ilk_unroll.specs.declared.queries.Wanted.{Wanted}
 use Rattle.ilk_unroll.specs.declared.queries.Wanted.TheVariants.{Hazard, Breach as BreachQuery, Step}
 use Rattle.ilk_unroll.specs.declared.reading.Trace.{Trace}
 use Rattle.ilk_unroll.proofs.QueryLaw.{wants}
 use Rattle.ilk_queries.specs.Asked.{HasQueriedRun, IsRunForQuery, ends_in_breach, ends_in_hazard}
-use Rattle.ilk_queries.specs.Lifting.{GoalFormsMatchPlant, RulesStepLikeEvents, events_by_rules}
+use Rattle.ilk_queries.specs.Lifting.{GoalFormsMatchPlant, RulesStepLikeEvents, events_of_rule_numbers_or_none}
 use Rattle.ilk_queries.proofs.Answered.{first-values, to-asked}
 use Rattle.ilk_queries.proofs.Lifted.{lifted}
 use Rattle.ilk_unroll.specs.Evidence.{HasRun}
-use Rattle.ilk_induct.specs.Right.{IsShortestBreachWithoutHazard, NeitherBreachNorInductive, IsExactSystemVerdict, IsRunOfQuery, IsShortestHazardLength}
+use Rattle.ilk_induct.specs.Right.{IsShortestBreachWithoutHazard, NoHazardBreachInductionUpTo, IsExactSystemVerdict, IsRunOfQuery, IsShortestHazardLength}
 use Rattle.ilk_induct.specs.declared.verdict.Verdict.TheVariants as system
 use Rattle.ilk_engine.specs.Right.{IsRightVerdict, broken_family_after, hazard_after}
 use Rattle.ilk_engine.specs.declared.verdict.Verdict.TheVariants.{Safe, Unsafe, Breach, NotInductive}
 use Rattle.ilk_engine.proofs.Carried.{carried-breach, carried-not, carried-safe, carried-unsafe}
 use Rattle.ilk_forever.proofs.OnPlant.{has-lifted, has-run}
 
-module _ (p : PlantLists) (lead : RulesStepLikeEvents p) (g : PlainGoal) (goal : GoalFormsMatchPlant p g) where
+module _ (p : PlantLists) (lead : RulesStepLikeEvents p) (g : PlainGoalForms) (goal : GoalFormsMatchPlant p g) where
   up : (q : Wanted) → HasQueriedRun p q → HasRun (system_of_plant p) g q
   up = has-run p lead g goal
 
@@ -41,7 +41,7 @@ module _ (p : PlantLists) (lead : RulesStepLikeEvents p) (g : PlainGoal) (goal :
 
   record HasLedToHazard (depth : ℕ) (trace : Trace) : Type 0 where
     events : List Event
-    by_rules : events_by_rules p trace.rules ≡ Some events
+    by_rules : events_of_rule_numbers_or_none p trace.rules ≡ Some events
     least : IsShortestHazardLength (HasQueriedRun p) depth (length events)
     ends : ends_in_hazard p (start p) events ≡ true
 
@@ -56,16 +56,17 @@ module _ (p : PlantLists) (lead : RulesStepLikeEvents p) (g : PlainGoal) (goal :
         ends = subst (λ (s : State). ends_in_hazard p s l.events ≡ true) l.run.0 l.run.2;
       }
 
-  pub unsafe-fires : (depth : ℕ) (trace : Trace) → depth ≤ 16 → IsExactSystemVerdict (system_of_plant p) g depth (system.Unsafe trace) → is_some (events_by_rules p trace.rules) ≡ true
+  pub unsafe-fires : (depth : ℕ) (trace : Trace) → depth ≤ 16 → IsExactSystemVerdict (system_of_plant p) g depth (system.Unsafe trace) → is_some (events_of_rule_numbers_or_none p trace.rules) ≡ true
   unsafe-fires depth trace few right = ap is_some (led-to-hazard depth trace few right).by_rules
 
-  pub unsafe-ends : (depth : ℕ) (trace : Trace) (events : List Event) → depth ≤ 16 → IsExactSystemVerdict (system_of_plant p) g depth (system.Unsafe trace) → events_by_rules p trace.rules ≡ Some events → ends_in_hazard p (start p) events ≡ true
+  pub unsafe-ends : (depth : ℕ) (trace : Trace) (events : List Event) → depth ≤ 16 → IsExactSystemVerdict (system_of_plant p) g depth (system.Unsafe trace) → events_of_rule_numbers_or_none p trace.rules ≡ Some events
+      → ends_in_hazard p (start p) events ≡ true
   unsafe-ends depth trace events few right by =
       let led = led-to-hazard depth trace few right in
       subst (λ (es : List Event). ends_in_hazard p (start p) es ≡ true) (same_Some led.events events (sym led.by_rules ∙ by)) led.ends
 
   pub unsafe-right : (depth : ℕ) (trace : Trace) (events : List Event) (at : HazardAt) → depth ≤ 16 →
-      IsExactSystemVerdict (system_of_plant p) g depth (system.Unsafe trace) → events_by_rules p trace.rules ≡ Some events →
+      IsExactSystemVerdict (system_of_plant p) g depth (system.Unsafe trace) → events_of_rule_numbers_or_none p trace.rules ≡ Some events →
       hazard_after p events ≡ Some at → IsRightVerdict p depth (Unsafe events at)
   unsafe-right depth trace events at few right by is =
       let led = led-to-hazard depth trace few right in
@@ -75,7 +76,7 @@ module _ (p : PlantLists) (lead : RulesStepLikeEvents p) (g : PlainGoal) (goal :
 
   record HasLedToBreach (depth : ℕ) (trace : Trace) : Type 0 where
     events : List Event
-    by_rules : events_by_rules p trace.rules ≡ Some events
+    by_rules : events_of_rule_numbers_or_none p trace.rules ≡ Some events
     least : IsShortestBreachWithoutHazard (HasQueriedRun p) depth (length events)
     ends : ends_in_breach p (start p) events ≡ true
 
@@ -90,16 +91,17 @@ module _ (p : PlantLists) (lead : RulesStepLikeEvents p) (g : PlainGoal) (goal :
         ends = subst (λ (s : State). ends_in_breach p s l.events ≡ true) l.run.0 l.run.2;
       }
 
-  pub breach-fires : (depth : ℕ) (trace : Trace) → depth ≤ 16 → IsExactSystemVerdict (system_of_plant p) g depth (system.Breach trace) → is_some (events_by_rules p trace.rules) ≡ true
+  pub breach-fires : (depth : ℕ) (trace : Trace) → depth ≤ 16 → IsExactSystemVerdict (system_of_plant p) g depth (system.Breach trace) → is_some (events_of_rule_numbers_or_none p trace.rules) ≡ true
   breach-fires depth trace few right = ap is_some (led-to-breach depth trace few right).by_rules
 
-  pub breach-ends : (depth : ℕ) (trace : Trace) (events : List Event) → depth ≤ 16 → IsExactSystemVerdict (system_of_plant p) g depth (system.Breach trace) → events_by_rules p trace.rules ≡ Some events → ends_in_breach p (start p) events ≡ true
+  pub breach-ends : (depth : ℕ) (trace : Trace) (events : List Event) → depth ≤ 16 → IsExactSystemVerdict (system_of_plant p) g depth (system.Breach trace) → events_of_rule_numbers_or_none p trace.rules ≡ Some events
+      → ends_in_breach p (start p) events ≡ true
   breach-ends depth trace events few right by =
       let led = led-to-breach depth trace few right in
       subst (λ (es : List Event). ends_in_breach p (start p) es ≡ true) (same_Some led.events events (sym led.by_rules ∙ by)) led.ends
 
   pub breach-right : (depth : ℕ) (trace : Trace) (events : List Event) (family : ℕ) → depth ≤ 16 →
-      IsExactSystemVerdict (system_of_plant p) g depth (system.Breach trace) → events_by_rules p trace.rules ≡ Some events →
+      IsExactSystemVerdict (system_of_plant p) g depth (system.Breach trace) → events_of_rule_numbers_or_none p trace.rules ≡ Some events →
       broken_family_after p events ≡ Some family → IsRightVerdict p depth (Breach events family)
   breach-right depth trace events family few right by is =
       let led = led-to-breach depth trace few right in
@@ -119,7 +121,7 @@ module _ (p : PlantLists) (lead : RulesStepLikeEvents p) (g : PlainGoal) (goal :
 
   record HasLedOut (depth : ℕ) (trace : Trace) (first : State) : Type 0 where
     events : List Event
-    by_rules : events_by_rules p trace.rules ≡ Some events
+    by_rules : events_of_rule_numbers_or_none p trace.rules ≡ Some events
     run : IsRunForQuery p (Step depth) first events
 
   led-out : (depth : ℕ) (trace : Trace) (first : State) → IsWellFormedAndSafe p first → image_of p first ≡ trace.first → IsRunOfQuery (system_of_plant p) g (Step depth) trace → HasLedOut depth trace first
@@ -129,17 +131,17 @@ module _ (p : PlantLists) (lead : RulesStepLikeEvents p) (g : PlainGoal) (goal :
       record { events = goes.0; by_rules = goes.1; run = goes.2 }
 
   pub out-fires : (depth : ℕ) (trace : Trace) (first : State) → IsWellFormedAndSafe p first → image_of p first ≡ trace.first → IsExactSystemVerdict (system_of_plant p) g depth (system.NotInductive trace) →
-      is_some (events_by_rules p trace.rules) ≡ true
+      is_some (events_of_rule_numbers_or_none p trace.rules) ≡ true
   out-fires depth trace first calm image right = ap is_some (led-out depth trace first calm image right.1).by_rules
 
   pub out-right : (depth : ℕ) (trace : Trace) (first : State) (events : List Event) → depth ≤ 16 →
       IsWellFormedAndSafe p first → image_of p first ≡ trace.first →
-      IsExactSystemVerdict (system_of_plant p) g depth (system.NotInductive trace) → events_by_rules p trace.rules ≡ Some events →
+      IsExactSystemVerdict (system_of_plant p) g depth (system.NotInductive trace) → events_of_rule_numbers_or_none p trace.rules ≡ Some events →
       IsRightVerdict p depth (NotInductive first events)
   out-right depth trace first events few calm image right by =
       let led = led-out depth trace first calm image right.1 in
       let same : led.events ≡ events = same_Some led.events events (sym led.by_rules ∙ by) in
-      let none : NeitherBreachNorInductive (HasQueriedRun p) depth = carried-not (HasRun (system_of_plant p) g) (HasQueriedRun p) up down depth few right.0 in
+      let none : NoHazardBreachInductionUpTo (HasQueriedRun p) depth = carried-not (HasRun (system_of_plant p) g) (HasQueriedRun p) up down depth few right.0 in
       (none, subst (λ (es : List Event). IsRunForQuery p (Step depth) first es) same led.run)
 
   pub safe-right : (depth k : ℕ) → depth ≤ 16 → IsExactSystemVerdict (system_of_plant p) g depth (system.Safe k) → IsRightVerdict p depth (Safe k)

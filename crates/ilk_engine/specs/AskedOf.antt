@@ -5,7 +5,7 @@ use Rattle.ilk_layout.specs.Image.{image_of}
 use Rattle.ilk_behave.specs.Behaviour.{system_of_plant}
 use Rattle.ilk_unroll.specs.declared.reading.Trace.{Trace}
 use Rattle.ilk_queries.specs.Goal.{goal_of_plant}
-use Rattle.ilk_queries.specs.Lifting.{events_by_rules}
+use Rattle.ilk_queries.specs.Lifting.{events_of_rule_numbers_or_none}
 use Rattle.ilk_induct.specs.Asked.{AreQueriesOfVerdict}
 use Rattle.ilk_certificate.specs.declared.asked.Asked.{Asked}
 use Rattle.ilk_induct.specs.declared.verdict.Verdict.{Verdict as SystemVerdict}
@@ -24,10 +24,10 @@ abbrev pub AreVerdictQueries : PlantLists → ℕ → ℕ → Verdict → List A
 AreVerdictQueries p depth conflicts (Safe k) asked = AreSystemVerdictQueries p depth conflicts (system.Safe k) asked
 -- The rules of the system's run have these events, one after another.
 AreVerdictQueries p depth conflicts (Unsafe events at) asked =
-    (trace : Trace) × (events_by_rules p trace.rules ≡ Some events) × AreSystemVerdictQueries p depth conflicts (system.Unsafe trace) asked
+    (trace : Trace) × (events_of_rule_numbers_or_none p trace.rules ≡ Some events) × AreSystemVerdictQueries p depth conflicts (system.Unsafe trace) asked
 AreVerdictQueries p depth conflicts (Breach events family) asked =
-    (trace : Trace) × (events_by_rules p trace.rules ≡ Some events) × AreSystemVerdictQueries p depth conflicts (system.Breach trace) asked
+    (trace : Trace) × (events_of_rule_numbers_or_none p trace.rules ≡ Some events) × AreSystemVerdictQueries p depth conflicts (system.Breach trace) asked
 -- The system's run begins with the image of the first state.
 AreVerdictQueries p depth conflicts (NotInductive first events) asked =
-    (trace : Trace) × (image_of p first ≡ trace.first) × (events_by_rules p trace.rules ≡ Some events) × AreSystemVerdictQueries p depth conflicts (system.NotInductive trace) asked
+    (trace : Trace) × (image_of p first ≡ trace.first) × (events_of_rule_numbers_or_none p trace.rules ≡ Some events) × AreSystemVerdictQueries p depth conflicts (system.NotInductive trace) asked
 AreVerdictQueries p depth conflicts Spent asked = AreSystemVerdictQueries p depth conflicts system.Spent asked

@@ -9,7 +9,7 @@ use Rattle.ilk_model.specs.declared.event.Event.{Event}
 use Rattle.ilk_model.specs.declared.hazards.HazardAt.{HazardAt}
 use Rattle.ilk_unroll.specs.declared.queries.Wanted.TheVariants.{Hazard, Breach as BreachQuery, Step}
 use Rattle.ilk_queries.specs.Asked.{HasQueriedRun, IsRunForQuery}
-use Rattle.ilk_induct.specs.Right.{IsShortestHazardLength, IsShortestBreachWithoutHazard, IsLeastSafeInductionLength, NeitherBreachNorInductive}
+use Rattle.ilk_induct.specs.Right.{IsShortestHazardLength, IsShortestBreachWithoutHazard, IsLeastSafeInductionLength, NoHazardBreachInductionUpTo}
 use Rattle.ilk_engine.specs.declared.verdict.Verdict.{Verdict}
 use Rattle.ilk_engine.specs.declared.verdict.Verdict.TheVariants.{Safe, Unsafe, Breach, NotInductive, Spent}
 
@@ -37,5 +37,5 @@ IsRightVerdict p depth (Safe k) = IsLeastSafeInductionLength (HasQueriedRun p) d
 -- No hazard is reached and no family broken; the invariant is inductive over no number of events.
 -- These events, as many as the depth, lead from the first state through states that meet it to one
 -- that doesn't.
-IsRightVerdict p depth (NotInductive first events) = NeitherBreachNorInductive (HasQueriedRun p) depth × IsRunForQuery p (Step depth) first events
+IsRightVerdict p depth (NotInductive first events) = NoHazardBreachInductionUpTo (HasQueriedRun p) depth × IsRunForQuery p (Step depth) first events
 IsRightVerdict p depth Spent = ⊥

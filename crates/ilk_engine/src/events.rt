@@ -1,6 +1,6 @@
 ghost use Rattle.std.specs.Prelude.{◌≡◌, ◌++◌, IfOk, IsTrue, OnOk, Some, is_some, option_to_list};
 ghost use Rattle.ilk_behave.specs.Behaviour.{event_of_rule};
-ghost use Rattle.ilk_queries.specs.Lifting.{events_by_rules};
+ghost use Rattle.ilk_queries.specs.Lifting.{events_of_rule_numbers_or_none};
 ghost use Rattle.ilk_engine.specs.Lifted.{events_of_fired_rules};
 
 use ilk_base::Row;
@@ -38,8 +38,9 @@ pub(crate) fn events_of_rules(
     plant: &Plant,
     rules: &Rows,
 ) -> Result<Row<Event>, AllocError>
-    requires { IsTrue (is_some (events_by_rules plant.now rules.now)) }
-    ensures { IfOk result (λ events. events_by_rules plant.now rules.now ≡ Some events) }
+    requires { IsTrue (is_some (events_of_rule_numbers_or_none plant.now rules.now)) }
+    ensures { IfOk result (λ events. events_of_rule_numbers_or_none plant.now rules.now
+        ≡ Some events) }
 {
     let mut events = Row::new(alloc);
     push_events(plant, &mut events, rules)?;

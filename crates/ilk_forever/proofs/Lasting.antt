@@ -14,7 +14,7 @@ use Rattle.ilk_model.specs.Meets.{Meets, meets_all_families}
 use Rattle.ilk_model.specs.Run.{run}
 use Rattle.ilk_model.specs.declared.event.Event.{Event}
 use Rattle.ilk_model.specs.declared.hazards.HazardAt.{HazardAt}
-use Rattle.ilk_unroll.specs.Goal.{PlainGoal}
+use Rattle.ilk_unroll.specs.Goal.{PlainGoalForms}
 use Rattle.ilk_unroll.specs.declared.queries.Wanted.TheVariants.{Hazard, Breach}
 use Rattle.ilk_unroll.specs.Evidence.{NoHazardOrBreachEver}
 use Rattle.ilk_queries.specs.Asked.{HasQueriedRun}
@@ -23,7 +23,7 @@ use Rattle.ilk_queries.proofs.Queries.{shaped-at}
 use Rattle.ilk_queries.proofs.Walks.{run-states, states-shaped}
 use Rattle.ilk_forever.specs.Forever.{AlwaysKeepsInvariant}
 
-pub run-shape : (p : PlantLists) (steps : RulesStepLikeEvents p) (g : PlainGoal) (goal : GoalFormsMatchPlant p g) (s t : State) (events : List Event) → HasShape p s → run p s events ≡ Some t → HasShape p t
+pub run-shape : (p : PlantLists) (steps : RulesStepLikeEvents p) (g : PlainGoalForms) (goal : GoalFormsMatchPlant p g) (s t : State) (events : List Event) → HasShape p s → run p s events ≡ Some t → HasShape p t
 run-shape p steps g goal s t events shape ends =
     let led = run-states p s t events ends in
     shaped-at p led.0 (length events) t (states-shaped p steps g goal s events led.0 shape led.1) led.3
@@ -44,7 +44,7 @@ to-breach p events t ends none broken = record {
   run = (refl, refl, ap (λ o. is_some_and o (λ u. is_none (hazard p u) && not (meets_all_families p u))) ends ∙ and_from _ _ (ap is_none none) (ap not broken));
 }
 
-pub forever-safe : (p : PlantLists) (steps : RulesStepLikeEvents p) (g : PlainGoal) (goal : GoalFormsMatchPlant p g) → NoHazardOrBreachEver (HasQueriedRun p) → AlwaysKeepsInvariant p
+pub forever-safe : (p : PlantLists) (steps : RulesStepLikeEvents p) (g : PlainGoalForms) (goal : GoalFormsMatchPlant p g) → NoHazardOrBreachEver (HasQueriedRun p) → AlwaysKeepsInvariant p
 forever-safe p steps g goal never events t ends = by_hazard (hazard p t) refl
   where
     by_kept : hazard p t ≡ None → (b : Bool) → meets_all_families p t ≡ b → Meets p t

@@ -5,7 +5,7 @@ use Rattle.ilk_plant.specs.Plant.{IsPlant, PlantLists}
 use Rattle.ilk_layout.specs.Image.{image_of}
 use Rattle.ilk_behave.specs.Behaviour.{system_of_plant}
 use Rattle.ilk_behave.specs.Steps.{SystemMatchesEvents}
-use Rattle.ilk_unroll.specs.Goal.{PlainGoal, step_count_is_allowed}
+use Rattle.ilk_unroll.specs.Goal.{PlainGoalForms, step_count_is_allowed}
 use Rattle.ilk_unroll.specs.declared.queries.Wanted.{Wanted}
 use Rattle.ilk_unroll.specs.declared.queries.Wanted.TheVariants.{Hazard, Breach, Step}
 use Rattle.ilk_queries.specs.Asked.{HasQueriedRun}
@@ -19,7 +19,7 @@ use Rattle.ilk_forever.specs.Forever.{AlwaysKeepsInvariant}
 use Rattle.ilk_forever.proofs.CarriedForever.{carried-forever, step-valid}
 use Rattle.ilk_forever.proofs.Lasting.{forever-safe}
 
-module _ (p : PlantLists) (steps : RulesStepLikeEvents p) (g : PlainGoal) (goal : GoalFormsMatchPlant p g) where
+module _ (p : PlantLists) (steps : RulesStepLikeEvents p) (g : PlainGoalForms) (goal : GoalFormsMatchPlant p g) where
   pub has-run : (q : Wanted) → HasQueriedRun p q → HasRun (system_of_plant p) g q
   has-run q has = let rules = to-wanted p steps g goal q has.first has.events has.shape has.run in (image_of p has.first, rules.0, rules.1)
 

@@ -9,7 +9,7 @@ use Rattle.ilk_ir.specs.System.{PlainSystem}
 use Rattle.ilk_lines.specs.Lines.{Bytes}
 use Rattle.ilk_log.specs.declared.step.Step.{Step as LogStep}
 use Rattle.ilk_log.proofs.Sound.{refutation_refutes}
-use Rattle.ilk_unroll.specs.Goal.{PlainGoal}
+use Rattle.ilk_unroll.specs.Goal.{PlainGoalForms}
 use Rattle.ilk_unroll.specs.Query.{query_formula}
 use Rattle.ilk_unroll.specs.Satisfied.{IsSatisfiable}
 use Rattle.ilk_unroll.specs.declared.queries.Wanted.{Wanted}
@@ -35,7 +35,7 @@ last-query P a (suc m) q all =
     let more = flat_map hazard_and_breach_query_pair (range_with_len (a + 1) m) ++ q ∷ [] in
     last-query P (a + 1) m q (All-tail P (Breach a) more (All-tail P (Hazard a) (Breach a ∷ more) all))
 
-module _ (s : PlainSystem) (g : PlainGoal) (solves : (q : Wanted) → HasRun s g q → IsSatisfiable (query_formula s g q)) where
+module _ (s : PlainSystem) (g : PlainGoalForms) (solves : (q : Wanted) → HasRun s g q → IsSatisfiable (query_formula s g q)) where
   no-run : (q : Wanted) (log : List LogStep) → IsRefuted s g q log → ¬ HasRun s g q
   no-run q log refuted has =
       let is = solves q has in

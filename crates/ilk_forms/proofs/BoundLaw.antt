@@ -19,7 +19,7 @@ use Rattle.ilk_forms.specs.declared.copy.VarValueAndBoundLits.{VarValueAndBoundL
 use Rattle.ilk_forms.specs.Copy.{LiteralsEncode}
 use Rattle.ilk_forms.specs.declared.bound.VarUpperBound.{VarUpperBound}
 use Rattle.ilk_forms.specs.Leaf.{has_lits_within_vars, ranges_of}
-use Rattle.ilk_forms.specs.Bound.{bound_from_or_of_values, bound_lit_of_var, bound_lit, or_of_values_bound_lit, copy_has_bound_lit, has_bound_lit_for_or}
+use Rattle.ilk_forms.specs.Bound.{bound_from_or_of_values, bound_lit_of_var, bound_lit, bound_lit_stated_by_or, copy_has_bound_lit, has_bound_lit_for_or}
 use Rattle.ilk_forms.proofs.BoundForms.{Stands, at_most, below, say-bound, stands-as}
 
 shift : (i j : ℕ) → ltb i j ≡ ltb (suc i) (suc j)
@@ -113,7 +113,7 @@ bound-in columns v k n l inside e =
     let here = and_parts (is_clause_over n column.values) (is_clause_over n column.bounds) (list_all-slice_get (λ (x : VarValueAndBoundLits). is_clause_over n x.values && is_clause_over n x.bounds) columns v column inside c.1) in
     column-in n column k l here.0 here.1 c.2
 
-pub any-in : (ts : Trees) (columns : List VarValueAndBoundLits) (n : ℕ) (l : Literal) → has_lits_within_vars n columns ≡ true → or_of_values_bound_lit columns ts ≡ Some l → is_lit_over n l ≡ true
+pub any-in : (ts : Trees) (columns : List VarValueAndBoundLits) (n : ℕ) (l : Literal) → has_lits_within_vars n columns ≡ true → bound_lit_stated_by_or columns ts ≡ Some l → is_lit_over n l ≡ true
 any-in ts columns n l inside e =
     let b = bind_some (bound_from_or_of_values ts) (λ b. bound_lit columns b.var b.most) l e in
     bound-in columns b.0.var b.0.most n l inside b.2
@@ -122,7 +122,7 @@ pub any-says : (ts : Trees) (a : List Bool) (columns : List VarValueAndBoundLits
     ((v k : ℕ) → value_valid (ranges_of columns) v k ≡ true → 0 < k →
     Stands a (bound_lit columns v k) (copy_has_bound_lit ranges v k) (at_most ws v k)) →
     each_valid (ranges_of columns) ts ≡ true →
-    Stands a (or_of_values_bound_lit columns ts) (has_bound_lit_for_or ranges ts) (some_holds ws ts)
+    Stands a (bound_lit_stated_by_or columns ts) (has_bound_lit_for_or ranges ts) (some_holds ws ts)
 any-says ts a columns ranges ws bounds valid = by_case (bound_from_or_of_values ts) refl
   where
     by_case : (o : Option VarUpperBound) → bound_from_or_of_values ts ≡ o → Stands a (option_and_then (λ b. bound_lit columns b.var b.most) o) (is_some_and o (λ b. copy_has_bound_lit ranges b.var b.most)) (some_holds ws ts)

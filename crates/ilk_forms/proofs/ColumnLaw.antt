@@ -11,7 +11,7 @@ use Rattle.ilk_cnf.proofs.Literals.{are_clauses_over-more}
 use Rattle.ilk_cnf.proofs.Parts.{in_turn, in_words, one_by_one}
 use Rattle.ilk_ints.specs.Bits.{bit_count, lowest_bits_of, assigned_bits_from_var}
 use Rattle.ilk_ints.specs.Number.{number_part, AreBitsInRange}
-use Rattle.ilk_ints.specs.Named.{value_lits_part, bound_lits_part, one_hot_var_bits, bound_vars_bits, bound_count, one_hot_bits}
+use Rattle.ilk_ints.specs.Named.{value_lits_part, bound_lits_part, one_hot_var_bits, at_most_vars_bits, bound_count, one_hot_bits}
 use Rattle.ilk_ints.proofs.BitsLaw.{length-bits}
 use Rattle.ilk_ints.proofs.NumberLaw.{number-law, non_value_clauses-in, assigned_bits_from_var-new}
 use Rattle.ilk_ints.proofs.ValuesLaw.{value_lits_part-low, value_lits_part-law, value_lits_part-say, assigned_bits_from_var-left}
@@ -19,7 +19,7 @@ use Rattle.ilk_ints.proofs.BoundsPart.{bound_lits_part-law}
 use Rattle.ilk_ints.proofs.TableParts.{bit_count-enough, value_lits_part-in, value_lits_part-lits_in, length-value_lits_part, bound_lits_part-low, bound_lits_part-in}
 use Rattle.ilk_forms.specs.declared.copy.VarValueAndBoundLits.{VarValueAndBoundLits}
 use Rattle.ilk_forms.specs.declared.copy.TheConstants.{MAX_RANGES}
-use Rattle.ilk_forms.specs.Copy.{PartWithAllVarLits, var_lits_part, system_var_part, range_class_part, ranges_below_part, no_var_lits, copy_part, system_var_bits}
+use Rattle.ilk_forms.specs.Copy.{PartWithAllVarLits, var_lits_part, system_var_part, range_class_part, range_classes_below_part, no_lits_for_each_var, copy_part, system_var_bits}
 
 abbrev pub ranges_fit : List ℕ → Bool
 ranges_fit [] = true
@@ -35,7 +35,7 @@ pub column-law : (a : List Bool) (first range w n : ℕ) → length a ≡ n → 
     ++
     (bound_lits_part first range (value_lits_part first range n).lits
     (value_lits_part first range n).part.vars).part.clauses)
-    (EqualsGivenValues (one_hot_var_bits range w ++ bound_vars_bits range w 1 (bound_count range)))
+    (EqualsGivenValues (one_hot_var_bits range w ++ at_most_vars_bits range w 1 (bound_count range)))
 column-law a first range w n size low high enough less is =
     let v = value_lits_part first range n in
     let m = v.part.vars in
@@ -47,11 +47,11 @@ column-law a first range w n size low high enough less is =
     let kept : assigned_bits_from_var (a ++ e) first (bit_count range) ≡ lowest_bits_of (bit_count range) w = assigned_bits_from_var-left (bit_count range) a e first (rw size high) ∙ is in
     let end : a ++ (e ++ []) ≡ a ++ e = ap (λ (u : List Bool). a ++ u) (append-nil e) in
     let says : map (is_true (a ++ e)) v.lits ≡ one_hot_bits w 0 range = subst (λ (u : List Bool). map (is_true u) v.lits ≡ one_hot_bits w 0 range) end (value_lits_part-say a [] first range w n size high enough less is) in
-    let two : ExtensionsAreExactly (a ++ e) b.part.vars b.part.clauses (EqualsGivenValues (bound_vars_bits range w 1 (bound_count range))) =
+    let two : ExtensionsAreExactly (a ++ e) b.part.vars b.part.clauses (EqualsGivenValues (at_most_vars_bits range w 1 (bound_count range))) =
     bound_lits_part-law v.lits (a ++ e) first range w m long low (omega (arith, high, grows)) enough
     (length-value_lits_part first range n) (value_lits_part-lits_in first range n low high) less kept says in
     let fits : length a ≤ m = rw size grows in
-    one_by_one a e (bound_vars_bits range w 1 (bound_count range)) m b.part.vars v.part.clauses b.part.clauses fits (bound_lits_part-low v.lits first range m) (value_lits_part-in first range n low high) one two
+    one_by_one a e (at_most_vars_bits range w 1 (bound_count range)) m b.part.vars v.part.clauses b.part.clauses fits (bound_lits_part-low v.lits first range m) (value_lits_part-in first range n low high) one two
 
 column-in : (first range n : ℕ) → 0 < first → first + bit_count range ≤ n + 1 → range ≤ 2 ^ bit_count range →
     are_clauses_over
@@ -115,7 +115,7 @@ system_var-law range a n size enough =
     named = (var_lits_part (n + 1) range p.vars).part
 
     after : (b : List Bool) → AreBitsInRange range b → List Bool → Type 0
-    after b h = EqualsGivenValues (one_hot_var_bits range h.0 ++ bound_vars_bits range h.0 1 (bound_count range))
+    after b h = EqualsGivenValues (one_hot_var_bits range h.0 ++ at_most_vars_bits range h.0 1 (bound_count range))
 
     first : ExtensionsAreExactly a p.vars p.clauses (AreBitsInRange range)
     first = number-law a range n enough size
@@ -129,7 +129,7 @@ system_var-law range a n size enough =
     to d h = (h.3.0, h.3.1, h.2 ∙ ap (λ (u : List Bool). u ++ h.1) h.3.2 ∙ ap (λ (u : List Bool). lowest_bits_of (bit_count range) h.3.0 ++ u) h.4)
 
     from : (d : List Bool) → AreVarBits range d → AreValuesOfConsecutiveParts (AreBitsInRange range) after d
-    from d h = (lowest_bits_of (bit_count range) h.0, one_hot_var_bits range h.0 ++ bound_vars_bits range h.0 1 (bound_count range), h.2, (h.0, h.1, refl), refl)
+    from d h = (lowest_bits_of (bit_count range) h.0, one_hot_var_bits range h.0 ++ at_most_vars_bits range h.0 1 (bound_count range), h.2, (h.0, h.1, refl), refl)
 
 pub class-low : (r : ℕ) (ranges : List ℕ) (columns : List VarValueAndBoundLits) (n : ℕ) → n ≤ (range_class_part r ranges columns n).part.vars
 class-low r [] columns n = omega arith
@@ -140,7 +140,7 @@ class-low r (range ∷ ranges) (column ∷ columns) n = by_case (eqb range r) re
     by_case true h rest = rw h (omega (arith, system_var-low range n, rest (system_var_part range n).part.vars))
     by_case false h rest = rw h (rest n)
 
-pub below-low : (k : ℕ) (ranges : List ℕ) (columns : List VarValueAndBoundLits) (n : ℕ) → n ≤ (ranges_below_part k ranges columns n).part.vars
+pub below-low : (k : ℕ) (ranges : List ℕ) (columns : List VarValueAndBoundLits) (n : ℕ) → n ≤ (range_classes_below_part k ranges columns n).part.vars
 below-low zero ranges columns n = omega arith
 below-low (suc r) ranges columns n =
     let p = range_class_part r ranges columns n in
@@ -150,7 +150,7 @@ below-low (suc r) ranges columns n =
 
 pub copy-low : (ranges : List ℕ) (n : ℕ) → n ≤ (copy_part ranges n).part.vars
 unfolding copy_part
-copy-low ranges n = below-low MAX_RANGES ranges (no_var_lits ranges) n
+copy-low ranges n = below-low MAX_RANGES ranges (no_lits_for_each_var ranges) n
 
 abbrev Inside : PartWithAllVarLits → Type 0
 Inside p = are_clauses_over p.part.vars p.part.clauses ≡ true
@@ -171,15 +171,15 @@ class-in r (range ∷ ranges) (column ∷ columns) n enough = by_case (eqb range
         (rest_in p.vars))
     by_case false h rest_in = rw h (rest_in n)
 
-pub below-in : (k : ℕ) (ranges : List ℕ) (columns : List VarValueAndBoundLits) (n : ℕ) → k ≤ 256 → are_clauses_over (ranges_below_part k ranges columns n).part.vars (ranges_below_part k ranges columns n).part.clauses ≡ true
+pub below-in : (k : ℕ) (ranges : List ℕ) (columns : List VarValueAndBoundLits) (n : ℕ) → k ≤ 256 → are_clauses_over (range_classes_below_part k ranges columns n).part.vars (range_classes_below_part k ranges columns n).part.clauses ≡ true
 below-in zero ranges columns n few = refl
 below-in (suc r) ranges columns n few =
     let p = range_class_part r ranges columns n in
-    let rest = (ranges_below_part r ranges p.columns p.part.vars).part in
+    let rest = (range_classes_below_part r ranges p.columns p.part.vars).part in
     list_all-append (is_clause_over rest.vars) p.part.clauses rest.clauses
     ∙ and_from _ _ (are_clauses_over-more p.part.vars rest.vars p.part.clauses (below-low r ranges p.columns p.part.vars) (class-in r ranges columns n (bit_count-enough r (omega arith))))
     (below-in r ranges p.columns p.part.vars (omega arith))
 
 pub copy-in : (ranges : List ℕ) (n : ℕ) → ranges_fit ranges ≡ true → are_clauses_over (copy_part ranges n).part.vars (copy_part ranges n).part.clauses ≡ true
 unfolding copy_part
-copy-in ranges n fit = below-in MAX_RANGES ranges (no_var_lits ranges) n (omega arith)
+copy-in ranges n fit = below-in MAX_RANGES ranges (no_lits_for_each_var ranges) n (omega arith)

@@ -10,9 +10,9 @@ use Rattle.ilk_ints.proofs.TableParts.{bit_count-enough}
 use Rattle.ilk_ir.specs.System.{in_ranges}
 use Rattle.ilk_forms.specs.declared.copy.VarValueAndBoundLits.{VarValueAndBoundLits}
 use Rattle.ilk_forms.specs.declared.copy.TheConstants.{MAX_RANGES}
-use Rattle.ilk_forms.specs.Copy.{system_var_part, range_class_part, ranges_below_part, no_var_lits, copy_part, system_var_bits, range_class_bits, ranges_below_bits, copy_bits, AreCopyBits}
+use Rattle.ilk_forms.specs.Copy.{system_var_part, range_class_part, range_classes_below_part, no_lits_for_each_var, copy_part, system_var_bits, range_class_bits, range_classes_below_bits, copy_bits, AreCopyBits}
 use Rattle.ilk_forms.proofs.ColumnLaw.{ranges_fit, AreVarBits, system_var-low, system_var-in, system_var-law, class-low, class-in, below-low}
-use Rattle.ilk_forms.proofs.CopyWidth.{class-length, no_var_lits-length}
+use Rattle.ilk_forms.proofs.CopyWidth.{class-length, no_lits_for_each_var-length}
 
 pub ranges_fit-small : (ranges : List ℕ) → list_all (λ range. ltb range 256) ranges ≡ true → ranges_fit ranges ≡ true
 ranges_fit-small [] h = refl
@@ -144,10 +144,10 @@ merge-other s r (range ∷ ranges) (w ∷ ws) (x ∷ xs) less h k = by_case (eqb
     by_case true false e f rest = rw (e, f) (ap (λ (u : List Bool). system_var_bits range x ++ u) rest)
     by_case false d e f rest = rw e rest
 
-merge-below : (k r : ℕ) (ranges ws xs : List ℕ) → k ≤ r → InClass r ws ranges → InBelow r xs ranges → ranges_below_bits k ranges (merge r ranges ws xs) ≡ ranges_below_bits k ranges xs
+merge-below : (k r : ℕ) (ranges ws xs : List ℕ) → k ≤ r → InClass r ws ranges → InBelow r xs ranges → range_classes_below_bits k ranges (merge r ranges ws xs) ≡ range_classes_below_bits k ranges xs
 merge-below zero r ranges ws xs low h i = refl
 merge-below (suc s) r ranges ws xs low h i =
-    ap (λ (u : List Bool). u ++ ranges_below_bits s ranges (merge r ranges ws xs)) (merge-other s r ranges ws xs (omega arith) h i)
+    ap (λ (u : List Bool). u ++ range_classes_below_bits s ranges (merge r ranges ws xs)) (merge-other s r ranges ws xs (omega arith) h i)
     ∙ ap (λ (u : List Bool). range_class_bits s ranges xs ++ u) (merge-below s r ranges ws xs (omega arith) h i)
 
 merge-in : (r : ℕ) (ranges ws xs : List ℕ) → InClass r ws ranges → InBelow r xs ranges → InBelow (suc r) (merge r ranges ws xs) ranges
@@ -164,10 +164,10 @@ merge-in r (range ∷ ranges) (w ∷ ws) (x ∷ xs) h k = (λ low. by_case (eqb 
         below other less = omega arith
 
 abbrev AreBelowBits : ℕ → List ℕ → List Bool → Type 0
-AreBelowBits k ranges b = (ws : List ℕ) × InBelow k ws ranges × (b ≡ ranges_below_bits k ranges ws)
+AreBelowBits k ranges b = (ws : List ℕ) × InBelow k ws ranges × (b ≡ range_classes_below_bits k ranges ws)
 
 pub below-law : (k : ℕ) (ranges : List ℕ) (columns : List VarValueAndBoundLits) (a : List Bool) (n : ℕ) → length a ≡ n → length columns ≡ length ranges → k ≤ 256 →
-    ExtensionsAreExactly a (ranges_below_part k ranges columns n).part.vars (ranges_below_part k ranges columns n).part.clauses (AreBelowBits k ranges)
+    ExtensionsAreExactly a (range_classes_below_part k ranges columns n).part.vars (range_classes_below_part k ranges columns n).part.clauses (AreBelowBits k ranges)
 below-law zero ranges columns a n size same few = in_words a n [] (EqualsGivenValues []) (AreBelowBits zero ranges) (λ b h. (ranges, none ranges, h)) (λ b h. h.2) (only_from_if a n [] [] (no_more_if a n [] true size refl))
   where
     none : (rs : List ℕ) → InBelow zero rs rs
@@ -175,7 +175,7 @@ below-law zero ranges columns a n size same few = in_words a n [] (EqualsGivenVa
     none (range ∷ rs) = (λ less. absurd (omega arith), none rs)
 below-law (suc r) ranges columns a n size same few =
     let p = range_class_part r ranges columns n in
-    let more = (ranges_below_part r ranges p.columns p.part.vars).part in
+    let more = (range_classes_below_part r ranges p.columns p.part.vars).part in
     let enough = bit_count-enough r (omega arith) in
     let first = class-law r ranges columns a n size same enough in
     in_words a more.vars (p.part.clauses ++ more.clauses) _ (AreBelowBits (suc r) ranges) to from
@@ -191,18 +191,18 @@ below-law (suc r) ranges columns a n size same few =
         let xs = h.4.0 in
         let both = merge r ranges ws xs in
         let first : h.0 ≡ range_class_bits r ranges both = h.3.2 ∙ sym (merge-class r ranges ws xs h.3.1 h.4.1) in
-        let rest : h.1 ≡ ranges_below_bits r ranges both = h.4.2 ∙ sym (merge-below r r ranges ws xs (omega arith) h.3.1 h.4.1) in
+        let rest : h.1 ≡ range_classes_below_bits r ranges both = h.4.2 ∙ sym (merge-below r r ranges ws xs (omega arith) h.3.1 h.4.1) in
         (both, merge-in r ranges ws xs h.3.1 h.4.1, h.2 ∙ ap (λ (u : List Bool). u ++ h.1) first ∙ ap (λ (u : List Bool). range_class_bits r ranges both ++ u) rest)
 
     from : (b : List Bool) → AreBelowBits (suc r) ranges b → AreValuesOfConsecutiveParts (AreClassBits r ranges) (λ b _. AreBelowBits r ranges) b
     from b h =
-        (range_class_bits r ranges h.0, ranges_below_bits r ranges h.0, h.2, (h.0, below-class r h.0 ranges h.1, refl), (h.0, below-below r h.0 ranges h.1, refl))
+        (range_class_bits r ranges h.0, range_classes_below_bits r ranges h.0, h.2, (h.0, below-class r h.0 ranges h.1, refl), (h.0, below-below r h.0 ranges h.1, refl))
 
 pub copy-law : (ranges : List ℕ) (a : List Bool) (n : ℕ) → length a ≡ n → ranges_fit ranges ≡ true → ExtensionsAreExactly a (copy_part ranges n).part.vars (copy_part ranges n).part.clauses (AreCopyBits ranges)
 unfolding copy_part copy_bits
 copy-law ranges a n size fit =
-    let p = (ranges_below_part MAX_RANGES ranges (no_var_lits ranges) n).part in
+    let p = (range_classes_below_part MAX_RANGES ranges (no_lits_for_each_var ranges) n).part in
     in_words a p.vars p.clauses (AreBelowBits MAX_RANGES ranges) (AreCopyBits ranges)
     (λ b h. (h.0, all-below MAX_RANGES h.0 ranges refl fit h.1, h.2))
     (λ b h. (h.0, below-all MAX_RANGES h.0 ranges h.1, h.2))
-    (below-law MAX_RANGES ranges (no_var_lits ranges) a n size (no_var_lits-length ranges) (omega arith))
+    (below-law MAX_RANGES ranges (no_lits_for_each_var ranges) a n size (no_lits_for_each_var-length ranges) (omega arith))

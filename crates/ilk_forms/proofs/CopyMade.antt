@@ -10,7 +10,7 @@ use Rattle.ilk_ints.specs.Bits.{bit_count}
 use Rattle.ilk_ints.specs.Number.{number_part, non_value_clauses}
 use Rattle.ilk_forms.specs.declared.copy.VarValueAndBoundLits.{VarValueAndBoundLits}
 use Rattle.ilk_forms.specs.declared.copy.TheConstants.{MAX_RANGES}
-use Rattle.ilk_forms.specs.Copy.{PartWithAllVarLits, prepend_var, system_var_part, range_class_part, ranges_below_part, no_var_lits, copy_part}
+use Rattle.ilk_forms.specs.Copy.{PartWithAllVarLits, prepend_var, system_var_part, range_class_part, range_classes_below_part, no_lits_for_each_var, copy_part}
 use Rattle.ilk_forms.proofs.ColumnLaw.{class-low, below-low}
 
 pub number_there : (f g : Formula) (used range count : ℕ) → count ≡ bit_count range → g ≡ with_var_count_and_clauses f f.vars (clauses_from_lists (non_value_clauses (used + 1) range)) →
@@ -23,14 +23,14 @@ abbrev no_lits : VarValueAndBoundLits
 no_lits = record { values = []; bounds = [] }
 
 pub none_pushed : (ranges : List ℕ) (i : ℕ) (table next whole : List VarValueAndBoundLits) (values bounds : List Literal) → i < length ranges → values ≡ [] → bounds ≡ [] →
-    next ≡ table ++ (record { values = values; bounds = bounds }) ∷ [] → table ++ no_var_lits (drop i ranges) ≡ whole → next ++ no_var_lits (drop (i + 1) ranges) ≡ whole
+    next ≡ table ++ (record { values = values; bounds = bounds }) ∷ [] → table ++ no_lits_for_each_var (drop i ranges) ≡ whole → next ++ no_lits_for_each_var (drop (i + 1) ranges) ≡ whole
 none_pushed ranges i table next whole values bounds less none empty pushed h =
-    let rest = no_var_lits (drop (i + 1) ranges) in
+    let rest = no_lits_for_each_var (drop (i + 1) ranges) in
     ap (λ (us : List VarValueAndBoundLits). us ++ rest) pushed
     ∙ append_assoc table ((record { values = values; bounds = bounds }) ∷ []) rest
     ∙ ap (λ (ls : List Literal). table ++ (record { values = ls; bounds = bounds }) ∷ rest) none
     ∙ ap (λ (ls : List Literal). table ++ (record { values = []; bounds = ls }) ∷ rest) empty
-    ∙ ap (λ (rs : List ℕ). table ++ no_var_lits rs) (sym (drop_more ranges i 0 less))
+    ∙ ap (λ (rs : List ℕ). table ++ no_lits_for_each_var rs) (sym (drop_more ranges i 0 less))
     ∙ h
 
 abbrev passed : ℕ → List ℕ → VarValueAndBoundLits → List VarValueAndBoundLits → ℕ → PartWithAllVarLits
@@ -113,27 +113,27 @@ class_passed r v ranges table whole f end less other h =
       made = ap (λ (p : PartWithAllVarLits). with_part f p.part) (sym at) ∙ h.made;
     }
 
-pub class_there : (j r n m : ℕ) (ranges : List ℕ) (table : List VarValueAndBoundLits) → j ≡ suc r → (ranges_below_part j ranges table n).part.vars ≤ m → (range_class_part r ranges table n).part.vars ≤ m
+pub class_there : (j r n m : ℕ) (ranges : List ℕ) (table : List VarValueAndBoundLits) → j ≡ suc r → (range_classes_below_part j ranges table n).part.vars ≤ m → (range_class_part r ranges table n).part.vars ≤ m
 class_there j r n m ranges table left high =
     let p = range_class_part r ranges table n in
-    let same : (ranges_below_part j ranges table n).part.vars ≡ (ranges_below_part r ranges p.columns p.part.vars).part.vars = ap (λ (k : ℕ). (ranges_below_part k ranges table n).part.vars) left in
+    let same : (range_classes_below_part j ranges table n).part.vars ≡ (range_classes_below_part r ranges p.columns p.part.vars).part.vars = ap (λ (k : ℕ). (range_classes_below_part k ranges table n).part.vars) left in
     omega (arith, same, below-low r ranges p.columns p.part.vars, high)
 
 pub below_step : (j r s : ℕ) (ranges : List ℕ) (table next : List VarValueAndBoundLits) (f g : Formula) → j ≡ suc r → s ≡ r →
     next ≡ (range_class_part r ranges table f.vars).columns → g ≡ with_part f (range_class_part r ranges table f.vars).part →
-    ((ranges_below_part s ranges next g.vars).columns ≡ (ranges_below_part j ranges table f.vars).columns) ×
-    (with_part g (ranges_below_part s ranges next g.vars).part ≡ with_part f (ranges_below_part j ranges table f.vars).part)
+    ((range_classes_below_part s ranges next g.vars).columns ≡ (range_classes_below_part j ranges table f.vars).columns) ×
+    (with_part g (range_classes_below_part s ranges next g.vars).part ≡ with_part f (range_classes_below_part j ranges table f.vars).part)
 below_step j r s ranges table next f g left same seen made =
     let p = range_class_part r ranges table f.vars in
     rw (left, same) (
-      ap (λ (us : List VarValueAndBoundLits). (ranges_below_part r ranges us g.vars).columns) seen ∙ ap (λ (k : Formula). (ranges_below_part r ranges p.columns k.vars).columns) made,
-      ap (λ (us : List VarValueAndBoundLits). with_part g (ranges_below_part r ranges us g.vars).part) seen
-          ∙ ap (λ (k : Formula). with_part k (ranges_below_part r ranges p.columns k.vars).part) made
-          ∙ with_part-and_then f p.part (λ m. (ranges_below_part r ranges p.columns m).part),
+      ap (λ (us : List VarValueAndBoundLits). (range_classes_below_part r ranges us g.vars).columns) seen ∙ ap (λ (k : Formula). (range_classes_below_part r ranges p.columns k.vars).columns) made,
+      ap (λ (us : List VarValueAndBoundLits). with_part g (range_classes_below_part r ranges us g.vars).part) seen
+          ∙ ap (λ (k : Formula). with_part k (range_classes_below_part r ranges p.columns k.vars).part) made
+          ∙ with_part-and_then f p.part (λ m. (range_classes_below_part r ranges p.columns m).part),
     )
 
-pub copy-begins : (k : ℕ) (ranges : List ℕ) (table : List VarValueAndBoundLits) (n : ℕ) → 256 ≡ k → table ≡ no_var_lits ranges → ranges_below_part k ranges table n ≡ copy_part ranges n
+pub copy-begins : (k : ℕ) (ranges : List ℕ) (table : List VarValueAndBoundLits) (n : ℕ) → 256 ≡ k → table ≡ no_lits_for_each_var ranges → range_classes_below_part k ranges table n ≡ copy_part ranges n
 unfolding copy_part
 copy-begins k ranges table n is none =
-    ap (λ (j : ℕ). ranges_below_part j ranges table n) (sym is)
-    ∙ ap (λ (us : List VarValueAndBoundLits). ranges_below_part MAX_RANGES ranges us n) none
+    ap (λ (j : ℕ). range_classes_below_part j ranges table n) (sym is)
+    ∙ ap (λ (us : List VarValueAndBoundLits). range_classes_below_part MAX_RANGES ranges us n) none

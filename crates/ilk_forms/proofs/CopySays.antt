@@ -6,7 +6,7 @@ use Rattle.ilk_cnf.specs.Truth.{is_true}
 use Rattle.ilk_cnf.specs.Extends.{ExtensionsAreExactly, EqualsGivenValues}
 use Rattle.ilk_ints.specs.Bits.{bit_count, lowest_bits_of, assigned_bits_from_var}
 use Rattle.ilk_ints.specs.Number.{number_part}
-use Rattle.ilk_ints.specs.Named.{value_lits_part, bound_lits_part, one_hot_var_bits, bound_vars_bits, bound_count, one_hot_bits, bound_bits}
+use Rattle.ilk_ints.specs.Named.{value_lits_part, bound_lits_part, one_hot_var_bits, at_most_vars_bits, bound_count, one_hot_bits, bound_bits}
 use Rattle.ilk_ints.proofs.NumberLaw.{number-law}
 use Rattle.ilk_ints.proofs.ValuesLaw.{value_lits_part-low, value_lits_part-law, value_lits_part-say, assigned_bits_from_var-left}
 use Rattle.ilk_ints.proofs.BoundsPart.{bound_lits_part-say}
@@ -14,10 +14,10 @@ use Rattle.ilk_ints.proofs.TableParts.{bit_count-enough, value_lits_part-lits_in
 use Rattle.ilk_ir.specs.System.{in_ranges}
 use Rattle.ilk_forms.specs.declared.copy.VarValueAndBoundLits.{VarValueAndBoundLits}
 use Rattle.ilk_forms.specs.declared.copy.TheConstants.{MAX_RANGES}
-use Rattle.ilk_forms.specs.Copy.{LiteralsEncode, var_lits_part, system_var_part, range_class_part, ranges_below_part, no_var_lits, copy_part, system_var_bits, range_class_bits, ranges_below_bits, copy_bits}
+use Rattle.ilk_forms.specs.Copy.{LiteralsEncode, var_lits_part, system_var_part, range_class_part, range_classes_below_part, no_lits_for_each_var, copy_part, system_var_bits, range_class_bits, range_classes_below_bits, copy_bits}
 use Rattle.ilk_forms.proofs.ColumnLaw.{ranges_fit, bits-new, system_var-law}
 use Rattle.ilk_forms.proofs.CopyLaw.{below-all, below-class, class-law}
-use Rattle.ilk_forms.proofs.CopyWidth.{class-length, no_var_lits-length}
+use Rattle.ilk_forms.proofs.CopyWidth.{class-length, no_lits_for_each_var-length}
 
 abbrev pub ColumnEncodes : List Bool → VarValueAndBoundLits → ℕ → ℕ → Type 0
 ColumnEncodes a column range w = (map (is_true a) column.values ≡ one_hot_bits w 0 range) × (map (is_true a) column.bounds ≡ bound_bits w 1 (bound_count range))
@@ -25,12 +25,12 @@ ColumnEncodes a column range w = (map (is_true a) column.values ≡ one_hot_bits
 column-say : (a c : List Bool) (first range w n : ℕ) → length a ≡ n → 0 < first →
     first + bit_count range ≤ n + 1 → range ≤ 2 ^ bit_count range → w < range →
     assigned_bits_from_var a first (bit_count range) ≡ lowest_bits_of (bit_count range) w →
-    ColumnEncodes (a ++ ((one_hot_var_bits range w ++ bound_vars_bits range w 1 (bound_count range)) ++ c)) (var_lits_part first range n).column range w
+    ColumnEncodes (a ++ ((one_hot_var_bits range w ++ at_most_vars_bits range w 1 (bound_count range)) ++ c)) (var_lits_part first range n).column range w
 column-say a c first range w n size low reach enough less has =
     let v = value_lits_part first range n in
     let m = v.part.vars in
     let e = one_hot_var_bits range w in
-    let f = bound_vars_bits range w 1 (bound_count range) in
+    let f = at_most_vars_bits range w 1 (bound_count range) in
     let one : ExtensionsAreExactly a m v.part.clauses (EqualsGivenValues e) = value_lits_part-law a first range w n size low reach enough less has in
     let long : length (a ++ e) ≡ m = one.sized e refl in
     let grows : n ≤ m = value_lits_part-low first range n in
@@ -52,7 +52,7 @@ system_var-say : (a c : List Bool) (range w n : ℕ) → length a ≡ n → rang
 system_var-say a c range w n size enough less =
     let p = number_part range n in
     let b = lowest_bits_of (bit_count range) w in
-    let d = one_hot_var_bits range w ++ bound_vars_bits range w 1 (bound_count range) in
+    let d = one_hot_var_bits range w ++ at_most_vars_bits range w 1 (bound_count range) in
     let long : length (a ++ b) ≡ p.vars = (number-law a range n enough size).sized b (w, less, refl) in
     let whole : (a ++ b) ++ (d ++ c) ≡ a ++ ((b ++ d) ++ c) = append_assoc a b (d ++ c) ∙ ap (λ (u : List Bool). a ++ u) (sym (append_assoc b d c)) in
     subst (λ (u : List Bool). ColumnEncodes u (system_var_part range n).column range w) whole
@@ -102,12 +102,12 @@ class-say r (range ∷ ranges) (w ∷ ws) (column ∷ columns) whole enough insi
     by_case false h less rest = class-passed r range w ranges ws column columns whole h has.0 rest
 
 below-say : (k : ℕ) (ranges ws : List ℕ) (columns : List VarValueAndBoundLits) (whole a c : List Bool) (n : ℕ) → length a ≡ n → length columns ≡ length ranges → k ≤ 256 → in_ranges ws ranges ≡ true →
-    whole ≡ a ++ (ranges_below_bits k ranges ws ++ c) → EncodeFrom k whole columns ranges ws → EncodeFrom 0 whole (ranges_below_part k ranges columns n).columns ranges ws
+    whole ≡ a ++ (range_classes_below_bits k ranges ws ++ c) → EncodeFrom k whole columns ranges ws → EncodeFrom 0 whole (range_classes_below_part k ranges columns n).columns ranges ws
 below-say zero ranges ws columns whole a c n size same few inside is has = has
 below-say (suc r) ranges ws columns whole a c n size same few inside is has =
     let p = range_class_part r ranges columns n in
     let b = range_class_bits r ranges ws in
-    let d = ranges_below_bits r ranges ws in
+    let d = range_classes_below_bits r ranges ws in
     let enough = bit_count-enough r (omega arith) in
     let here : whole ≡ a ++ (b ++ (d ++ c)) = is ∙ ap (λ (u : List Bool). a ++ u) (append_assoc b d c) in
     let long : length (a ++ b) ≡ p.part.vars = (class-law r ranges columns a n size same enough).sized b (ws, below-class r ws ranges (below-all (suc r) ws ranges inside), refl) in
@@ -115,7 +115,7 @@ below-say (suc r) ranges ws columns whole a c n size same few inside is has =
     (here ∙ sym (append_assoc a b (d ++ c)))
     (class-say r ranges ws columns whole enough inside has a (d ++ c) n size here)
 
-none-say : (k : ℕ) (ranges ws : List ℕ) (whole : List Bool) → 256 ≡ k → ranges_fit ranges ≡ true → in_ranges ws ranges ≡ true → EncodeFrom k whole (no_var_lits ranges) ranges ws
+none-say : (k : ℕ) (ranges ws : List ℕ) (whole : List Bool) → 256 ≡ k → ranges_fit ranges ≡ true → in_ranges ws ranges ≡ true → EncodeFrom k whole (no_lits_for_each_var ranges) ranges ws
 none-say k [] ws whole is fit inside = tt
 none-say k (range ∷ ranges) [] whole is fit inside = absurd (false≢true inside)
 none-say k (range ∷ ranges) (w ∷ ws) whole is fit inside =
@@ -131,7 +131,7 @@ all-say a (column ∷ columns) (range ∷ ranges) (w ∷ ws) h = (let here = h.0
 pub copy-say : (ranges ws : List ℕ) (a c : List Bool) (n : ℕ) → length a ≡ n → ranges_fit ranges ≡ true → in_ranges ws ranges ≡ true → LiteralsEncode (a ++ (copy_bits ranges ws ++ c)) (copy_part ranges n).columns ranges ws
 unfolding copy_part copy_bits
 copy-say ranges ws a c n size fit inside =
-    let whole = a ++ (ranges_below_bits MAX_RANGES ranges ws ++ c) in
-    all-say whole (ranges_below_part MAX_RANGES ranges (no_var_lits ranges) n).columns ranges ws
-    (below-say MAX_RANGES ranges ws (no_var_lits ranges) whole a c n size (no_var_lits-length ranges)
+    let whole = a ++ (range_classes_below_bits MAX_RANGES ranges ws ++ c) in
+    all-say whole (range_classes_below_part MAX_RANGES ranges (no_lits_for_each_var ranges) n).columns ranges ws
+    (below-say MAX_RANGES ranges ws (no_lits_for_each_var ranges) whole a c n size (no_lits_for_each_var-length ranges)
     (omega arith) inside refl (none-say MAX_RANGES ranges ws whole refl fit inside))

@@ -13,7 +13,7 @@ use Rattle.ilk_ints.proofs.BoundsLaw.{at_most-low, at_most-is_lit_over, bounds-l
 use Rattle.ilk_ints.proofs.TableParts.{bit_count-enough, value_lits_part-lits_in, length-value_lits_part, bound_lits_part-low}
 use Rattle.ilk_forms.specs.declared.copy.VarValueAndBoundLits.{VarValueAndBoundLits}
 use Rattle.ilk_forms.specs.declared.copy.TheConstants.{MAX_RANGES}
-use Rattle.ilk_forms.specs.Copy.{PartWithAllVarLits, var_lits_part, system_var_part, range_class_part, ranges_below_part, no_var_lits, copy_part}
+use Rattle.ilk_forms.specs.Copy.{PartWithAllVarLits, var_lits_part, system_var_part, range_class_part, range_classes_below_part, no_lits_for_each_var, copy_part}
 use Rattle.ilk_forms.proofs.ColumnLaw.{ranges_fit, system_var-low, class-low}
 use Rattle.ilk_forms.specs.Leaf.{has_lits_within_vars, ranges_of}
 use Rattle.ilk_forms.proofs.Reading.{has_lits_within_vars-more}
@@ -78,19 +78,19 @@ class-lits_in r (range ∷ ranges) (column ∷ columns) n enough h =
         let end = (range_class_part r ranges columns n).part.vars in
         rw e (and_from _ _ (column-more n end column (class-low r ranges columns n) (and_parts (is_clause_over n column.values && is_clause_over n column.bounds) (has_lits_within_vars n columns) h).0) (rest n (omega arith)))
 
-below-lits_in : (k : ℕ) (ranges : List ℕ) (columns : List VarValueAndBoundLits) (n : ℕ) → k ≤ 256 → has_lits_within_vars n columns ≡ true → LitsIn (ranges_below_part k ranges columns n)
+below-lits_in : (k : ℕ) (ranges : List ℕ) (columns : List VarValueAndBoundLits) (n : ℕ) → k ≤ 256 → has_lits_within_vars n columns ≡ true → LitsIn (range_classes_below_part k ranges columns n)
 below-lits_in zero ranges columns n few h = h
 below-lits_in (suc r) ranges columns n few h =
     let p = range_class_part r ranges columns n in
     below-lits_in r ranges p.columns p.part.vars (omega arith) (class-lits_in r ranges columns n (bit_count-enough r (omega arith)) h)
 
-none-lits_in : (ranges : List ℕ) (n : ℕ) → has_lits_within_vars n (no_var_lits ranges) ≡ true
+none-lits_in : (ranges : List ℕ) (n : ℕ) → has_lits_within_vars n (no_lits_for_each_var ranges) ≡ true
 none-lits_in [] n = refl
 none-lits_in (range ∷ ranges) n = none-lits_in ranges n
 
 pub copy-lits_in : (ranges : List ℕ) (n : ℕ) → ranges_fit ranges ≡ true → has_lits_within_vars (copy_part ranges n).part.vars (copy_part ranges n).columns ≡ true
 unfolding copy_part
-copy-lits_in ranges n fit = below-lits_in MAX_RANGES ranges (no_var_lits ranges) n (omega arith) (none-lits_in ranges n)
+copy-lits_in ranges n fit = below-lits_in MAX_RANGES ranges (no_lits_for_each_var ranges) n (omega arith) (none-lits_in ranges n)
 
 -- Holds if each variable with a range from `k` on has a literal for each value.
 abbrev HaveRangesFrom : ℕ → List VarValueAndBoundLits → List ℕ → Type 0
@@ -111,13 +111,13 @@ class-ranges r (range ∷ ranges) (column ∷ columns) n h = by_case (eqb range 
         above : (range ≡ r → ⊥) → r ≤ range → suc r ≤ range
         above other low = omega arith
 
-below-ranges : (k : ℕ) (ranges : List ℕ) (columns : List VarValueAndBoundLits) (n : ℕ) → HaveRangesFrom k columns ranges → HaveRangesFrom 0 (ranges_below_part k ranges columns n).columns ranges
+below-ranges : (k : ℕ) (ranges : List ℕ) (columns : List VarValueAndBoundLits) (n : ℕ) → HaveRangesFrom k columns ranges → HaveRangesFrom 0 (range_classes_below_part k ranges columns n).columns ranges
 below-ranges zero ranges columns n h = h
 below-ranges (suc r) ranges columns n h =
     let p = range_class_part r ranges columns n in
     below-ranges r ranges p.columns p.part.vars (class-ranges r ranges columns n h)
 
-none-ranges : (k : ℕ) (ranges : List ℕ) → 256 ≡ k → ranges_fit ranges ≡ true → HaveRangesFrom k (no_var_lits ranges) ranges
+none-ranges : (k : ℕ) (ranges : List ℕ) → 256 ≡ k → ranges_fit ranges ≡ true → HaveRangesFrom k (no_lits_for_each_var ranges) ranges
 none-ranges k [] is fit = tt
 none-ranges k (range ∷ ranges) is fit = (let parts = and_parts (ltb range 256) (ranges_fit ranges) fit in (λ low. absurd (omega (arith, ltb-true range 256 parts.0)), none-ranges k ranges is parts.1))
 
@@ -129,4 +129,4 @@ all-ranges (column ∷ columns) (range ∷ ranges) h = rw (h.0 (omega arith), al
 
 pub copy-ranges : (ranges : List ℕ) (n : ℕ) → ranges_fit ranges ≡ true → ranges_of (copy_part ranges n).columns ≡ ranges
 unfolding copy_part
-copy-ranges ranges n fit = all-ranges (ranges_below_part MAX_RANGES ranges (no_var_lits ranges) n).columns ranges (below-ranges MAX_RANGES ranges (no_var_lits ranges) n (none-ranges MAX_RANGES ranges refl fit))
+copy-ranges ranges n fit = all-ranges (range_classes_below_part MAX_RANGES ranges (no_lits_for_each_var ranges) n).columns ranges (below-ranges MAX_RANGES ranges (no_lits_for_each_var ranges) n (none-ranges MAX_RANGES ranges refl fit))

@@ -7,7 +7,7 @@ use Rattle.ilk_ints.specs.Named.{value_bound_var_count}
 use Rattle.ilk_ints.proofs.TableParts.{named-end}
 use Rattle.ilk_forms.specs.declared.copy.VarValueAndBoundLits.{VarValueAndBoundLits}
 use Rattle.ilk_forms.specs.declared.copy.TheConstants.{MAX_RANGES}
-use Rattle.ilk_forms.specs.Copy.{system_var_part, range_class_part, ranges_below_part, no_var_lits, copy_part, copy_var_count}
+use Rattle.ilk_forms.specs.Copy.{system_var_part, range_class_part, range_classes_below_part, no_lits_for_each_var, copy_part, copy_var_count}
 use Rattle.ilk_forms.proofs.ColumnLaw.{ranges_fit}
 
 abbrev pub var_width : ℕ → ℕ
@@ -60,7 +60,7 @@ below_width-suc r (range ∷ ranges) = by_case (eqb range r) (ltb range r) refl 
         later : r ≤ range → (range ≡ r → ⊥) → suc r ≤ range
         later low other = omega arith
 
-pub below-end : (k : ℕ) (ranges : List ℕ) (columns : List VarValueAndBoundLits) (n : ℕ) → length columns ≡ length ranges → (ranges_below_part k ranges columns n).part.vars ≡ n + below_width k ranges
+pub below-end : (k : ℕ) (ranges : List ℕ) (columns : List VarValueAndBoundLits) (n : ℕ) → length columns ≡ length ranges → (range_classes_below_part k ranges columns n).part.vars ≡ n + below_width k ranges
 below-end zero ranges columns n same = omega (arith, below_width-zero ranges)
 below-end (suc r) ranges columns n same =
     let p = range_class_part r ranges columns n in
@@ -82,13 +82,13 @@ below_width-most k (range ∷ ranges) = by_case (ltb range k) refl (below_width-
     by_case true h rest = rw h (omega (arith, rest))
     by_case false h rest = rw h (omega (arith, rest))
 
-pub no_var_lits-length : (ranges : List ℕ) → length (no_var_lits ranges) ≡ length ranges
-no_var_lits-length ranges = length-map ranges _
+pub no_lits_for_each_var-length : (ranges : List ℕ) → length (no_lits_for_each_var ranges) ≡ length ranges
+no_lits_for_each_var-length ranges = length-map ranges _
 
 pub copy-end : (ranges : List ℕ) (n : ℕ) → ranges_fit ranges ≡ true → (copy_part ranges n).part.vars ≡ n + copy_var_count ranges
 unfolding copy_part
-copy-end ranges n fit = below-end MAX_RANGES ranges (no_var_lits ranges) n (no_var_lits-length ranges) ∙ ap (λ (x : ℕ). n + x) (below_width-all MAX_RANGES ranges refl fit)
+copy-end ranges n fit = below-end MAX_RANGES ranges (no_lits_for_each_var ranges) n (no_lits_for_each_var-length ranges) ∙ ap (λ (x : ℕ). n + x) (below_width-all MAX_RANGES ranges refl fit)
 
 pub copy-most : (ranges : List ℕ) (n : ℕ) → (copy_part ranges n).part.vars ≤ n + copy_var_count ranges
 unfolding copy_part
-copy-most ranges n = omega (arith, below-end MAX_RANGES ranges (no_var_lits ranges) n (no_var_lits-length ranges), below_width-most MAX_RANGES ranges)
+copy-most ranges n = omega (arith, below-end MAX_RANGES ranges (no_lits_for_each_var ranges) n (no_lits_for_each_var-length ranges), below_width-most MAX_RANGES ranges)

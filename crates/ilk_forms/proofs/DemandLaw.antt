@@ -19,10 +19,10 @@ use Rattle.ilk_ir.specs.Tree.{Tree, yes, no, is, all_of, any_of, negation, Trees
 use Rattle.ilk_forms.specs.declared.copy.VarValueAndBoundLits.{VarValueAndBoundLits}
 use Rattle.ilk_forms.specs.declared.gates.AndGate.{AndGate}
 use Rattle.ilk_forms.specs.Leaf.{value_lit, has_lits_within_vars, ranges_of}
-use Rattle.ilk_forms.specs.Bound.{or_of_values_bound_lit, has_bound_lit_for_or}
-use Rattle.ilk_forms.specs.Gates.{bool_equals, with_sign, gates_part, gate_values, GatesHold, gates_within}
+use Rattle.ilk_forms.specs.Bound.{bound_lit_stated_by_or, has_bound_lit_for_or}
+use Rattle.ilk_forms.specs.Gates.{bools_are_equal, with_sign, gates_part, gate_values, GatesHold, gates_within}
 use Rattle.ilk_forms.specs.Gathered.{LitsWithGates, forms_to_and_or_lits}
-use Rattle.ilk_forms.specs.Demand.{PartWithGates, no_demand, clause_demand, some_demand, lit_demand_or, then_demand, demand_of, demand_each, some_lit_or_form_part, some_lit_or_form_bits}
+use Rattle.ilk_forms.specs.Demand.{PartWithGates, no_demand, literal_clause_demand, some_lit_demand_with_gates, literal_clause_demand_or, then_demand, demand_of, demand_each, some_lit_or_form_part, some_lit_or_form_bits}
 use Rattle.ilk_forms.proofs.BoundForms.{Stands}
 use Rattle.ilk_forms.proofs.BoundLaw.{any-in, any-says}
 use Rattle.ilk_forms.proofs.Reading.{Reads, reads-more, has_lits_within_vars-more, value_lit-in}
@@ -47,10 +47,10 @@ joined-in first ls n h k = list_all-append (is_lit_over n) first ls ∙ and_from
 no_demand-fits : (n : ℕ) → DemandFits n (no_demand n)
 no_demand-fits n = record { vars = omega arith; inside = refl; gates = refl }
 
-clause-fits : (ls : List Literal) (n : ℕ) → is_clause_over n ls ≡ true → DemandFits n (clause_demand ls n)
+clause-fits : (ls : List Literal) (n : ℕ) → is_clause_over n ls ≡ true → DemandFits n (literal_clause_demand ls n)
 clause-fits ls n h = record { vars = omega arith; inside = and_from _ _ h refl; gates = refl }
 
-some-fits : (first : List Literal) (n : ℕ) (g : LitsWithGates) → is_clause_over n first ≡ true → Fits n g → DemandFits n (some_demand first g n)
+some-fits : (first : List Literal) (n : ℕ) (g : LitsWithGates) → is_clause_over n first ≡ true → Fits n g → DemandFits n (some_lit_demand_with_gates first g n)
 some-fits first n g h fits =
     let m = n + length g.gates in
     let ls = first ++ g.lits in
@@ -61,14 +61,14 @@ some-fits first n g h fits =
       gates = fits.gates;
     }
 
-signed_clause-fits : (first : List Literal) (positive : Bool) (l : Literal) (n : ℕ) → is_clause_over n first ≡ true → is_lit_over n l ≡ true → DemandFits n (clause_demand (first ++ with_sign positive l ∷ []) n)
+signed_clause-fits : (first : List Literal) (positive : Bool) (l : Literal) (n : ℕ) → is_clause_over n first ≡ true → is_lit_over n l ≡ true → DemandFits n (literal_clause_demand (first ++ with_sign positive l ∷ []) n)
 signed_clause-fits first positive l n f h =
     clause-fits (first ++ with_sign positive l ∷ []) n (joined-in first (with_sign positive l ∷ []) n f (and_from _ _ (signed-in positive n l h) refl))
 
-lit_demand_or-fits : (first : List Literal) (positive : Bool) (o : Option Literal) (n : ℕ) (d : PartWithGates) → is_clause_over n first ≡ true → ((l : Literal) → o ≡ Some l → is_lit_over n l ≡ true) → DemandFits n d
-    → DemandFits n (lit_demand_or first positive o n d)
-lit_demand_or-fits first positive None n d f inside h = h
-lit_demand_or-fits first positive (Some l) n d f inside h = signed_clause-fits first positive l n f (inside l refl)
+literal_clause_demand_or-fits : (first : List Literal) (positive : Bool) (o : Option Literal) (n : ℕ) (d : PartWithGates) → is_clause_over n first ≡ true → ((l : Literal) → o ≡ Some l → is_lit_over n l ≡ true) → DemandFits n d
+    → DemandFits n (literal_clause_demand_or first positive o n d)
+literal_clause_demand_or-fits first positive None n d f inside h = h
+literal_clause_demand_or-fits first positive (Some l) n d f inside h = signed_clause-fits first positive l n f (inside l refl)
 
 then_demand-fits : (n : ℕ) (d : PartWithGates) (e : List AndGate → ℕ → PartWithGates) → DemandFits n d → DemandFits d.part.vars (e d.gates d.part.vars) → DemandFits n (then_demand d e)
 then_demand-fits n d e one two =
@@ -105,9 +105,9 @@ mutual
   demand_of-fits (all_of ts) columns first false known n h f w k = some-fits first n (forms_to_and_or_lits columns false false ts known n) f (forms-fits ts columns false false known n h w k)
   demand_of-fits (any_of ts) columns first true known n h f w k =
       let g = forms_to_and_or_lits columns false true ts known n in
-      lit_demand_or-fits first true (or_of_values_bound_lit columns ts) n (some_demand first g n) f (λ l e. any-in ts columns n l h e) (some-fits first n g f (forms-fits ts columns false true known n h w k))
+      literal_clause_demand_or-fits first true (bound_lit_stated_by_or columns ts) n (some_lit_demand_with_gates first g n) f (λ l e. any-in ts columns n l h e) (some-fits first n g f (forms-fits ts columns false true known n h w k))
   demand_of-fits (any_of ts) columns first false known n h f w k =
-      lit_demand_or-fits first false (or_of_values_bound_lit columns ts) n (demand_each columns first false ts known n) f (λ l e. any-in ts columns n l h e) (demand_each-fits ts columns first false known n h f w k)
+      literal_clause_demand_or-fits first false (bound_lit_stated_by_or columns ts) n (demand_each columns first false ts known n) f (λ l e. any-in ts columns n l h e) (demand_each-fits ts columns first false known n h f w k)
   demand_of-fits (negation t) columns first positive known n h f w k = demand_of-fits t columns first (not positive) known n h f w k
 
   demand_each-fits :
@@ -168,8 +168,8 @@ all-hold a known gs n size w holds fit = (GatesHold-left known a (gate_values a 
 some-law : (a : List Bool) (first : List Literal) (ts : Trees) (columns : List VarValueAndBoundLits) (ranges ws : List ℕ) (positive truth : Bool) (known : List AndGate) (n : ℕ) →
     length a ≡ n → Reads a columns ranges ws → is_clause_over n first ≡ true → gates_within n known ≡ true → GatesHold a known →
     each_valid (ranges_of columns) ts ≡ true → forms_are ws false positive ts ≡ truth →
-    ExtensionsAreExactly a (some_demand first (forms_to_and_or_lits columns false positive ts known n) n).part.vars
-    (some_demand first (forms_to_and_or_lits columns false positive ts known n) n).part.clauses
+    ExtensionsAreExactly a (some_lit_demand_with_gates first (forms_to_and_or_lits columns false positive ts known n) n).part.vars
+    (some_lit_demand_with_gates first (forms_to_and_or_lits columns false positive ts known n) n).part.clauses
     (PassesAndEqualsGivenValues (is_clause_true a first || truth) (gate_values a (forms_to_and_or_lits columns false positive ts known n).gates))
 some-law a first ts columns ranges ws positive truth known n size r f w holds k means =
     let g = forms_to_and_or_lits columns false positive ts known n in
@@ -181,14 +181,14 @@ some-law a first ts columns ranges ws positive truth known n size r f w holds k 
     ∙ forms-means ts (a ++ e) columns ranges ws false positive known n (reads-more a e columns ranges ws (longer a e) r) k hold.0 hold.1 ∙ means in
     gates_then_clause-law a g.gates (first ++ g.lits) (is_clause_true a first || truth) n size fits.gates (list_any-append (is_true (a ++ e)) first g.lits ∙ rw (old, new) refl)
 
-lit_demand_or-law :
+literal_clause_demand_or-law :
     (a : List Bool) (first : List Literal) (positive : Bool) (o : Option Literal) (has truth : Bool) (n : ℕ) (d : PartWithGates) →
     length a ≡ n → Stands a o has truth →
-    ExtensionsAreExactly a d.part.vars d.part.clauses (PassesAndEqualsGivenValues (is_clause_true a first || bool_equals positive truth) (gate_values a d.gates)) →
-    ExtensionsAreExactly a (lit_demand_or first positive o n d).part.vars (lit_demand_or first positive o n d).part.clauses
-    (PassesAndEqualsGivenValues (is_clause_true a first || bool_equals positive truth) (gate_values a (lit_demand_or first positive o n d).gates))
-lit_demand_or-law a first positive None has truth n d size h law = law
-lit_demand_or-law a first positive (Some l) has truth n d size h law = value_lit-law a first (with_sign positive l) (bool_equals positive truth) n size (signed-says a positive l ∙ ap (bool_equals positive) h.1)
+    ExtensionsAreExactly a d.part.vars d.part.clauses (PassesAndEqualsGivenValues (is_clause_true a first || bools_are_equal positive truth) (gate_values a d.gates)) →
+    ExtensionsAreExactly a (literal_clause_demand_or first positive o n d).part.vars (literal_clause_demand_or first positive o n d).part.clauses
+    (PassesAndEqualsGivenValues (is_clause_true a first || bools_are_equal positive truth) (gate_values a (literal_clause_demand_or first positive o n d).gates))
+literal_clause_demand_or-law a first positive None has truth n d size h law = law
+literal_clause_demand_or-law a first positive (Some l) has truth n d size h law = value_lit-law a first (with_sign positive l) (bools_are_equal positive truth) n size (signed-says a positive l ∙ ap (bools_are_equal positive) h.1)
 
 share : (x p q : Bool) → ((x || p) && (x || q)) ≡ (x || (p && q))
 share true p q = refl
@@ -201,14 +201,14 @@ mutual
       Reads a columns ranges ws → is_clause_over n first ≡ true → gates_within n known ≡ true → GatesHold a known →
       tree_valid (ranges_of columns) t ≡ true →
       ExtensionsAreExactly a (demand_of columns first positive t known n).part.vars (demand_of columns first positive t known n).part.clauses
-      (PassesAndEqualsGivenValues (is_clause_true a first || bool_equals positive (tree_holds ws t))
+      (PassesAndEqualsGivenValues (is_clause_true a first || bools_are_equal positive (tree_holds ws t))
       (gate_values a (demand_of columns first positive t known n).gates))
   demand_of-law yes columns ranges ws first true known a n size r f w holds k = no_clause-law a first n size
   demand_of-law yes columns ranges ws first false known a n size r f w holds k = clause-law a first n size
   demand_of-law no columns ranges ws first true known a n size r f w holds k = clause-law a first n size
   demand_of-law no columns ranges ws first false known a n size r f w holds k = no_clause-law a first n size
   demand_of-law (is v c) columns ranges ws first positive known a n size r f w holds k =
-      value_lit-law a first (with_sign positive (value_lit columns v c)) (bool_equals positive (is_value_of_var ws v c)) n size (signed-says a positive (value_lit columns v c) ∙ ap (bool_equals positive) (r.says v c k))
+      value_lit-law a first (with_sign positive (value_lit columns v c)) (bools_are_equal positive (is_value_of_var ws v c)) n size (signed-says a positive (value_lit columns v c) ∙ ap (bools_are_equal positive) (r.says v c k))
   demand_of-law (all_of ts) columns ranges ws first true known a n size r f w holds k =
       let d = demand_each columns first true ts known n in
       subst (λ (q : Bool). ExtensionsAreExactly a d.part.vars d.part.clauses (PassesAndEqualsGivenValues (is_clause_true a first || q) (gate_values a d.gates)))
@@ -216,12 +216,12 @@ mutual
   demand_of-law (all_of ts) columns ranges ws first false known a n size r f w holds k =
       some-law a first ts columns ranges ws false (not (each_holds ws ts)) known n size r f w holds k (all-are ws false ts)
   demand_of-law (any_of ts) columns ranges ws first true known a n size r f w holds k =
-      lit_demand_or-law a first true (or_of_values_bound_lit columns ts) (has_bound_lit_for_or ranges ts) (some_holds ws ts) n
-      (some_demand first (forms_to_and_or_lits columns false true ts known n) n) size (any-says ts a columns ranges ws r.bounded k)
+      literal_clause_demand_or-law a first true (bound_lit_stated_by_or columns ts) (has_bound_lit_for_or ranges ts) (some_holds ws ts) n
+      (some_lit_demand_with_gates first (forms_to_and_or_lits columns false true ts known n) n) size (any-says ts a columns ranges ws r.bounded k)
       (some-law a first ts columns ranges ws true (some_holds ws ts) known n size r f w holds k (some-are ws true ts))
   demand_of-law (any_of ts) columns ranges ws first false known a n size r f w holds k =
       let d = demand_each columns first false ts known n in
-      lit_demand_or-law a first false (or_of_values_bound_lit columns ts) (has_bound_lit_for_or ranges ts) (some_holds ws ts) n d
+      literal_clause_demand_or-law a first false (bound_lit_stated_by_or columns ts) (has_bound_lit_for_or ranges ts) (some_holds ws ts) n d
       size (any-says ts a columns ranges ws r.bounded k)
       (subst (λ (q : Bool). ExtensionsAreExactly a d.part.vars d.part.clauses (PassesAndEqualsGivenValues (is_clause_true a first || q) (gate_values a d.gates)))
       (some-are ws false ts) (demand_each-law ts columns ranges ws first false known a n size r f w holds k))
@@ -249,7 +249,7 @@ mutual
       let e = gate_values a d.gates in
       let v = gate_values (a ++ e) q.gates in
       let x = is_clause_true a first in
-      let truth = bool_equals positive (tree_holds ws t) in
+      let truth = bools_are_equal positive (tree_holds ws t) in
       let others = forms_are ws true positive ts in
       let inside = here columns ranges ws a n size r in
       let one = demand_of-law t columns ranges ws first positive known a n size r f w holds parts.0 in

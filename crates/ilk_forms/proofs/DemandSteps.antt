@@ -11,14 +11,15 @@ use Rattle.ilk_forms.specs.declared.gates.AndGate.{AndGate}
 use Rattle.ilk_forms.specs.Leaf.{has_lits_within_vars, ranges_of}
 use Rattle.ilk_forms.specs.Gates.{gates_part, gates_within}
 use Rattle.ilk_forms.specs.Gathered.{LitsWithGates}
-use Rattle.ilk_forms.specs.Demand.{PartWithGates, one_clause_part, some_demand, then_demand, demand_of, demand_each}
+use Rattle.ilk_forms.specs.Demand.{PartWithGates, one_clause_part, some_lit_demand_with_gates, then_demand, demand_of, demand_each}
 use Rattle.ilk_forms.proofs.Reading.{has_lits_within_vars-more}
 use Rattle.ilk_forms.proofs.DemandLaw.{DemandFits, after-known, demand-low, demand_of-fits}
 
 pub first-in : (f h : Formula) (g : LitsWithGates) (first : List Literal) → is_clause_over f.vars first ≡ true → h ≡ with_part f (gates_part g.gates f.vars) → is_clause_over h.vars first ≡ true
 first-in f h g first inside made = ap (λ (k : Formula). is_clause_over k.vars first) made ∙ is_clause_over-more f.vars (f.vars + length g.gates) first (omega arith) inside
 
-pub some-made : (f h k : Formula) (g : LitsWithGates) (first ls : List Literal) → h ≡ with_part f (gates_part g.gates f.vars) → ls ≡ g.lits → k ≡ with_part h (one_clause_part (first ++ ls) h.vars) → k ≡ with_part f (some_demand first g f.vars).part
+pub some-made : (f h k : Formula) (g : LitsWithGates) (first ls : List Literal) → h ≡ with_part f (gates_part g.gates f.vars) → ls ≡ g.lits → k ≡ with_part h (one_clause_part (first ++ ls) h.vars) → k
+    ≡ with_part f (some_lit_demand_with_gates first g f.vars).part
 some-made f h k g first ls made is last =
     last
     ∙ ap (λ (ks : List Literal). with_part h (one_clause_part (first ++ ks) h.vars)) is

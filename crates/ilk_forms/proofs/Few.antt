@@ -7,17 +7,17 @@ use Rattle.ilk_ir.specs.Tree.{Tree, yes, no, is, all_of, any_of, negation, Trees
 use Rattle.ilk_forms.specs.declared.copy.VarValueAndBoundLits.{VarValueAndBoundLits}
 use Rattle.ilk_forms.specs.declared.gates.AndGate.{AndGate}
 use Rattle.ilk_forms.specs.Size.{tree_size, trees_size}
-use Rattle.ilk_forms.specs.Bound.{or_of_values_bound_lit}
+use Rattle.ilk_forms.specs.Bound.{bound_lit_stated_by_or}
 use Rattle.ilk_forms.specs.Gates.{gates_part}
 use Rattle.ilk_forms.specs.Gathered.{LitsWithGates, forms_to_and_or_lits}
-use Rattle.ilk_forms.specs.Demand.{PartWithGates, some_demand, lit_demand_or, demand_of, demand_each, some_lit_or_form_part}
+use Rattle.ilk_forms.specs.Demand.{PartWithGates, some_lit_demand_with_gates, literal_clause_demand_or, demand_of, demand_each, some_lit_or_form_part}
 use Rattle.ilk_forms.proofs.GatheredFits.{Few, forms-few}
 
 pub record PartFew (n k : ℕ) (p : FormulaPart) : Type 0 where
   pub vars : p.vars ≤ n + k
   pub clauses : length p.clauses ≤ 2 * k
 
-some-few : (first : List Literal) (n k : ℕ) (g : LitsWithGates) → Few k g → PartFew n (k + 1) (some_demand first g n).part
+some-few : (first : List Literal) (n k : ℕ) (g : LitsWithGates) → Few k g → PartFew n (k + 1) (some_lit_demand_with_gates first g n).part
 some-few first n k g h =
     let v = h.vars in
     let c = h.clauses in
@@ -29,9 +29,9 @@ wider n k p h =
     let c = h.clauses in
     record { vars = omega arith; clauses = omega arith }
 
-lit_demand_or-few : (first : List Literal) (positive : Bool) (o : Option Literal) (n k : ℕ) (d : PartWithGates) → PartFew n (k + 1) d.part → PartFew n (k + 1) (lit_demand_or first positive o n d).part
-lit_demand_or-few first positive None n k d h = h
-lit_demand_or-few first positive (Some l) n k d h = record { vars = omega arith; clauses = omega arith }
+literal_clause_demand_or-few : (first : List Literal) (positive : Bool) (o : Option Literal) (n k : ℕ) (d : PartWithGates) → PartFew n (k + 1) d.part → PartFew n (k + 1) (literal_clause_demand_or first positive o n d).part
+literal_clause_demand_or-few first positive None n k d h = h
+literal_clause_demand_or-few first positive (Some l) n k d h = record { vars = omega arith; clauses = omega arith }
 
 mutual
   demand_of-few : (t : Tree) (columns : List VarValueAndBoundLits) (first : List Literal) (positive : Bool) (known : List AndGate) (n : ℕ) → PartFew n (tree_size t) (demand_of columns first positive t known n).part
@@ -44,10 +44,10 @@ mutual
   demand_of-few (all_of ts) columns first false known n = some-few first n (trees_size ts) (forms_to_and_or_lits columns false false ts known n) (forms-few ts columns false false known n)
   demand_of-few (any_of ts) columns first true known n =
       let g = forms_to_and_or_lits columns false true ts known n in
-      lit_demand_or-few first true (or_of_values_bound_lit columns ts) n (trees_size ts) (some_demand first g n) (some-few first n (trees_size ts) g (forms-few ts columns false true known n))
+      literal_clause_demand_or-few first true (bound_lit_stated_by_or columns ts) n (trees_size ts) (some_lit_demand_with_gates first g n) (some-few first n (trees_size ts) g (forms-few ts columns false true known n))
   demand_of-few (any_of ts) columns first false known n =
       let d = demand_each columns first false ts known n in
-      lit_demand_or-few first false (or_of_values_bound_lit columns ts) n (trees_size ts) d (wider n (trees_size ts) d.part (demand_each-few ts columns first false known n))
+      literal_clause_demand_or-few first false (bound_lit_stated_by_or columns ts) n (trees_size ts) d (wider n (trees_size ts) d.part (demand_each-few ts columns first false known n))
   demand_of-few (negation t) columns first positive known n = wider n (tree_size t) (demand_of columns first (not positive) t known n).part (demand_of-few t columns first (not positive) known n)
 
   demand_each-few : (ts : Trees) (columns : List VarValueAndBoundLits) (first : List Literal) (positive : Bool) (known : List AndGate) (n : ℕ) → PartFew n (trees_size ts) (demand_each columns first positive ts known n).part

@@ -12,10 +12,10 @@ use Rattle.ilk_ir.specs.Tree.{Tree, yes, no, is, all_of, any_of, negation, Trees
 use Rattle.ilk_forms.specs.declared.copy.VarValueAndBoundLits.{VarValueAndBoundLits}
 use Rattle.ilk_forms.specs.declared.gates.AndGate.{AndGate}
 use Rattle.ilk_forms.specs.Leaf.{value_lit, has_lits_within_vars, ranges_of}
-use Rattle.ilk_forms.specs.Bound.{or_of_values_bound_lit}
+use Rattle.ilk_forms.specs.Bound.{bound_lit_stated_by_or}
 use Rattle.ilk_forms.specs.Size.{tree_size, trees_size}
-use Rattle.ilk_forms.specs.Gates.{bool_equals, gates_part, gates_within, LitWithGates, and_lits, new_gate, lit_or_new_gate, shared_lit, combined_lit}
-use Rattle.ilk_forms.specs.Gathered.{LitsWithGates, no_lits, one_lit, optional_lit_or, append_lits, as_lits, combine_lits_into_one, keep_lits_if_same_gate, is_negated_gate, form_to_and_or_lits, forms_to_and_or_lits}
+use Rattle.ilk_forms.specs.Gates.{bools_are_equal, gates_part, gates_within, LitWithGates, lits_negated_unless_all, new_gate, lit_or_new_gate, shared_lit, combined_lit}
+use Rattle.ilk_forms.specs.Gathered.{LitsWithGates, no_lits, one_lit, optional_lit_or, append_lits, signed_lit_as_lits_with_gates, combine_lits_into_one, keep_lits_if_same_gate, is_negated_gate, form_to_and_or_lits, forms_to_and_or_lits}
 use Rattle.ilk_forms.proofs.BoundLaw.{any-in}
 use Rattle.ilk_forms.proofs.Reading.{has_lits_within_vars-more, value_lit-in}
 use Rattle.ilk_forms.proofs.GatesLaw.{gates_fit, signed-in, gates_fit-append, gates_within-append, gates_within-more, gates_fit-within, gates_part-append, combined_lit-fits, combined_lit-in}
@@ -60,18 +60,18 @@ combine-fits known n all g inside fits =
       lit = ap (λ (v : ℕ). is_lit_over v c.lit) (sym k) ∙ combined_lit-in (known ++ g.gates) all g.lits m grown fits.lits;
     }
 
-as_lits-fits : (positive : Bool) (n : ℕ) (g : LitWithGates) → OneFits n g → Fits n (as_lits positive g)
-as_lits-fits positive n g h = record { gates = h.gates; lits = and_from _ _ (signed-in positive (n + length g.gates) g.lit h.lit) refl }
+signed_lit_as_lits_with_gates-fits : (positive : Bool) (n : ℕ) (g : LitWithGates) → OneFits n g → Fits n (signed_lit_as_lits_with_gates positive g)
+signed_lit_as_lits_with_gates-fits positive n g h = record { gates = h.gates; lits = and_from _ _ (signed-in positive (n + length g.gates) g.lit h.lit) refl }
 
 merge-fits : (known : List AndGate) (n : ℕ) (outer inner : Bool) (g : LitsWithGates) → gates_within n known ≡ true → Fits n g → Fits n (keep_lits_if_same_gate known n outer inner g)
-merge-fits known n outer inner g inside fits = by_case (bool_equals outer inner)
+merge-fits known n outer inner g inside fits = by_case (bools_are_equal outer inner)
   where
-    by_case : (b : Bool) → Fits n (cond {A = LitsWithGates} b g (as_lits true (combine_lits_into_one known n inner g)))
+    by_case : (b : Bool) → Fits n (cond {A = LitsWithGates} b g (signed_lit_as_lits_with_gates true (combine_lits_into_one known n inner g)))
     by_case true = fits
-    by_case false = as_lits-fits true n (combine_lits_into_one known n inner g) (combine-fits known n inner g inside fits)
+    by_case false = signed_lit_as_lits_with_gates-fits true n (combine_lits_into_one known n inner g) (combine-fits known n inner g inside fits)
 
 one_lit-fits : (positive : Bool) (l : Literal) (n : ℕ) → is_lit_over n l ≡ true → Fits n (one_lit positive l)
-one_lit-fits positive l n h = as_lits-fits positive n (record { gates = []; lit = l }) (record { gates = refl; lit = ap (λ (v : ℕ). is_lit_over v l) (omega arith) ∙ h })
+one_lit-fits positive l n h = signed_lit_as_lits_with_gates-fits positive n (record { gates = []; lit = l }) (record { gates = refl; lit = ap (λ (v : ℕ). is_lit_over v l) (omega arith) ∙ h })
 
 optional_lit-fits : (positive : Bool) (o : Option Literal) (n : ℕ) (g : LitsWithGates) → ((l : Literal) → o ≡ Some l → is_lit_over n l ≡ true) → Fits n g → Fits n (optional_lit_or positive o g)
 optional_lit-fits positive None n g inside h = h
@@ -79,8 +79,8 @@ optional_lit-fits positive (Some l) n g inside h = one_lit-fits positive l n (in
 
 negation-fits :
     (known : List AndGate) (n : ℕ) (mark positive : Bool) (g h : LitsWithGates) → gates_within n known ≡ true → Fits n g → Fits n h →
-    Fits n (cond {A = LitsWithGates} mark (as_lits positive (combine_lits_into_one known n true g)) h)
-negation-fits known n true positive g h inside marked other = as_lits-fits positive n (combine_lits_into_one known n true g) (combine-fits known n true g inside marked)
+    Fits n (cond {A = LitsWithGates} mark (signed_lit_as_lits_with_gates positive (combine_lits_into_one known n true g)) h)
+negation-fits known n true positive g h inside marked other = signed_lit_as_lits_with_gates-fits positive n (combine_lits_into_one known n true g) (combine-fits known n true g inside marked)
 negation-fits known n false positive g h inside marked other = other
 
 mutual
@@ -95,7 +95,7 @@ mutual
       merge-fits known n all positive (forms_to_and_or_lits columns positive positive ts known n) inside (forms-fits ts columns positive positive known n within inside valid)
   form-fits (any_of ts) columns all positive known n within inside valid =
       let g = forms_to_and_or_lits columns (not positive) positive ts known n in
-      optional_lit-fits positive (or_of_values_bound_lit columns ts) n (keep_lits_if_same_gate known n all (not positive) g) (λ l e. any-in ts columns n l within e)
+      optional_lit-fits positive (bound_lit_stated_by_or columns ts) n (keep_lits_if_same_gate known n all (not positive) g) (λ l e. any-in ts columns n l within e)
       (merge-fits known n all (not positive) g inside (forms-fits ts columns (not positive) positive known n within inside valid))
   form-fits (negation t) columns all positive known n within inside valid =
       negation-fits known n (is_negated_gate t) positive (form_to_and_or_lits columns true false t known n) (form_to_and_or_lits columns all (not positive) t known n) inside
@@ -129,22 +129,22 @@ gate-few g =
     ∙ length-append (map (λ l. negated_lit g.lit ∷ l ∷ []) g.lits) ((g.lit ∷ map negated_lit g.lits) ∷ [])
     ∙ ap (λ (k : ℕ). k + 1) (length-map g.lits (λ l. negated_lit g.lit ∷ l ∷ []))
 
-and_lits-length : (all : Bool) (ls : List Literal) → length (and_lits all ls) ≡ length ls
-and_lits-length true ls = refl
-and_lits-length false ls = length-map ls negated_lit
+lits_negated_unless_all-length : (all : Bool) (ls : List Literal) → length (lits_negated_unless_all all ls) ≡ length ls
+lits_negated_unless_all-length true ls = refl
+lits_negated_unless_all-length false ls = length-map ls negated_lit
 
 lit_or_new_gate-few : (all : Bool) (ls : List Literal) (n : ℕ) (o : Option Literal) → (length (lit_or_new_gate all ls n o).gates ≤ 1) × (length (gates_part (lit_or_new_gate all ls n o).gates 0).clauses ≤ length ls + 1)
 lit_or_new_gate-few all ls n (Some l) = (omega arith, omega arith)
-lit_or_new_gate-few all ls n None = (omega arith, omega (arith, gate-few (new_gate all ls n), and_lits-length all ls))
+lit_or_new_gate-few all ls n None = (omega arith, omega (arith, gate-few (new_gate all ls n), lits_negated_unless_all-length all ls))
 
 combined_lit-few :
     (known : List AndGate) (all : Bool) (ls : List Literal) (n : ℕ) →
     (length (combined_lit known all ls n).gates ≤ 1) × (length (gates_part (combined_lit known all ls n).gates 0).clauses ≤ length ls + 1)
-combined_lit-few known all [] n = lit_or_new_gate-few all [] n (shared_lit known (and_lits all []))
+combined_lit-few known all [] n = lit_or_new_gate-few all [] n (shared_lit known (lits_negated_unless_all all []))
 combined_lit-few known all (l ∷ []) n = (omega arith, omega arith)
-combined_lit-few known all (l ∷ m ∷ ls) n = lit_or_new_gate-few all (l ∷ m ∷ ls) n (shared_lit known (and_lits all (l ∷ m ∷ ls)))
+combined_lit-few known all (l ∷ m ∷ ls) n = lit_or_new_gate-few all (l ∷ m ∷ ls) n (shared_lit known (lits_negated_unless_all all (l ∷ m ∷ ls)))
 
-combine-few : (known : List AndGate) (n : ℕ) (all positive : Bool) (k : ℕ) (g : LitsWithGates) → Few k g → Few (k + 1) (as_lits positive (combine_lits_into_one known n all g))
+combine-few : (known : List AndGate) (n : ℕ) (all positive : Bool) (k : ℕ) (g : LitsWithGates) → Few k g → Few (k + 1) (signed_lit_as_lits_with_gates positive (combine_lits_into_one known n all g))
 combine-few known n all positive k g h =
     let c = combined_lit (known ++ g.gates) all g.lits (n + length g.gates) in
     let last = combined_lit-few (known ++ g.gates) all g.lits (n + length g.gates) in
@@ -158,9 +158,9 @@ more-few : (k : ℕ) (g : LitsWithGates) → Few k g → Few (k + 1) g
 more-few k g h = let vars = h.vars in let clauses = h.clauses in record { vars = omega arith; clauses = omega arith }
 
 merge-few : (known : List AndGate) (n : ℕ) (outer inner : Bool) (k : ℕ) (g : LitsWithGates) → Few k g → Few (k + 1) (keep_lits_if_same_gate known n outer inner g)
-merge-few known n outer inner k g h = by_case (bool_equals outer inner)
+merge-few known n outer inner k g h = by_case (bools_are_equal outer inner)
   where
-    by_case : (b : Bool) → Few (k + 1) (cond {A = LitsWithGates} b g (as_lits true (combine_lits_into_one known n inner g)))
+    by_case : (b : Bool) → Few (k + 1) (cond {A = LitsWithGates} b g (signed_lit_as_lits_with_gates true (combine_lits_into_one known n inner g)))
     by_case true = more-few k g h
     by_case false = combine-few known n inner true k g h
 
@@ -182,7 +182,7 @@ optional_lit-few positive (Some l) k g h = record { vars = omega arith; clauses 
 
 negation-few :
     (known : List AndGate) (n : ℕ) (mark positive : Bool) (k : ℕ) (g h : LitsWithGates) → Few k g → Few k h →
-    Few (k + 1) (cond {A = LitsWithGates} mark (as_lits positive (combine_lits_into_one known n true g)) h)
+    Few (k + 1) (cond {A = LitsWithGates} mark (signed_lit_as_lits_with_gates positive (combine_lits_into_one known n true g)) h)
 negation-few known n true positive k g h marked other = combine-few known n true positive k g marked
 negation-few known n false positive k g h marked other = more-few k h other
 
@@ -195,7 +195,7 @@ mutual
       merge-few known n all positive (trees_size ts) (forms_to_and_or_lits columns positive positive ts known n) (forms-few ts columns positive positive known n)
   form-few (any_of ts) columns all positive known n =
       let g = forms_to_and_or_lits columns (not positive) positive ts known n in
-      optional_lit-few positive (or_of_values_bound_lit columns ts) (trees_size ts) (keep_lits_if_same_gate known n all (not positive) g)
+      optional_lit-few positive (bound_lit_stated_by_or columns ts) (trees_size ts) (keep_lits_if_same_gate known n all (not positive) g)
       (merge-few known n all (not positive) (trees_size ts) g (forms-few ts columns (not positive) positive known n))
   form-few (negation t) columns all positive known n =
       negation-few known n (is_negated_gate t) positive (tree_size t) (form_to_and_or_lits columns true false t known n) (form_to_and_or_lits columns all (not positive) t known n)

@@ -9,9 +9,9 @@ use Rattle.ilk_ir.specs.Tree.{Tree, yes, no, is, all_of, any_of, negation, Trees
 use Rattle.ilk_forms.specs.declared.copy.VarValueAndBoundLits.{VarValueAndBoundLits}
 use Rattle.ilk_forms.specs.declared.gates.AndGate.{AndGate}
 use Rattle.ilk_forms.specs.Leaf.{value_lit, ranges_of}
-use Rattle.ilk_forms.specs.Bound.{or_of_values_bound_lit, has_bound_lit_for_or}
-use Rattle.ilk_forms.specs.Gates.{bool_equals, with_sign, GatesHold, combined_lit}
-use Rattle.ilk_forms.specs.Gathered.{LitsWithGates, no_lits, optional_lit_or, append_lits, as_lits, combine_lits_into_one, keep_lits_if_same_gate, is_negated_gate, form_to_and_or_lits, forms_to_and_or_lits}
+use Rattle.ilk_forms.specs.Bound.{bound_lit_stated_by_or, has_bound_lit_for_or}
+use Rattle.ilk_forms.specs.Gates.{bools_are_equal, with_sign, GatesHold, combined_lit}
+use Rattle.ilk_forms.specs.Gathered.{LitsWithGates, no_lits, optional_lit_or, append_lits, signed_lit_as_lits_with_gates, combine_lits_into_one, keep_lits_if_same_gate, is_negated_gate, form_to_and_or_lits, forms_to_and_or_lits}
 use Rattle.ilk_forms.proofs.BoundForms.{Stands}
 use Rattle.ilk_forms.proofs.BoundLaw.{any-says}
 use Rattle.ilk_forms.proofs.Reading.{Reads}
@@ -52,23 +52,23 @@ append-means b all g h =
     let later = (h g.gates (length g.gates)).lits in
     ap (gate_truth all) (map-append (is_true b) g.lits later) ∙ gate_truth-append all (map (is_true b) g.lits) (map (is_true b) later)
 
-one_lit-means : (b : List Bool) (all positive truth : Bool) (l : Literal) → is_true b l ≡ truth → gate_truth all (is_true b (with_sign positive l) ∷ []) ≡ bool_equals positive truth
-one_lit-means b all positive truth l means = alone all (is_true b (with_sign positive l)) ∙ signed-says b positive l ∙ ap (bool_equals positive) means
+one_lit-means : (b : List Bool) (all positive truth : Bool) (l : Literal) → is_true b l ≡ truth → gate_truth all (is_true b (with_sign positive l) ∷ []) ≡ bools_are_equal positive truth
+one_lit-means b all positive truth l means = alone all (is_true b (with_sign positive l)) ∙ signed-says b positive l ∙ ap (bools_are_equal positive) means
 
 optional_lit-means :
     (b : List Bool) (all positive has truth : Bool) (o : Option Literal) (g : LitsWithGates) → Stands b o has truth →
     GatesHold b (optional_lit_or positive o g).gates →
-    (GatesHold b g.gates → gate_truth all (map (is_true b) g.lits) ≡ bool_equals positive truth) →
-    gate_truth all (map (is_true b) (optional_lit_or positive o g).lits) ≡ bool_equals positive truth
+    (GatesHold b g.gates → gate_truth all (map (is_true b) g.lits) ≡ bools_are_equal positive truth) →
+    gate_truth all (map (is_true b) (optional_lit_or positive o g).lits) ≡ bools_are_equal positive truth
 optional_lit-means b all positive has truth None g stands new means = means new
 optional_lit-means b all positive has truth (Some l) g stands new means = one_lit-means b all positive truth l stands.1
 
 negation-means :
     (b : List Bool) (known : List AndGate) (n : ℕ) (mark all positive truth : Bool) (g h : LitsWithGates) → GatesHold b known →
-    GatesHold b (cond {A = LitsWithGates} mark (as_lits positive (combine_lits_into_one known n true g)) h).gates →
+    GatesHold b (cond {A = LitsWithGates} mark (signed_lit_as_lits_with_gates positive (combine_lits_into_one known n true g)) h).gates →
     (GatesHold b g.gates → gate_truth true (map (is_true b) g.lits) ≡ not truth) →
-    (GatesHold b h.gates → gate_truth all (map (is_true b) h.lits) ≡ bool_equals (not positive) truth) →
-    gate_truth all (map (is_true b) (cond {A = LitsWithGates} mark (as_lits positive (combine_lits_into_one known n true g)) h).lits) ≡ bool_equals positive (not truth)
+    (GatesHold b h.gates → gate_truth all (map (is_true b) h.lits) ≡ bools_are_equal (not positive) truth) →
+    gate_truth all (map (is_true b) (cond {A = LitsWithGates} mark (signed_lit_as_lits_with_gates positive (combine_lits_into_one known n true g)) h).lits) ≡ bools_are_equal positive (not truth)
 negation-means b known n true all positive truth g h holds new marked other =
     one_lit-means b all positive (not truth) (combine_lits_into_one known n true g).lit (combine-means b known n true g holds new ∙ marked (combine-hold b known n true g new))
 negation-means b known n false all positive truth g h holds new marked other = other new ∙ turned positive truth
@@ -78,18 +78,18 @@ mutual
       (t : Tree) (b : List Bool) (columns : List VarValueAndBoundLits) (ranges ws : List ℕ) (all positive : Bool) (known : List AndGate) (n : ℕ) →
       Reads b columns ranges ws → tree_valid (ranges_of columns) t ≡ true → GatesHold b known →
       GatesHold b (form_to_and_or_lits columns all positive t known n).gates →
-      gate_truth all (map (is_true b) (form_to_and_or_lits columns all positive t known n).lits) ≡ bool_equals positive (tree_holds ws t)
-  form-means yes b columns ranges ws all positive known n r valid holds new = merge-means b known n all positive (bool_equals positive true) no_lits holds new (λ _. none_means positive ∙ constant positive)
-  form-means no b columns ranges ws all positive known n r valid holds new = merge-means b known n all (not positive) (bool_equals positive false) no_lits holds new (λ _. none_means (not positive) ∙ other_constant positive)
+      gate_truth all (map (is_true b) (form_to_and_or_lits columns all positive t known n).lits) ≡ bools_are_equal positive (tree_holds ws t)
+  form-means yes b columns ranges ws all positive known n r valid holds new = merge-means b known n all positive (bools_are_equal positive true) no_lits holds new (λ _. none_means positive ∙ constant positive)
+  form-means no b columns ranges ws all positive known n r valid holds new = merge-means b known n all (not positive) (bools_are_equal positive false) no_lits holds new (λ _. none_means (not positive) ∙ other_constant positive)
   form-means (is v c) b columns ranges ws all positive known n r valid holds new = one_lit-means b all positive (is_value_of_var ws v c) (value_lit columns v c) (r.says v c valid)
   form-means (all_of ts) b columns ranges ws all positive known n r valid holds new =
-      merge-means b known n all positive (bool_equals positive (each_holds ws ts)) (forms_to_and_or_lits columns positive positive ts known n) holds new
+      merge-means b known n all positive (bools_are_equal positive (each_holds ws ts)) (forms_to_and_or_lits columns positive positive ts known n) holds new
       (λ made. forms-means ts b columns ranges ws positive positive known n r valid holds made ∙ all-are ws positive ts)
   form-means (any_of ts) b columns ranges ws all positive known n r valid holds new =
       let g = forms_to_and_or_lits columns (not positive) positive ts known n in
-      optional_lit-means b all positive (has_bound_lit_for_or ranges ts) (some_holds ws ts) (or_of_values_bound_lit columns ts) (keep_lits_if_same_gate known n all (not positive) g)
+      optional_lit-means b all positive (has_bound_lit_for_or ranges ts) (some_holds ws ts) (bound_lit_stated_by_or columns ts) (keep_lits_if_same_gate known n all (not positive) g)
       (any-says ts b columns ranges ws r.bounded valid) new
-      (λ kept. merge-means b known n all (not positive) (bool_equals positive (some_holds ws ts)) g holds kept
+      (λ kept. merge-means b known n all (not positive) (bools_are_equal positive (some_holds ws ts)) g holds kept
       (λ made. forms-means ts b columns ranges ws (not positive) positive known n r valid holds made ∙ some-are ws positive ts))
   form-means (negation t) b columns ranges ws all positive known n r valid holds new =
       negation-means b known n (is_negated_gate t) all positive (tree_holds ws t) (form_to_and_or_lits columns true false t known n) (form_to_and_or_lits columns all (not positive) t known n) holds new

@@ -11,8 +11,8 @@ use Rattle.ilk_ir.specs.Tree.{Tree, Trees, more, each_valid}
 use Rattle.ilk_forms.specs.declared.copy.VarValueAndBoundLits.{VarValueAndBoundLits}
 use Rattle.ilk_forms.specs.declared.gates.AndGate.{AndGate}
 use Rattle.ilk_forms.specs.Leaf.{has_lits_within_vars, ranges_of}
-use Rattle.ilk_forms.specs.Gates.{bool_equals, gates_part, gates_within, LitWithGates, combined_lit}
-use Rattle.ilk_forms.specs.Gathered.{LitsWithGates, as_lits, combine_lits_into_one, keep_lits_if_same_gate, form_to_and_or_lits, forms_to_and_or_lits}
+use Rattle.ilk_forms.specs.Gates.{bools_are_equal, gates_part, gates_within, LitWithGates, combined_lit}
+use Rattle.ilk_forms.specs.Gathered.{LitsWithGates, signed_lit_as_lits_with_gates, combine_lits_into_one, keep_lits_if_same_gate, form_to_and_or_lits, forms_to_and_or_lits}
 use Rattle.ilk_forms.proofs.Reading.{has_lits_within_vars-more}
 use Rattle.ilk_forms.proofs.GatesLaw.{gates_part-append}
 use Rattle.ilk_forms.proofs.GatheredFits.{Fits, known-more, form-fits}
@@ -31,14 +31,14 @@ combine-late known n all ls =
 merge-late-gates :
     (known : List AndGate) (n : ℕ) (outer inner : Bool) (g : LitsWithGates) →
     g.gates ++ (keep_lits_if_same_gate (known ++ g.gates) (n + length g.gates) outer inner (record { gates = []; lits = g.lits })).gates ≡ (keep_lits_if_same_gate known n outer inner g).gates
-merge-late-gates known n outer inner g = by_case (bool_equals outer inner)
+merge-late-gates known n outer inner g = by_case (bools_are_equal outer inner)
   where
     late : LitsWithGates
     late = record { gates = []; lits = g.lits }
 
     by_case : (b : Bool) →
-        g.gates ++ (cond {A = LitsWithGates} b late (as_lits true (combine_lits_into_one (known ++ g.gates) (n + length g.gates) inner late))).gates
-        ≡ (cond {A = LitsWithGates} b g (as_lits true (combine_lits_into_one known n inner g))).gates
+        g.gates ++ (cond {A = LitsWithGates} b late (signed_lit_as_lits_with_gates true (combine_lits_into_one (known ++ g.gates) (n + length g.gates) inner late))).gates
+        ≡ (cond {A = LitsWithGates} b g (signed_lit_as_lits_with_gates true (combine_lits_into_one known n inner g))).gates
     by_case true = append-nil g.gates
     by_case false = ap (λ (s : LitWithGates). g.gates ++ s.gates) (combine-late (known ++ g.gates) (n + length g.gates) inner g.lits)
 
@@ -83,11 +83,11 @@ marked-made known known' f h k all g slice ls added made seen is last =
     ∙ ap (λ (e : Formula). with_part f (gates_part (g.gates ++ (combined_lit (known ++ g.gates) all slice e.vars).gates) f.vars)) made
     ∙ ap (λ (ms : List Literal). with_part f (gates_part (g.gates ++ (combined_lit (known ++ g.gates) all ms (f.vars + length g.gates)).gates) f.vars)) (seen ∙ is)
 
-bool_equals-beq : (p q : Bool) → beq p q ≡ false → bool_equals p q ≡ false
-bool_equals-beq true true h = h
-bool_equals-beq true false h = h
-bool_equals-beq false true h = h
-bool_equals-beq false false h = h
+bools_are_equal-beq : (p q : Bool) → beq p q ≡ false → bools_are_equal p q ≡ false
+bools_are_equal-beq true true h = h
+bools_are_equal-beq true false h = h
+bools_are_equal-beq false true h = h
+bools_are_equal-beq false false h = h
 
 pub taken-made :
     (known : List AndGate) (f k : Formula) (outer inner : Bool) (slice ls : List Literal) →
@@ -98,7 +98,7 @@ taken-made known f k outer inner slice ls apart seen last =
     last
     ∙ ap (λ (ms : List Literal). with_part f (gates_part (combined_lit known inner ms f.vars).gates f.vars)) seen
     ∙ ap (λ (s : LitWithGates). with_part f (gates_part s.gates f.vars)) (sym (combine-late known f.vars inner ls))
-    ∙ ap (λ (b : Bool). with_part f (gates_part (cond {A = LitsWithGates} b late (as_lits true (combine_lits_into_one known f.vars inner late))).gates f.vars)) (sym (bool_equals-beq outer inner apart))
+    ∙ ap (λ (b : Bool). with_part f (gates_part (cond {A = LitsWithGates} b late (signed_lit_as_lits_with_gates true (combine_lits_into_one known f.vars inner late))).gates f.vars)) (sym (bools_are_equal-beq outer inner apart))
   where
     late : LitsWithGates
     late = record { gates = []; lits = ls }

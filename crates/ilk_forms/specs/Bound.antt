@@ -41,8 +41,8 @@ bound_lit columns v k = option_and_then (λ column. bound_lit_of_var column k) (
 
 -- Returns the copy's literal for the bound (v is at most k) that an Or of these forms states.
 -- Returns `None` if they state none, or the copy has no literal for it.
-abbrev pub or_of_values_bound_lit : List VarValueAndBoundLits → Trees → Option Literal
-or_of_values_bound_lit columns ts = option_and_then (λ b. bound_lit columns b.var b.most) (bound_from_or_of_values ts)
+abbrev pub bound_lit_stated_by_or : List VarValueAndBoundLits → Trees → Option Literal
+bound_lit_stated_by_or columns ts = option_and_then (λ b. bound_lit columns b.var b.most) (bound_from_or_of_values ts)
 
 -- Returns whether a copy of variables with these ranges has a literal for "variable `v` is at most
 -- `k`".

@@ -5,7 +5,7 @@ use Rattle.ilk_cnf.specs.Truth.{is_true}
 use Rattle.ilk_cnf.specs.Part.{FormulaPart, empty_part, and_then}
 use Rattle.ilk_ints.specs.Bits.{bit_count, lowest_bits_of}
 use Rattle.ilk_ints.specs.Number.{number_part}
-use Rattle.ilk_ints.specs.Named.{value_lits_part, bound_lits_part, value_bound_var_count, one_hot_var_bits, bound_vars_bits, bound_count, one_hot_bits, bound_bits}
+use Rattle.ilk_ints.specs.Named.{value_lits_part, bound_lits_part, value_bound_var_count, one_hot_var_bits, at_most_vars_bits, bound_count, one_hot_bits, bound_bits}
 use Rattle.ilk_ir.specs.System.{in_ranges}
 use Rattle.ilk_forms.specs.declared.copy.VarValueAndBoundLits.{VarValueAndBoundLits}
 use Rattle.ilk_forms.specs.declared.copy.TheConstants.{MAX_RANGES}
@@ -58,23 +58,23 @@ range_class_part r (range ∷ ranges) (column ∷ columns) n =
 
 -- The formula part, after the first `n` variables, with the variables of the system that have a
 -- range below `k`, the greatest range first. Their literals replace those in the list.
-abbrev pub ranges_below_part : ℕ → List ℕ → List VarValueAndBoundLits → ℕ → PartWithAllVarLits
-ranges_below_part zero ranges columns n = record { part = empty_part n; columns = columns }
-ranges_below_part (suc r) ranges columns n =
+abbrev pub range_classes_below_part : ℕ → List ℕ → List VarValueAndBoundLits → ℕ → PartWithAllVarLits
+range_classes_below_part zero ranges columns n = record { part = empty_part n; columns = columns }
+range_classes_below_part (suc r) ranges columns n =
     record {
-      part = and_then (range_class_part r ranges columns n).part (λ m. (ranges_below_part r ranges (range_class_part r ranges columns n).columns m).part);
-      columns = (ranges_below_part r ranges (range_class_part r ranges columns n).columns (range_class_part r ranges columns n).part.vars).columns;
+      part = and_then (range_class_part r ranges columns n).part (λ m. (range_classes_below_part r ranges (range_class_part r ranges columns n).columns m).part);
+      columns = (range_classes_below_part r ranges (range_class_part r ranges columns n).columns (range_class_part r ranges columns n).part.vars).columns;
     }
 
 -- For each variable of the system, no literal.
-abbrev pub no_var_lits : List ℕ → List VarValueAndBoundLits
-no_var_lits ranges = map (λ range. record { values = []; bounds = [] }) ranges
+abbrev pub no_lits_for_each_var : List ℕ → List VarValueAndBoundLits
+no_lits_for_each_var ranges = map (λ range. record { values = []; bounds = [] }) ranges
 
 -- The formula part of a copy with these ranges, after the first `n` variables. The variables of the
 -- system are in the order of their ranges, the greatest first, and those of one range in the
 -- system's order. The literals are in the system's order.
 unfoldable pub copy_part : List ℕ → ℕ → PartWithAllVarLits
-copy_part ranges n = ranges_below_part MAX_RANGES ranges (no_var_lits ranges) n
+copy_part ranges n = range_classes_below_part MAX_RANGES ranges (no_lits_for_each_var ranges) n
 
 -- The number of variables of a copy with these ranges: for bits, values and bounds.
 abbrev pub copy_var_count : List ℕ → ℕ
@@ -83,7 +83,7 @@ copy_var_count (range ∷ ranges) = bit_count range + value_bound_var_count rang
 
 -- The truth values of the variables of `system_var_part`, if the variable of the system is `w`.
 abbrev pub system_var_bits : ℕ → ℕ → List Bool
-system_var_bits range w = lowest_bits_of (bit_count range) w ++ (one_hot_var_bits range w ++ bound_vars_bits range w 1 (bound_count range))
+system_var_bits range w = lowest_bits_of (bit_count range) w ++ (one_hot_var_bits range w ++ at_most_vars_bits range w 1 (bound_count range))
 
 -- The truth values of the variables of `range_class_part`, if the system's variables have the
 -- values `ws`.
@@ -93,16 +93,16 @@ range_class_bits r (range ∷ ranges) [] = []
 range_class_bits r (range ∷ ranges) (w ∷ ws) =
     if range == r then system_var_bits range w ++ range_class_bits r ranges ws else range_class_bits r ranges ws
 
--- The truth values of the variables of `ranges_below_part`, if the system's variables have the
--- values `ws`.
-abbrev pub ranges_below_bits : ℕ → List ℕ → List ℕ → List Bool
-ranges_below_bits zero ranges ws = []
-ranges_below_bits (suc r) ranges ws = range_class_bits r ranges ws ++ ranges_below_bits r ranges ws
+-- The truth values of the variables of `range_classes_below_part`, if the system's variables have
+-- the values `ws`.
+abbrev pub range_classes_below_bits : ℕ → List ℕ → List ℕ → List Bool
+range_classes_below_bits zero ranges ws = []
+range_classes_below_bits (suc r) ranges ws = range_class_bits r ranges ws ++ range_classes_below_bits r ranges ws
 
 -- The truth values of all variables of a copy with these ranges, if the system's variables have the
 -- values `ws`.
 unfoldable pub copy_bits : List ℕ → List ℕ → List Bool
-copy_bits ranges ws = ranges_below_bits MAX_RANGES ranges ws
+copy_bits ranges ws = range_classes_below_bits MAX_RANGES ranges ws
 
 -- Holds if `b` are the truth values of a copy's variables for some values within `ranges`.
 abbrev pub AreCopyBits : List ℕ → List Bool → Type 0

@@ -6,7 +6,7 @@ use Rattle.ilk_ir.specs.Tree.{Tree, yes, no, is, all_of, any_of, negation, Trees
 use Rattle.ilk_forms.specs.declared.copy.VarValueAndBoundLits.{VarValueAndBoundLits}
 use Rattle.ilk_forms.specs.declared.gates.AndGate.{AndGate}
 use Rattle.ilk_forms.specs.Leaf.{value_lit}
-use Rattle.ilk_forms.specs.Bound.{or_of_values_bound_lit}
+use Rattle.ilk_forms.specs.Bound.{bound_lit_stated_by_or}
 use Rattle.ilk_forms.specs.Gates.{with_sign, gates_part, gate_values}
 use Rattle.ilk_forms.specs.Gathered.{LitsWithGates, forms_to_and_or_lits}
 
@@ -24,19 +24,19 @@ abbrev pub no_demand : ℕ → PartWithGates
 no_demand n = record { part = empty_part n; gates = [] }
 
 -- The clause `ls` added to the first `n` variables.
-abbrev pub clause_demand : List Literal → ℕ → PartWithGates
-clause_demand ls n = record { part = one_clause_part ls n; gates = [] }
+abbrev pub literal_clause_demand : List Literal → ℕ → PartWithGates
+literal_clause_demand ls n = record { part = one_clause_part ls n; gates = [] }
 
 -- The formula part, after the first `n` variables, with the gates of `g`, and one clause: some
 -- literal of `first` or of `g` is true.
-abbrev pub some_demand : List Literal → LitsWithGates → ℕ → PartWithGates
-some_demand first g n = record { part = and_then (gates_part g.gates n) (one_clause_part (first ++ g.lits)); gates = g.gates }
+abbrev pub some_lit_demand_with_gates : List Literal → LitsWithGates → ℕ → PartWithGates
+some_lit_demand_with_gates first g n = record { part = and_then (gates_part g.gates n) (one_clause_part (first ++ g.lits)); gates = g.gates }
 
 -- The clause that some literal of `first`, or the given literal `l` (negated unless `positive`), is
 -- true. If no literal is given, the demand `d`.
-abbrev pub lit_demand_or : List Literal → Bool → Option Literal → ℕ → PartWithGates → PartWithGates
-lit_demand_or first positive (Some l) n d = clause_demand (first ++ with_sign positive l ∷ []) n
-lit_demand_or first positive None n d = d
+abbrev pub literal_clause_demand_or : List Literal → Bool → Option Literal → ℕ → PartWithGates → PartWithGates
+literal_clause_demand_or first positive (Some l) n d = literal_clause_demand (first ++ with_sign positive l ∷ []) n
+literal_clause_demand_or first positive None n d = d
 
 -- Demand `d`, then demand `e`, which is given the gates of `d` and the number of variables after
 -- it.
@@ -48,16 +48,16 @@ then_demand d e = record { part = and_then d.part (λ m. (e d.gates m).part); ga
 abbrev mutual
   pub demand_of : List VarValueAndBoundLits → List Literal → Bool → Tree → List AndGate → ℕ → PartWithGates
   demand_of columns first true yes known n = no_demand n
-  demand_of columns first false yes known n = clause_demand first n
-  demand_of columns first true no known n = clause_demand first n
+  demand_of columns first false yes known n = literal_clause_demand first n
+  demand_of columns first true no known n = literal_clause_demand first n
   demand_of columns first false no known n = no_demand n
-  demand_of columns first positive (is v c) known n = clause_demand (first ++ with_sign positive (value_lit columns v c) ∷ []) n
+  demand_of columns first positive (is v c) known n = literal_clause_demand (first ++ with_sign positive (value_lit columns v c) ∷ []) n
   demand_of columns first true (all_of ts) known n = demand_each columns first true ts known n
-  demand_of columns first false (all_of ts) known n = some_demand first (forms_to_and_or_lits columns false false ts known n) n
+  demand_of columns first false (all_of ts) known n = some_lit_demand_with_gates first (forms_to_and_or_lits columns false false ts known n) n
   demand_of columns first true (any_of ts) known n =
-      lit_demand_or first true (or_of_values_bound_lit columns ts) n (some_demand first (forms_to_and_or_lits columns false true ts known n) n)
+      literal_clause_demand_or first true (bound_lit_stated_by_or columns ts) n (some_lit_demand_with_gates first (forms_to_and_or_lits columns false true ts known n) n)
   demand_of columns first false (any_of ts) known n =
-      lit_demand_or first false (or_of_values_bound_lit columns ts) n (demand_each columns first false ts known n)
+      literal_clause_demand_or first false (bound_lit_stated_by_or columns ts) n (demand_each columns first false ts known n)
   demand_of columns first positive (negation t) known n = demand_of columns first (not positive) t known n
 
   pub demand_each : List VarValueAndBoundLits → List Literal → Bool → Trees → List AndGate → ℕ → PartWithGates

@@ -9,8 +9,8 @@ use Rattle.ilk_cnf.specs.Truth.{is_true}
 use Rattle.ilk_forms.specs.declared.gates.AndGate.{AndGate}
 
 -- Returns whether two truth values are equal.
-abbrev pub bool_equals : Bool → Bool → Bool
-bool_equals p q = if p then q else not q
+abbrev pub bools_are_equal : Bool → Bool → Bool
+bools_are_equal p q = if p then q else not q
 
 -- Returns literal `l` if `positive`, otherwise its negation.
 abbrev pub with_sign : Bool → Literal → Literal
@@ -23,7 +23,7 @@ gates_part gates n = record { vars = n + length gates; clauses = flat_map (λ g.
 
 -- The truth value of a gate's variable under assignment `a`, which has all of its literals.
 abbrev pub gate_value : List Bool → AndGate → Bool
-gate_value a g = bool_equals g.lit.positive (list_all (is_true a) g.lits)
+gate_value a g = bools_are_equal g.lit.positive (list_all (is_true a) g.lits)
 
 -- The truth values of the variables of gates that follow assignment `a`.
 abbrev pub gate_values : List Bool → List AndGate → List Bool
@@ -36,22 +36,22 @@ GatesHold a [] = Unit {0}
 GatesHold a (g ∷ gates) = (is_true a g.lit ≡ list_all (is_true a) g.lits) × GatesHold a gates
 
 -- Returns whether two lists have the same literals, in any order.
-abbrev pub same_lits : List Literal → List Literal → Bool
-same_lits ls ms = list_all (λ l. has_lit l ms) ls && list_all (λ m. has_lit m ls) ms
+abbrev pub have_same_lits_in_any_order : List Literal → List Literal → Bool
+have_same_lits_in_any_order ls ms = list_all (λ l. has_lit l ms) ls && list_all (λ m. has_lit m ls) ms
 
 -- The least of `m` and the literals' variables.
-abbrev pub least_var_or : ℕ → List Literal → ℕ
-least_var_or m [] = m
-least_var_or m (l ∷ ls) = least_var_or (min m l.var) ls
+abbrev pub min_with_least_var : ℕ → List Literal → ℕ
+min_with_least_var m [] = m
+min_with_least_var m (l ∷ ls) = min_with_least_var (min m l.var) ls
 
 -- The least variable of the literals, or the greatest number of 64 bits if there is none.
 abbrev pub least_var : List Literal → ℕ
-least_var ls = least_var_or (2 ^ 64 - 1) ls
+least_var ls = min_with_least_var (2 ^ 64 - 1) ls
 
 -- The literal of the first gate with these literals, or `None` if there is none. The least variable
 -- is compared first, because that is quick.
 abbrev pub shared_lit : List AndGate → List Literal → Option Literal
-shared_lit gates ls = option_map (λ g. g.lit) (find (λ g. (g.least == least_var ls) && same_lits ls g.lits) gates)
+shared_lit gates ls = option_map (λ g. g.lit) (find (λ g. (g.least == least_var ls) && have_same_lits_in_any_order ls g.lits) gates)
 
 -- New gates, and one result literal.
 pub record LitWithGates : Type 0 where
@@ -59,18 +59,18 @@ pub record LitWithGates : Type 0 where
   pub lit : Literal
 
 -- The literals that are all true exactly if `ls` are (`all`), or if none of them is (otherwise).
-abbrev pub and_lits : Bool → List Literal → List Literal
-and_lits all ls = if all then ls else map negated_lit ls
+abbrev pub lits_negated_unless_all : Bool → List Literal → List Literal
+lits_negated_unless_all all ls = if all then ls else map negated_lit ls
 
 -- The gate of these literals after the first `n` variables, with the positive literal of its
 -- variable (`positive`) or the negative one.
-abbrev pub gate_of : Bool → List Literal → ℕ → AndGate
-gate_of positive ls n = record { lits = ls; lit = record { var = n + 1; positive = positive }; least = least_var ls }
+abbrev pub and_gate_from_lits : Bool → List Literal → ℕ → AndGate
+and_gate_from_lits positive ls n = record { lits = ls; lit = record { var = n + 1; positive = positive }; least = least_var ls }
 
 -- A new gate for an And (`all`) or Or (otherwise) of literals, after the first `n` variables. Its
 -- variable is true exactly if all of them are, or at least one is.
 abbrev pub new_gate : Bool → List Literal → ℕ → AndGate
-new_gate all ls n = gate_of all (and_lits all ls) n
+new_gate all ls n = and_gate_from_lits all (lits_negated_unless_all all ls) n
 
 -- The literal for an And (`all`) or Or (otherwise) by the gate given; if none is given, by a new
 -- gate.
@@ -83,7 +83,7 @@ lit_or_new_gate all ls n None = record { gates = new_gate all ls n ∷ []; lit =
 -- one a new gate.
 abbrev pub combined_lit : List AndGate → Bool → List Literal → ℕ → LitWithGates
 combined_lit known all (l ∷ []) n = record { gates = []; lit = l }
-combined_lit known all ls n = lit_or_new_gate all ls n (shared_lit known (and_lits all ls))
+combined_lit known all ls n = lit_or_new_gate all ls n (shared_lit known (lits_negated_unless_all all ls))
 
 -- Returns whether all literals of the gates are over the variables 1 to `n`.
 abbrev pub gates_within : ℕ → List AndGate → Bool

@@ -5,8 +5,8 @@ use Rattle.ilk_ir.specs.Tree.{Tree, yes, no, is, all_of, any_of, negation, Trees
 use Rattle.ilk_forms.specs.declared.copy.VarValueAndBoundLits.{VarValueAndBoundLits}
 use Rattle.ilk_forms.specs.declared.gates.AndGate.{AndGate}
 use Rattle.ilk_forms.specs.Leaf.{value_lit}
-use Rattle.ilk_forms.specs.Bound.{or_of_values_bound_lit}
-use Rattle.ilk_forms.specs.Gates.{bool_equals, with_sign, LitWithGates, combined_lit}
+use Rattle.ilk_forms.specs.Bound.{bound_lit_stated_by_or}
+use Rattle.ilk_forms.specs.Gates.{bools_are_equal, with_sign, LitWithGates, combined_lit}
 
 -- New gates, and result literals.
 pub record LitsWithGates : Type 0 where
@@ -41,14 +41,14 @@ combine_lits_into_one known n all g =
     }
 
 -- The gates of `g`, and its literal, negated unless `positive`.
-abbrev pub as_lits : Bool → LitWithGates → LitsWithGates
-as_lits positive g = record { gates = g.gates; lits = with_sign positive g.lit ∷ [] }
+abbrev pub signed_lit_as_lits_with_gates : Bool → LitWithGates → LitsWithGates
+signed_lit_as_lits_with_gates positive g = record { gates = g.gates; lits = with_sign positive g.lit ∷ [] }
 
 -- The literals of `g` for use in an And (`outer`) or an Or (otherwise). `inner` says in the same
 -- way what `g` is. If both agree, the literals stay. Otherwise one literal replaces them.
 abbrev pub keep_lits_if_same_gate : List AndGate → ℕ → Bool → Bool → LitsWithGates → LitsWithGates
 keep_lits_if_same_gate known n outer inner g =
-    if bool_equals outer inner then g else as_lits true (combine_lits_into_one known n inner g)
+    if bools_are_equal outer inner then g else signed_lit_as_lits_with_gates true (combine_lits_into_one known n inner g)
 
 -- Returns whether the form is the negation of an And or Or. The negation of such a form, a double
 -- negation, is a mark: it stands for one literal, and no And or Or around it takes its parts in.
@@ -68,10 +68,10 @@ abbrev mutual
   form_to_and_or_lits columns all positive (all_of ts) known n =
       keep_lits_if_same_gate known n all positive (forms_to_and_or_lits columns positive positive ts known n)
   form_to_and_or_lits columns all positive (any_of ts) known n =
-      optional_lit_or positive (or_of_values_bound_lit columns ts) (keep_lits_if_same_gate known n all (not positive) (forms_to_and_or_lits columns (not positive) positive ts known n))
+      optional_lit_or positive (bound_lit_stated_by_or columns ts) (keep_lits_if_same_gate known n all (not positive) (forms_to_and_or_lits columns (not positive) positive ts known n))
   form_to_and_or_lits columns all positive (negation t) known n =
       if is_negated_gate t
-      then as_lits positive (combine_lits_into_one known n true (form_to_and_or_lits columns true false t known n))
+      then signed_lit_as_lits_with_gates positive (combine_lits_into_one known n true (form_to_and_or_lits columns true false t known n))
       else form_to_and_or_lits columns all (not positive) t known n
 
   pub forms_to_and_or_lits : List VarValueAndBoundLits → Bool → Bool → Trees → List AndGate → ℕ → LitsWithGates

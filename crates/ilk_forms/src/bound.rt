@@ -2,7 +2,7 @@ ghost use Rattle.std.specs.Prelude.{◌≡◌, ℕ, IfSome, IsTrue};
 ghost use Rattle.ilk_cnf.specs.Formula.{is_lit_over};
 ghost use Rattle.ilk_ir.specs.Form.{tree_of, trees_of};
 ghost use Rattle.ilk_forms.specs.Leaf.{has_lits_within_vars};
-ghost use Rattle.ilk_forms.specs.Bound.{next_value_if_stated, last_if_values_consecutive, bound_from_or_of_values, bound_lit_of_var, bound_lit, or_of_values_bound_lit};
+ghost use Rattle.ilk_forms.specs.Bound.{next_value_if_stated, last_if_values_consecutive, bound_from_or_of_values, bound_lit_of_var, bound_lit, bound_lit_stated_by_or};
 
 use crate::copy::{CopyLits, VarValueAndBoundLits};
 use ilk_cnf::Lit;
@@ -70,8 +70,8 @@ fn bound_leaf(table: &CopyLits, bound: VarUpperBound) -> Option<Lit>
 /// Returns the literal of a copy for the bound that an Or of `forms` states: "v is at most k" if
 /// they are v = 0, v = 1, .., v = k. Returns `None` if they state no bound, or `table`, the copy's
 /// literals, has no literal for it.
-pub(crate) fn or_of_values_bound_lit(table: &CopyLits, forms: &[Form]) -> Option<Lit>
-    ensures leaf { result ≡ or_of_values_bound_lit table.now (trees_of forms.now) }
+pub(crate) fn bound_lit_stated_by_or(table: &CopyLits, forms: &[Form]) -> Option<Lit>
+    ensures leaf { result ≡ bound_lit_stated_by_or table.now (trees_of forms.now) }
     ensures within { (n : ℕ) → IsTrue (has_lits_within_vars n table.now) →
         IfSome result (λ l. IsTrue (is_lit_over n l)) }
 {

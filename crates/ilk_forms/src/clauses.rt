@@ -10,10 +10,10 @@ ghost use Rattle.ilk_forms.specs.Copy.{LiteralsEncode};
 ghost use Rattle.ilk_forms.specs.Leaf.{has_lits_within_vars, ranges_of};
 ghost use Rattle.ilk_forms.specs.Gates.{gates_within};
 ghost use Rattle.ilk_forms.specs.Gathered.{forms_to_and_or_lits};
-ghost use Rattle.ilk_forms.specs.Demand.{one_clause_part, some_demand, demand_of, demand_each, some_lit_or_form_part, some_lit_or_form_bits};
+ghost use Rattle.ilk_forms.specs.Demand.{one_clause_part, some_lit_demand_with_gates, demand_of, demand_each, some_lit_or_form_part, some_lit_or_form_bits};
 ghost use Rattle.ilk_forms.specs.Size.{tree_size};
 
-use crate::bound::or_of_values_bound_lit;
+use crate::bound::bound_lit_stated_by_or;
 use crate::copy::CopyLits;
 use crate::gates::{Gates, push_all, with_sign};
 use crate::literals::{forms_to_and_or_lits, value_lit};
@@ -56,7 +56,7 @@ fn demand_some(
     ensures made { OnOk result
         (cnf.new
         ≡ with_part cnf.old
-        (some_demand first.now
+        (some_lit_demand_with_gates first.now
         (forms_to_and_or_lits table.now false positive (trees_of forms.now) gates.old cnf.old.vars)
         cnf.old.vars).part) }
     ensures gates { OnOk result
@@ -105,7 +105,7 @@ fn demand_of(
         }
         Form::And(forms) if positive => demand_each(alloc, cnf, gates, table, first, true, forms),
         Form::And(forms) => demand_some(alloc, cnf, gates, table, first, false, forms),
-        Form::Or(forms) => match or_of_values_bound_lit(table, forms) {
+        Form::Or(forms) => match bound_lit_stated_by_or(table, forms) {
             Some(lit) => add_clause_of_two_lists(alloc, cnf, first, &[with_sign(positive, lit)]),
             None if positive => demand_some(alloc, cnf, gates, table, first, true, forms),
             None => demand_each(alloc, cnf, gates, table, first, false, forms),

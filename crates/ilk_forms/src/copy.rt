@@ -4,7 +4,7 @@ ghost use Rattle.ilk_cnf.specs.Extends.{PartExtensionsAreExactly};
 ghost use Rattle.ilk_cnf.specs.Formula.{with_var_count_and_clauses, with_var_count};
 ghost use Rattle.ilk_cnf.specs.Part.{with_part, clauses_from_lists};
 ghost use Rattle.ilk_ir.specs.System.{in_ranges};
-ghost use Rattle.ilk_forms.specs.Copy.{system_var_part, range_class_part, no_var_lits, copy_part, copy_var_count, copy_bits, AreCopyBits, LiteralsEncode};
+ghost use Rattle.ilk_forms.specs.Copy.{system_var_part, range_class_part, no_lits_for_each_var, copy_part, copy_var_count, copy_bits, AreCopyBits, LiteralsEncode};
 
 use ilk_base::Row;
 use ilk_cnf::{Cnf, Lits};
@@ -97,8 +97,8 @@ fn add_range_class(
     Ok(())
 }
 
-fn no_var_lits(alloc: Global, ranges: &[u8]) -> Result<CopyLits, AllocError>
-    ensures { IfOk result (λ table. table ≡ no_var_lits ranges.now) }
+fn no_lits_for_each_var(alloc: Global, ranges: &[u8]) -> Result<CopyLits, AllocError>
+    ensures { IfOk result (λ table. table ≡ no_lits_for_each_var ranges.now) }
 {
     let mut table = CopyLits::new(alloc);
     for _ in ranges {
@@ -142,7 +142,7 @@ pub fn add_copy_clauses(
     let _ = cnf.vars();
     let mut used = before;
     let ranges = ranges.as_slice();
-    let mut table = no_var_lits(alloc, ranges)?;
+    let mut table = no_lits_for_each_var(alloc, ranges)?;
     for i in 0..MAX_RANGES {
         let range = (MAX_RANGES - 1 - i) as u8;
         add_range_class(alloc, cnf, &mut used, ranges, range, &mut table)?;

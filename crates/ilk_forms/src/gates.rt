@@ -3,7 +3,7 @@ ghost use Rattle.std.specs.List.{list_all};
 ghost use Rattle.ilk_cnf.specs.Formula.{is_clause_over};
 ghost use Rattle.ilk_cnf.specs.Literal.{has_lit};
 ghost use Rattle.ilk_cnf.specs.Part.{with_part};
-ghost use Rattle.ilk_forms.specs.Gates.{with_sign, gates_part, gate_of, least_var, same_lits, shared_lit, and_lits, combined_lit, lit_or_new_gate};
+ghost use Rattle.ilk_forms.specs.Gates.{with_sign, gates_part, and_gate_from_lits, least_var, have_same_lits_in_any_order, shared_lit, lits_negated_unless_all, combined_lit, lit_or_new_gate};
 
 use ilk_base::Row;
 use ilk_cnf::{Cnf, Lit, Lits, define_and_gate, negated_lits};
@@ -40,8 +40,8 @@ fn has_all_lits(lits: &[Lit], others: &[Lit]) -> bool
     lits.iter().all(|lit| has_lit(*lit, others))
 }
 
-fn same_lits(lits: &[Lit], others: &[Lit]) -> bool
-    ensures { result ≡ same_lits lits.now others.now }
+fn have_same_lits_in_any_order(lits: &[Lit], others: &[Lit]) -> bool
+    ensures { result ≡ have_same_lits_in_any_order lits.now others.now }
 {
     has_all_lits(lits, others) && has_all_lits(others, lits)
 }
@@ -61,7 +61,7 @@ fn shared_lit(gates: &Gates, lits: &[Lit]) -> Option<Lit>
 {
     let least = least_var(lits);
     for gate in gates.as_slice() {
-        if gate.least == least && same_lits(lits, gate.lits.as_slice()) {
+        if gate.least == least && have_same_lits_in_any_order(lits, gate.lits.as_slice()) {
             return Some(gate.lit);
         }
     }
@@ -70,8 +70,8 @@ fn shared_lit(gates: &Gates, lits: &[Lit]) -> Option<Lit>
 
 // Returns literals that are all true exactly if `lits` are (`all`), or if none of them is
 // (otherwise).
-fn and_lits(alloc: Global, all: bool, lits: &[Lit]) -> Result<Lits, AllocError>
-    ensures { IfOk result (λ key. key ≡ and_lits all lits.now) }
+fn lits_negated_unless_all(alloc: Global, all: bool, lits: &[Lit]) -> Result<Lits, AllocError>
+    ensures { IfOk result (λ key. key ≡ lits_negated_unless_all all lits.now) }
 {
     if all {
         copied(alloc, lits)
@@ -106,11 +106,12 @@ fn add_gate(
     lits: Lits,
 ) -> Result<Lit, AllocError>
     requires { IsTrue (is_clause_over cnf.old.vars lits) }
-    ensures lit { IfOk result (λ l. l ≡ (gate_of all lits cnf.old.vars).lit) }
-    ensures gates { OnOk result (gates.new ≡ gates.old ++ gate_of all lits cnf.old.vars ∷ []) }
+    ensures lit { IfOk result (λ l. l ≡ (and_gate_from_lits all lits cnf.old.vars).lit) }
+    ensures gates { OnOk result
+        (gates.new ≡ gates.old ++ and_gate_from_lits all lits cnf.old.vars ∷ []) }
     ensures made { OnOk result
         (cnf.new ≡ with_part cnf.old
-        (gates_part (gate_of all lits cnf.old.vars ∷ []) cnf.old.vars)) }
+        (gates_part (and_gate_from_lits all lits cnf.old.vars ∷ []) cnf.old.vars)) }
 {
     let lit = Lit::new(cnf.fresh()?, all);
     define_and_gate(alloc, cnf, lit, lits.as_slice())?;
@@ -128,17 +129,19 @@ fn gate_lit(
 ) -> Result<Lit, AllocError>
     requires { IsTrue (is_clause_over cnf.old.vars lits.now) }
     ensures lit { IfOk result
-        (λ l. l ≡ (lit_or_new_gate all lits.now cnf.old.vars (shared_lit gates.old (and_lits all
+        (λ l. l ≡ (lit_or_new_gate all lits.now cnf.old.vars
+        (shared_lit gates.old (lits_negated_unless_all all
         lits.now))).lit) }
     ensures gates { OnOk result
         (gates.new ≡ gates.old ++ (lit_or_new_gate all lits.now cnf.old.vars (shared_lit gates.old
-        (and_lits all lits.now))).gates) }
+        (lits_negated_unless_all all lits.now))).gates) }
     ensures made { OnOk result
         (cnf.new ≡ with_part cnf.old
-        (gates_part (lit_or_new_gate all lits.now cnf.old.vars (shared_lit gates.old (and_lits all
+        (gates_part (lit_or_new_gate all lits.now cnf.old.vars
+        (shared_lit gates.old (lits_negated_unless_all all
         lits.now))).gates cnf.old.vars)) }
 {
-    let key = and_lits(alloc, all, lits)?;
+    let key = lits_negated_unless_all(alloc, all, lits)?;
     match shared_lit(gates, key.as_slice()) {
         Some(lit) => Ok(with_sign(all, lit)),
         None => Ok(with_sign(all, add_gate(alloc, cnf, gates, all, key)?)),

@@ -5,9 +5,9 @@ ghost use Rattle.ilk_ir.specs.Form.{tree_of, trees_of};
 ghost use Rattle.ilk_ir.specs.Tree.{negation, tree_valid, each_valid, value_valid};
 ghost use Rattle.ilk_forms.specs.Leaf.{value_lit, has_lits_within_vars, ranges_of};
 ghost use Rattle.ilk_forms.specs.Gates.{with_sign, gates_part, gates_within};
-ghost use Rattle.ilk_forms.specs.Gathered.{is_negated_gate, keep_lits_if_same_gate, combine_lits_into_one, as_lits, form_to_and_or_lits, forms_to_and_or_lits};
+ghost use Rattle.ilk_forms.specs.Gathered.{is_negated_gate, keep_lits_if_same_gate, combine_lits_into_one, signed_lit_as_lits_with_gates, form_to_and_or_lits, forms_to_and_or_lits};
 
-use crate::bound::or_of_values_bound_lit;
+use crate::bound::bound_lit_stated_by_or;
 use crate::copy::CopyLits;
 use crate::gates::{Gates, combined_lit, push_all, with_sign};
 use ilk_cnf::{Cnf, Lit, Lits};
@@ -122,7 +122,7 @@ pub(crate) fn form_to_and_or_lits(
         Form::No => take_in(alloc, cnf, gates, all, !positive, Lits::new(alloc)),
         Form::Is(v, c) => one(alloc, with_sign(positive, value_lit(table, *v, *c))),
         Form::And(forms) => join(alloc, cnf, gates, table, all, positive, positive, forms),
-        Form::Or(forms) => match or_of_values_bound_lit(table, forms) {
+        Form::Or(forms) => match bound_lit_stated_by_or(table, forms) {
             Some(lit) => one(alloc, with_sign(positive, lit)),
             None => join(alloc, cnf, gates, table, all, !positive, positive, forms),
         },
@@ -178,7 +178,8 @@ fn marked_to_lits(
     requires gates { IsTrue (gates_within cnf.old.vars gates.old) }
     requires valid { IsTrue (tree_valid (ranges_of table.now) (tree_of form.now)) }
     ensures lits { IfOk result
-        (λ lits. lits ≡ (as_lits positive (combine_lits_into_one gates.old cnf.old.vars true
+        (λ lits. lits ≡ (signed_lit_as_lits_with_gates positive
+        (combine_lits_into_one gates.old cnf.old.vars true
         (form_to_and_or_lits table.now true false (tree_of form.now) gates.old
         cnf.old.vars))).lits) }
     ensures gates { OnOk result

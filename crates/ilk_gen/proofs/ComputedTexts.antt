@@ -10,7 +10,7 @@ use Rattle.ilk_gen.specs.StationsText.{stations_text}
 use Rattle.ilk_conf_write.specs.ConfigurationText.{configuration_value}
 use Rattle.ilk_net_read.specs.Network.{network_from_conf_value}
 use Rattle.ilk_net_read.specs.declared.version.Version.TheVariants.{First}
-use Rattle.ilk_table_read.specs.Table.{net_and_table_drafts, table_draft_from_conf_value}
+use Rattle.ilk_table_read.specs.Table.{net_and_table_drafts_from_text, table_draft_from_conf_value}
 use Rattle.serde_json.proofs.OnLiterals.{serde_json_on_literals}
 use Rattle.serde_json.specs.Data.{Data}
 use Rattle.serde_json.specs.Read.{read}
@@ -34,6 +34,6 @@ table-read : (n : ℕ) → 1 ≤ n → n ≤ 16 → table_draft_from_conf_value 
 unfolding digits
 table-read = any_of_sixteen (λ n. table_draft_from_conf_value (stations_value n) ≡ Ok (stations_table n)) refl refl refl refl refl refl refl refl refl refl refl refl refl refl refl refl
 
-pub stations-read : (n : ℕ) → 1 ≤ n → n ≤ 16 → net_and_table_drafts (stations_text n) ≡ Ok (stations_net n, stations_table n)
+pub stations-read : (n : ℕ) → 1 ≤ n → n ≤ 16 → net_and_table_drafts_from_text (stations_text n) ≡ Ok (stations_net n, stations_table n)
 stations-read n some few =
     read_as (stations_text n) (stations_value n) (stations_net n) (stations_table n) (ascii (stations_text n) (ascii-text n some few)) (value-read n some few) (network-read n some few) (table-read n some few)

@@ -6,7 +6,7 @@ ghost use Rattle.ilk_plant.specs.Draft.{plant_from_drafts};
 ghost use Rattle.ilk_plant.specs.Limits.{WithinLimits};
 ghost use Rattle.ilk_plant.specs.NetworkRules.{network_rules_broken};
 ghost use Rattle.ilk_plant.specs.TableRules.{table_rules_broken};
-ghost use Rattle.ilk_table_read.specs.Table.{net_and_table_drafts};
+ghost use Rattle.ilk_table_read.specs.Table.{net_and_table_drafts_from_text};
 ghost use Rattle.ilk_gen.specs.StationsText.{stations_text};
 ghost use Rattle.ilk_gen.specs.StationRoutes.{stations_table};
 ghost use Rattle.ilk_gen.specs.Stations.{stations_net};
@@ -17,7 +17,8 @@ ghost use Rattle.ilk_gen.specs.declared.making.TheConstants.{MAX_STATIONS};
 pub fn stations_text_reads_as_drafts(n: u32)
     requires some { 1 ≤ n }
     requires few { n ≤ MAX_STATIONS }
-    ensures { net_and_table_drafts (stations_text n) ≡ Ok (stations_net n, stations_table n) }
+    ensures { net_and_table_drafts_from_text (stations_text n)
+        ≡ Ok (stations_net n, stations_table n) }
 {}
 
 /// The drafts of `n` stations, 1 to `MAX_STATIONS`, are within the limits, and violate no rule of

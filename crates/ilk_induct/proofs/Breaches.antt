@@ -11,7 +11,7 @@ use Rattle.ilk_log.specs.Conflicts.{count_learned_clauses}
 use Rattle.ilk_unroll.specs.declared.queries.Wanted.{Wanted}
 use Rattle.ilk_unroll.specs.declared.queries.Wanted.TheVariants.{Hazard, Breach as BreachQuery}
 use Rattle.ilk_unroll.specs.declared.reading.Trace.{Trace}
-use Rattle.ilk_unroll.specs.Goal.{PlainGoal, step_count, step_count_is_allowed}
+use Rattle.ilk_unroll.specs.Goal.{PlainGoalForms, step_count, step_count_is_allowed}
 use Rattle.ilk_induct.specs.declared.due.DueQuery.TheVariants.{Broken}
 use Rattle.ilk_induct.specs.declared.due.Next.TheVariants.{Ask, End}
 use Rattle.ilk_certificate.specs.declared.asked.Asked.{Asked}
@@ -32,14 +32,14 @@ below-more P n below at m less =
 pub hazard-valid : (depth n : ℕ) → depth ≤ 16 → n < depth → step_count_is_allowed (Hazard (n + 1)) ≡ true
 hazard-valid depth n few less = le-leb (n + 1) 16 (omega arith)
 
-pub steps-of : (s : PlainSystem) (g : PlainGoal) (q : Wanted) (t : Trace) → IsRunOfQuery s g q t → length t.rules ≡ step_count q
+pub steps-of : (s : PlainSystem) (g : PlainGoalForms) (q : Wanted) (t : Trace) → IsRunOfQuery s g q t → length t.rules ≡ step_count q
 steps-of s g q t run = (wanted-parts s g q t.first t.rules run).many
 
 pub few : (total rest conflicts : ℕ) → total + rest ≡ conflicts → total ≤ conflicts
 few total rest conflicts h = omega (arith, h)
 
 pub endangered :
-    (s : PlainSystem) (g : PlainGoal) (depth conflicts : ℕ) (breach : Option ℕ) (n : ℕ) (t : Trace)
+    (s : PlainSystem) (g : PlainGoalForms) (depth conflicts : ℕ) (breach : Option ℕ) (n : ℕ) (t : Trace)
     (log : List LogStep) (asked : List Asked) (left rest : ℕ) →
     QueryFollowsAskedInOrder s g depth conflicts breach (Hazard n) asked left → ((m : ℕ) → m < n → ¬ HasRun s g (Hazard m)) →
     LogStepsDerivedAndFresh s g (query_with_log (Hazard n) log) → count_learned_clauses log + rest ≡ left → IsRunOfQuery s g (Hazard n) t →
@@ -56,13 +56,13 @@ endangered s g depth conflicts breach n t log asked left rest d none logged coun
       few = few (total_conflicts (asked ++ a ∷ [])) rest conflicts (more-conflicts asked a left rest conflicts d.counted count);
     }
 
-breach-end : (s : PlainSystem) (g : PlainGoal) (depth : ℕ) (t : Trace) → length t.rules ≤ depth → NoHazardBreachInductionBelow s g (depth + 1) (length t.rules) 0 → IsRunOfQuery s g (BreachQuery (length t.rules)) t →
+breach-end : (s : PlainSystem) (g : PlainGoalForms) (depth : ℕ) (t : Trace) → length t.rules ≤ depth → NoHazardBreachInductionBelow s g (depth + 1) (length t.rules) 0 → IsRunOfQuery s g (BreachQuery (length t.rules)) t →
     IsExactSystemVerdict s g depth (Breach t)
 breach-end s g depth t within known run =
     (record { no_hazard = λ m le. known.no_hazard m (omega arith); breach = record { within = within; so = (t.first, t.rules, run); least = known.no_breach } }, run)
 
 pub after-broken :
-    (s : PlainSystem) (g : PlainGoal) (depth conflicts n : ℕ) (t : Trace) (log : List LogStep)
+    (s : PlainSystem) (g : PlainGoalForms) (depth conflicts n : ℕ) (t : Trace) (log : List LogStep)
     (asked : List Asked) (left rest : ℕ) → depth ≤ 16 →
     QueryFollowsAskedInOrder s g depth conflicts (Some (length t.rules)) (Hazard n) asked left → IsFoundBreachWithoutShorter s g n t →
     LogStepsDerivedAndFresh s g (query_with_log (Hazard n) log) → count_learned_clauses log + rest ≡ left → IsRefuted s g (Hazard n) log →
@@ -107,7 +107,7 @@ after-broken s g depth conflicts n t log asked left rest low d found logged coun
         }
 
 broke-at :
-    (s : PlainSystem) (g : PlainGoal) (depth conflicts : ℕ) (t : Trace) (log : List LogStep)
+    (s : PlainSystem) (g : PlainGoalForms) (depth conflicts : ℕ) (t : Trace) (log : List LogStep)
     (asked : List Asked) (left rest : ℕ) → depth ≤ 16 →
     QueryFollowsAskedInOrder s g depth conflicts None (BreachQuery (length t.rules)) asked left →
     NoHazardBreachInductionBelow s g (length t.rules + 1) (length t.rules) (length t.rules) →
@@ -151,7 +151,7 @@ broke-at s g depth conflicts t log asked left rest low d known logged count run 
         }
 
 pub broke :
-    (s : PlainSystem) (g : PlainGoal) (depth conflicts n : ℕ) (t : Trace) (log : List LogStep)
+    (s : PlainSystem) (g : PlainGoalForms) (depth conflicts n : ℕ) (t : Trace) (log : List LogStep)
     (asked : List Asked) (left rest : ℕ) → depth ≤ 16 →
     length t.rules ≡ n → QueryFollowsAskedInOrder s g depth conflicts None (BreachQuery n) asked left →
     NoHazardBreachInductionBelow s g (n + 1) n n → LogStepsDerivedAndFresh s g (query_with_log (BreachQuery n) log) → count_learned_clauses log + rest ≡ left →

@@ -10,7 +10,7 @@ use Rattle.ilk_ir.specs.System.{PlainSystem}
 use Rattle.ilk_log.specs.declared.step.Step.{Step as LogStep}
 use Rattle.ilk_log.specs.Derived.{negated_clause, hints_end_in_conflict, is_derived, each_derived}
 use Rattle.ilk_log.specs.Propagation.{after_hint}
-use Rattle.ilk_unroll.specs.Goal.{PlainGoal}
+use Rattle.ilk_unroll.specs.Goal.{PlainGoalForms}
 use Rattle.ilk_unroll.specs.Query.{query_formula}
 use Rattle.ilk_certificate.specs.declared.asked.Asked.{Asked}
 use Rattle.ilk_certificate.specs.Certificate.{IsValidCertificate}
@@ -49,21 +49,21 @@ derived-count n clauses (s ∷ steps) e =
     let hints : has_no_hint_zero s ≡ true = ends-count clauses (negated_clause s.clause) s.hints here.1 in
     rw hints (derived-count n (clauses ++ s.clause ∷ []) steps parts.1)
 
-logs-count : (s : PlainSystem) (g : PlainGoal) (asked : List Asked) → All (LogStepsDerivedAndFresh s g) asked → IsTrue (have_no_hint_zero asked)
+logs-count : (s : PlainSystem) (g : PlainGoalForms) (asked : List Asked) → All (LogStepsDerivedAndFresh s g) asked → IsTrue (have_no_hint_zero asked)
 logs-count s g [] logs = refl
 logs-count s g (a ∷ asked) logs =
     let one : LogStepsDerivedAndFresh s g a = All-head (LogStepsDerivedAndFresh s g) a asked logs in
     let here : list_all has_no_hint_zero a.log ≡ true = derived-count (query_formula s g a.query).vars (query_formula s g a.query).clauses a.log one.derived in
     rw here (logs-count s g asked (All-tail (LogStepsDerivedAndFresh s g) a asked logs))
 
-pub hints_count : (s : PlainSystem) (g : PlainGoal) (depth conflicts : ℕ) (verdict : Verdict) (asked : List Asked) → AreQueriesOfVerdict s g depth conflicts verdict asked → IsTrue (have_no_hint_zero asked)
+pub hints_count : (s : PlainSystem) (g : PlainGoalForms) (depth conflicts : ℕ) (verdict : Verdict) (asked : List Asked) → AreQueriesOfVerdict s g depth conflicts verdict asked → IsTrue (have_no_hint_zero asked)
 hints_count s g depth conflicts (Unsafe t) asked h = logs-count s g asked h.1.1.logs
 hints_count s g depth conflicts (Breach t) asked h = logs-count s g asked h.ends.1.logs
 hints_count s g depth conflicts (Safe k) asked h = logs-count s g asked h.1.ends.1.logs
 hints_count s g depth conflicts (NotInductive t) asked h = logs-count s g asked h.ends.1.logs
 hints_count s g depth conflicts Spent asked h = logs-count s g asked h.0.1.1.logs
 
-pub safe_certifies : (s : PlainSystem) (g : PlainGoal) (depth conflicts k : ℕ) (asked : List Asked) → depth ≤ 16 → 0 < k → AreQueriesOfVerdict s g depth conflicts (Safe k) asked → IsValidCertificate s g k (safe_text k
+pub safe_certifies : (s : PlainSystem) (g : PlainGoalForms) (depth conflicts k : ℕ) (asked : List Asked) → depth ≤ 16 → 0 < k → AreQueriesOfVerdict s g depth conflicts (Safe k) asked → IsValidCertificate s g k (safe_text k
     (drop_nonfinal_step_queries asked))
 safe_certifies s g depth conflicts k asked deep some h =
     let all : AreRefutedCertificateQueries s g k asked = certifies s g depth conflicts (Safe k) asked h in
@@ -77,5 +77,5 @@ safe_certifies s g depth conflicts k asked deep some h =
       text = refl;
     }
 
-pub spent_certifies : (s : PlainSystem) (g : PlainGoal) (depth conflicts : ℕ) (asked : List Asked) → AreQueriesOfVerdict s g depth conflicts Spent asked → IsSpentText s g depth conflicts (spent_text (total_conflicts asked) asked)
+pub spent_certifies : (s : PlainSystem) (g : PlainGoalForms) (depth conflicts : ℕ) (asked : List Asked) → AreQueriesOfVerdict s g depth conflicts Spent asked → IsSpentText s g depth conflicts (spent_text (total_conflicts asked) asked)
 spent_certifies s g depth conflicts asked h = record { asked = asked; breach = h.0.0; given_up = h.0.1; counted = h.1; text = ap (λ (n : ℕ). spent_text n asked) h.1 }

@@ -8,7 +8,7 @@ use Rattle.ilk_ir.specs.System.{PlainSystem}
 use Rattle.ilk_log.specs.declared.step.Step.{Step as LogStep}
 use Rattle.ilk_unroll.specs.declared.queries.Wanted.{Wanted}
 use Rattle.ilk_unroll.specs.declared.queries.Wanted.TheVariants.{Hazard, Breach as BreachQuery, Step}
-use Rattle.ilk_unroll.specs.Goal.{PlainGoal}
+use Rattle.ilk_unroll.specs.Goal.{PlainGoalForms}
 use Rattle.ilk_certificate.specs.declared.asked.Asked.{Asked}
 use Rattle.ilk_certificate.specs.Certificate.{IsRefuted, hazard_and_breach_query_pair}
 use Rattle.ilk_certificate.specs.Kept.{is_step_query, drop_nonfinal_step_queries}
@@ -70,7 +70,7 @@ bases-queries (a ∷ asked) = by_case (is_step_query a.query) (bases asked) (bas
     by_case true rest more e = e
     by_case false rest more e = ap (λ (us : List Wanted). a.query ∷ us) e
 
-base-refuted : (s : PlainSystem) (g : PlainGoal) (q : Wanted) (log : List LogStep) → is_step_query q ≡ false → QueryAnswerAllowsNext s g None q log → IsRefuted s g q log
+base-refuted : (s : PlainSystem) (g : PlainGoalForms) (q : Wanted) (log : List LogStep) → is_step_query q ≡ false → QueryAnswerAllowsNext s g None q log → IsRefuted s g q log
 base-refuted s g (Hazard n) log base h = h
 base-refuted s g (BreachQuery n) log base h = elim h [ inl refuted ↦ refuted | inr found ↦ absurd (none n found) ]
   where
@@ -78,7 +78,8 @@ base-refuted s g (BreachQuery n) log base h = elim h [ inl refuted ↦ refuted |
     none n e = cc
 base-refuted s g (Step n) log base h = absurd cc
 
-bases-refuted : (s : PlainSystem) (g : PlainGoal) (last : Asked) (before : List Asked) → IsRefuted s g last.query last.log → All (AskedQueryAllowsNext s g None) before → All (λ (a : Asked). IsRefuted s g a.query a.log) (bases before ++ last ∷ [])
+bases-refuted : (s : PlainSystem) (g : PlainGoalForms) (last : Asked) (before : List Asked) → IsRefuted s g last.query last.log → All (AskedQueryAllowsNext s g None) before
+    → All (λ (a : Asked). IsRefuted s g a.query a.log) (bases before ++ last ∷ [])
 bases-refuted s g last [] r h = All-cons (λ (a : Asked). IsRefuted s g a.query a.log) last [] r (All-nil (λ (a : Asked). IsRefuted s g a.query a.log))
 bases-refuted s g last (a ∷ before) r h = by_case (is_step_query a.query) refl (bases-refuted s g last before r (All-tail (AskedQueryAllowsNext s g None) a before h))
   where
@@ -86,7 +87,7 @@ bases-refuted s g last (a ∷ before) r h = by_case (is_step_query a.query) refl
     by_case true e rest = rest
     by_case false e rest = All-cons (λ (x : Asked). IsRefuted s g x.query x.log) a (bases before ++ last ∷ []) (base-refuted s g a.query a.log e (All-head (AskedQueryAllowsNext s g None) a before h)) rest
 
-certified : (s : PlainSystem) (g : PlainGoal) (depth k : ℕ) (asked : List Asked) (last : Asked) →
+certified : (s : PlainSystem) (g : PlainGoalForms) (depth k : ℕ) (asked : List Asked) (last : Asked) →
     map (λ (a : Asked). a.query) asked ≡ queries_to_depth_given_breach None k → AskedPrefixPassedExceptLast s g depth None asked last →
     last.query ≡ Step k → IsRefuted s g last.query last.log → AreRefutedCertificateQueries s g k asked
 certified s g depth k asked last order are is refuted =
@@ -106,7 +107,7 @@ certified s g depth k asked last order are is refuted =
       refuted = subst (λ (xs : List Asked). All (λ (a : Asked). IsRefuted s g a.query a.log) xs) (sym split) (bases-refuted s g last are.before refuted are.passed);
     }
 
-pub certifies : (s : PlainSystem) (g : PlainGoal) (depth conflicts : ℕ) (verdict : Verdict) (asked : List Asked) → AreQueriesOfVerdict s g depth conflicts verdict asked → QueriesProveVerdictIfSafe s g verdict asked
+pub certifies : (s : PlainSystem) (g : PlainGoalForms) (depth conflicts : ℕ) (verdict : Verdict) (asked : List Asked) → AreQueriesOfVerdict s g depth conflicts verdict asked → QueriesProveVerdictIfSafe s g verdict asked
 certifies s g depth conflicts (Unsafe t) asked h = tt
 certifies s g depth conflicts (Breach t) asked h = tt
 certifies s g depth conflicts (Safe k) asked h = certified s g k k asked h.1.ends.0 h.1.all h.1.ends.1 h.1.ends.2.0 h.1.ends.2.1

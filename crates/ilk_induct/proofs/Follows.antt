@@ -13,7 +13,7 @@ use Rattle.ilk_log.specs.Conflicts.{count_learned_clauses}
 use Rattle.ilk_unroll.specs.declared.queries.Wanted.{Wanted}
 use Rattle.ilk_unroll.specs.declared.queries.Wanted.TheVariants.{Hazard, Breach as BreachQuery, Step}
 use Rattle.ilk_unroll.specs.declared.reading.Trace.{Trace}
-use Rattle.ilk_unroll.specs.Goal.{PlainGoal, step_count_is_allowed}
+use Rattle.ilk_unroll.specs.Goal.{PlainGoalForms, step_count_is_allowed}
 use Rattle.ilk_induct.specs.declared.ask.Response.{Response}
 use Rattle.ilk_induct.specs.declared.ask.Response.TheVariants.{Run, Refuted, GivenUp}
 use Rattle.ilk_induct.specs.declared.due.DueQuery.{DueQuery}
@@ -36,7 +36,7 @@ some-step : (n : ℕ) → step_count_is_allowed (Step n) ≡ true → 0 < n
 some-step n h = ltb-true 0 n (and_parts _ _ h).0
 
 left-invariant :
-    (s : PlainSystem) (g : PlainGoal) (depth conflicts n : ℕ) (t : Trace) (log : List LogStep)
+    (s : PlainSystem) (g : PlainGoalForms) (depth conflicts n : ℕ) (t : Trace) (log : List LogStep)
     (asked : List Asked) (left rest : ℕ) → depth ≤ 16 →
     QueryFollowsAskedInOrder s g depth conflicts None (Step n) asked left → NoHazardBreachInductionBelow s g (n + 1) (n + 1) n →
     LogStepsDerivedAndFresh s g (query_with_log (Step n) log) → count_learned_clauses log + rest ≡ left → IsRunOfQuery s g (Step n) t →
@@ -82,7 +82,7 @@ left-invariant s g depth conflicts n t log asked left rest low d known logged co
         }
 
 carried :
-    (s : PlainSystem) (g : PlainGoal) (depth conflicts n : ℕ) (log : List LogStep) (asked : List Asked)
+    (s : PlainSystem) (g : PlainGoalForms) (depth conflicts n : ℕ) (log : List LogStep) (asked : List Asked)
     (left rest : ℕ) →
     list_all (rule_valid s.ranges) s.rules ≡ true → QueryFollowsAskedInOrder s g depth conflicts None (Step n) asked left →
     NoHazardBreachInductionBelow s g (n + 1) (n + 1) n → LogStepsDerivedAndFresh s g (query_with_log (Step n) log) → count_learned_clauses log + rest ≡ left →
@@ -103,7 +103,7 @@ carried s g depth conflicts n log asked left rest rules d known logged count ref
     }
 
 given-up :
-    (s : PlainSystem) (g : PlainGoal) (depth conflicts : ℕ) (due : DueQuery) (log : List LogStep)
+    (s : PlainSystem) (g : PlainGoalForms) (depth conflicts : ℕ) (due : DueQuery) (log : List LogStep)
     (asked : List Asked) (left rest : ℕ) →
     IsDueAfterAskedQueries s g depth conflicts due asked left → LogStepsDerivedAndFresh s g (query_with_log (due_query due) log) →
     count_learned_clauses log + rest ≡ left → IsResponse s g (due_query due) left GivenUp log →
@@ -121,7 +121,7 @@ given-up s g depth conflicts due log asked left rest d logged count spent =
     }
 
 no-hazard :
-    (s : PlainSystem) (g : PlainGoal) (depth conflicts n : ℕ) (log : List LogStep) (asked : List Asked)
+    (s : PlainSystem) (g : PlainGoalForms) (depth conflicts n : ℕ) (log : List LogStep) (asked : List Asked)
     (left rest : ℕ) →
     QueryFollowsAskedInOrder s g depth conflicts None (Hazard n) asked left → NoHazardBreachInductionBelow s g n n n →
     LogStepsDerivedAndFresh s g (query_with_log (Hazard n) log) → count_learned_clauses log + rest ≡ left → IsRefuted s g (Hazard n) log →
@@ -134,7 +134,7 @@ no-hazard s g depth conflicts n log asked left rest d known logged count refuted
     }
 
 no-breach :
-    (s : PlainSystem) (g : PlainGoal) (depth conflicts n : ℕ) (log : List LogStep) (asked : List Asked)
+    (s : PlainSystem) (g : PlainGoalForms) (depth conflicts n : ℕ) (log : List LogStep) (asked : List Asked)
     (left rest : ℕ) →
     QueryFollowsAskedInOrder s g depth conflicts None (BreachQuery (suc n)) asked left →
     NoHazardBreachInductionBelow s g (suc n + 1) (suc n) (suc n) → LogStepsDerivedAndFresh s g (query_with_log (BreachQuery (suc n)) log) →
@@ -152,7 +152,7 @@ no-breach s g depth conflicts n log asked left rest d known logged count refuted
     }
 
 no-breach-at-start :
-    (s : PlainSystem) (g : PlainGoal) (depth conflicts : ℕ) (log : List LogStep) (asked : List Asked)
+    (s : PlainSystem) (g : PlainGoalForms) (depth conflicts : ℕ) (log : List LogStep) (asked : List Asked)
     (left rest : ℕ) → 0 < depth →
     QueryFollowsAskedInOrder s g depth conflicts None (BreachQuery 0) asked left → NoHazardBreachInductionBelow s g 1 0 0 →
     LogStepsDerivedAndFresh s g (query_with_log (BreachQuery 0) log) → count_learned_clauses log + rest ≡ left →
@@ -165,7 +165,7 @@ no-breach-at-start s g depth conflicts log asked left rest deep d known logged c
     }
 
 pub follows :
-    (s : PlainSystem) (g : PlainGoal) (depth conflicts : ℕ) (due : DueQuery) (response : Response)
+    (s : PlainSystem) (g : PlainGoalForms) (depth conflicts : ℕ) (due : DueQuery) (response : Response)
     (log : List LogStep) (asked : List Asked) (left rest : ℕ) →
     list_all (rule_valid s.ranges) s.rules ≡ true → 0 < depth → depth ≤ 16 →
     IsDueAfterAskedQueries s g depth conflicts due asked left → LogStepsDerivedAndFresh s g (query_with_log (due_query due) log) →
@@ -183,7 +183,7 @@ follows s g depth conflicts (Unbroken (Step n)) Refuted log asked left rest rule
 follows s g depth conflicts (Broken n t) Refuted log asked left rest rules deep low d logged count r = after-broken s g depth conflicts n t log asked left rest low d.in_order d.known logged count r.0 r.1
 follows s g depth conflicts due GivenUp log asked left rest rules deep low d logged count r = given-up s g depth conflicts due log asked left rest d logged count r
 
-pub first-due : (s : PlainSystem) (g : PlainGoal) (depth conflicts : ℕ) → IsDueAfterAskedQueries s g depth conflicts (Unbroken (Hazard 0)) [] conflicts
+pub first-due : (s : PlainSystem) (g : PlainGoalForms) (depth conflicts : ℕ) → IsDueAfterAskedQueries s g depth conflicts (Unbroken (Hazard 0)) [] conflicts
 first-due s g depth conflicts =
     record {
       in_order = record { order = refl; valid = refl; within = omega arith; found = tt; passed = All-nil (AskedQueryAllowsNext s g None); logs = All-nil (LogStepsDerivedAndFresh s g); counted = omega arith };
@@ -191,7 +191,7 @@ first-due s g depth conflicts =
     }
 
 pub turned :
-    (s : PlainSystem) (g : PlainGoal) (depth conflicts : ℕ) (due : DueQuery) (q : Wanted) (response : Response)
+    (s : PlainSystem) (g : PlainGoalForms) (depth conflicts : ℕ) (due : DueQuery) (q : Wanted) (response : Response)
     (log : List LogStep) (asked new : List Asked) (left count rest : ℕ) (next : Next) →
     system_valid s ≡ true → 0 < depth → depth ≤ 16 → IsDueAfterAskedQueries s g depth conflicts due asked left →
     q ≡ due_query due → IsEmpoweringLogWithinBudget (query_formula s g q) left log → IsResponse s g q left response log →

@@ -13,7 +13,7 @@ use Rattle.ilk_log.specs.Derived.{is_empty_clause}
 use Rattle.ilk_solver.specs.Answered.{has_no_empty_step}
 use Rattle.ilk_unroll.specs.declared.queries.Wanted.{Wanted}
 use Rattle.ilk_unroll.specs.declared.queries.Wanted.TheVariants.{Hazard, Breach as BreachQuery, Step}
-use Rattle.ilk_unroll.specs.Goal.{PlainGoal, step_count, step_count_is_allowed}
+use Rattle.ilk_unroll.specs.Goal.{PlainGoalForms, step_count, step_count_is_allowed}
 use Rattle.ilk_unroll.specs.Query.{query_formula}
 use Rattle.ilk_unroll.specs.Satisfied.{IsSatisfiable}
 use Rattle.ilk_certificate.specs.declared.asked.Asked.{Asked}
@@ -128,7 +128,7 @@ as-prefix : (asked : List Asked) (qs all : List Wanted) → map (λ (x : Asked).
 as-prefix asked qs all e p = subst (λ (us : List Wanted). IsPrefix us all) (sym e) p
 
 pub asked-to :
-    (s : PlainSystem) (g : PlainGoal) (depth conflicts : ℕ) (breach : Option ℕ) (a : Asked) (asked : List Asked)
+    (s : PlainSystem) (g : PlainGoalForms) (depth conflicts : ℕ) (breach : Option ℕ) (a : Asked) (asked : List Asked)
     (left : ℕ) →
     QueryFollowsAskedInOrder s g depth conflicts breach a.query asked left → LogStepsDerivedAndFresh s g a →
     AskedPrefixPassedExceptLast s g depth breach (asked ++ a ∷ []) a
@@ -144,7 +144,7 @@ asked-to s g depth conflicts breach a asked left d log =
     }
 
 pub go-on :
-    (s : PlainSystem) (g : PlainGoal) (depth conflicts : ℕ) (breach : Option ℕ) (a : Asked) (q : Wanted)
+    (s : PlainSystem) (g : PlainGoalForms) (depth conflicts : ℕ) (breach : Option ℕ) (a : Asked) (q : Wanted)
     (asked : List Asked) (left rest : ℕ) →
     QueryFollowsAskedInOrder s g depth conflicts breach a.query asked left → LogStepsDerivedAndFresh s g a → AskedQueryAllowsNext s g breach a →
     count_learned_clauses a.log + rest ≡ left → queries_to_query_given_breach breach a.query ++ q ∷ [] ≡ queries_to_query_given_breach breach q →
@@ -161,7 +161,7 @@ go-on s g depth conflicts breach a q asked left rest d log passed count order va
       counted = more-conflicts asked a left rest conflicts d.counted count;
     }
 
-pub passed-after : (s : PlainSystem) (g : PlainGoal) (b : ℕ) (q : Wanted) (log : List LogStep) → QueryAnswerAllowsNext s g None q log → QueryAnswerAllowsNext s g (Some b) q log
+pub passed-after : (s : PlainSystem) (g : PlainGoalForms) (b : ℕ) (q : Wanted) (log : List LogStep) → QueryAnswerAllowsNext s g None q log → QueryAnswerAllowsNext s g (Some b) q log
 passed-after s g b (Hazard n) log h = h
 passed-after s g b (BreachQuery n) log h = elim h [ inl refuted ↦ inl refuted | inr found ↦ absurd (none n found) ]
   where
@@ -169,7 +169,7 @@ passed-after s g b (BreachQuery n) log h = elim h [ inl refuted ↦ inl refuted 
     none n e = cc
 passed-after s g b (Step n) log h = h
 
-pub all-passed-after : (s : PlainSystem) (g : PlainGoal) (b : ℕ) (asked : List Asked) → All (AskedQueryAllowsNext s g None) asked → All (AskedQueryAllowsNext s g (Some b)) asked
+pub all-passed-after : (s : PlainSystem) (g : PlainGoalForms) (b : ℕ) (asked : List Asked) → All (AskedQueryAllowsNext s g None) asked → All (AskedQueryAllowsNext s g (Some b)) asked
 all-passed-after s g b asked h = All-weaker (AskedQueryAllowsNext s g None) (AskedQueryAllowsNext s g (Some b)) (λ a k. passed-after s g b a.query a.log k) asked h
 
 pub found-order : (asked : List Asked) (n : ℕ) (log : List LogStep) →
@@ -179,7 +179,7 @@ pub found-order : (asked : List Asked) (n : ℕ) (log : List LogStep) →
 found-order asked n log order = more-queries asked (query_with_log (BreachQuery n) log) (queries_to_query_given_breach None (BreachQuery n)) order ∙ to-found n
 
 pub found-to :
-    (s : PlainSystem) (g : PlainGoal) (depth conflicts n : ℕ) (log : List LogStep) (asked : List Asked)
+    (s : PlainSystem) (g : PlainGoalForms) (depth conflicts n : ℕ) (log : List LogStep) (asked : List Asked)
     (left : ℕ) →
     QueryFollowsAskedInOrder s g depth conflicts None (BreachQuery n) asked left →
     LogStepsDerivedAndFresh s g (query_with_log (BreachQuery n) log) → IsSatisfiable (query_formula s g (BreachQuery n)) →
@@ -197,7 +197,7 @@ found-to s g depth conflicts n log asked left d logged has =
     }
 
 pub go-on-found :
-    (s : PlainSystem) (g : PlainGoal) (depth conflicts n : ℕ) (log : List LogStep) (asked : List Asked)
+    (s : PlainSystem) (g : PlainGoalForms) (depth conflicts n : ℕ) (log : List LogStep) (asked : List Asked)
     (left rest : ℕ) →
     QueryFollowsAskedInOrder s g depth conflicts None (BreachQuery n) asked left →
     LogStepsDerivedAndFresh s g (query_with_log (BreachQuery n) log) → IsSatisfiable (query_formula s g (BreachQuery n)) →
@@ -217,7 +217,7 @@ go-on-found s g depth conflicts n log asked left rest d logged has count valid w
     }
 
 pub asked-all :
-    (s : PlainSystem) (g : PlainGoal) (depth conflicts n : ℕ) (a : Asked) (asked : List Asked) (left : ℕ)
+    (s : PlainSystem) (g : PlainGoalForms) (depth conflicts n : ℕ) (a : Asked) (asked : List Asked) (left : ℕ)
     (Ends : Asked → Type 0) →
     QueryFollowsAskedInOrder s g depth conflicts None a.query asked left → LogStepsDerivedAndFresh s g a → a.query ≡ Step n → Ends a →
     AllAskedAndLastMeets s g n None Ends (asked ++ a ∷ [])

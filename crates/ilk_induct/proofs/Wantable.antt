@@ -8,7 +8,7 @@ use Rattle.ilk_base.proofs.Ranges.{listed_all-more}
 use Rattle.ilk_ir.specs.System.{PlainSystem}
 use Rattle.ilk_lines.specs.Lines.{Bytes}
 use Rattle.ilk_unroll.specs.declared.queries.Wanted.TheVariants.{Hazard, Breach}
-use Rattle.ilk_unroll.specs.Goal.{PlainGoal, step_count_is_allowed}
+use Rattle.ilk_unroll.specs.Goal.{PlainGoalForms, step_count_is_allowed}
 use Rattle.ilk_unroll.specs.Query.{query_formula}
 use Rattle.ilk_unroll.specs.Satisfied.{IsSatisfiable}
 use Rattle.ilk_certificate.specs.declared.asked.Asked.{Asked}
@@ -49,7 +49,7 @@ prefix-valid asked breach depth low within p =
     let all = sym (list_all-append step_count_is_allowed queries p.0) ∙ ap (list_all step_count_is_allowed) p.1 ∙ order-valid breach depth low within in
     sym (list_all-map step_count_is_allowed (λ (a : Asked). a.query) asked) ∙ (and_parts (list_all step_count_is_allowed queries) (list_all step_count_is_allowed p.0) all).0
 
-pub spent-valid : (s : PlainSystem) (g : PlainGoal) (depth n : ℕ) (bytes : Bytes) → depth ≤ 16 → (t : IsSpentText s g depth n bytes) → list_all (λ (a : Asked). step_count_is_allowed a.query) t.asked ≡ true
+pub spent-valid : (s : PlainSystem) (g : PlainGoalForms) (depth n : ℕ) (bytes : Bytes) → depth ≤ 16 → (t : IsSpentText s g depth n bytes) → list_all (λ (a : Asked). step_count_is_allowed a.query) t.asked ≡ true
 spent-valid s g depth n bytes low t =
     let are = t.given_up.1 in
     prefix-valid t.asked t.breach depth low (within t.breach are.found) are.order

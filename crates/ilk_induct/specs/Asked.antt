@@ -2,7 +2,7 @@
 use Rattle.std.specs.Prelude.{ℕ, ◌≡◌, ◌≤◌, Option, Some, None, List, length, map}
 use Rattle.ilk_ir.specs.System.{PlainSystem}
 use Rattle.ilk_unroll.specs.declared.queries.Wanted.TheVariants.{Hazard, Step}
-use Rattle.ilk_unroll.specs.Goal.{PlainGoal}
+use Rattle.ilk_unroll.specs.Goal.{PlainGoalForms}
 use Rattle.ilk_certificate.specs.declared.asked.Asked.{Asked}
 use Rattle.ilk_certificate.specs.Certificate.{IsRefuted}
 use Rattle.ilk_certificate.specs.CertificateText.{total_conflicts}
@@ -13,13 +13,13 @@ use Rattle.ilk_induct.specs.Spent.{AskedQueryAllowsNext, AskedPrefixAndLastMeets
 
 -- Holds if `asked` are all queries up to the depth, in order, and `Ends` holds for the last. After
 -- a breach of `breach` steps, only hazard queries follow.
-pub record AllAskedAndLastMeets (s : PlainSystem) (g : PlainGoal) (depth : ℕ) (breach : Option ℕ) (Ends : Asked → Type 0) (asked : List Asked) : Type 0 where
+pub record AllAskedAndLastMeets (s : PlainSystem) (g : PlainGoalForms) (depth : ℕ) (breach : Option ℕ) (Ends : Asked → Type 0) (asked : List Asked) : Type 0 where
   pub all : map (λ (a : Asked). a.query) asked ≡ queries_to_depth_given_breach breach depth
   pub ends : AskedPrefixAndLastMeets s g depth breach Ends asked
 
 -- Holds if these queries, in order, lead to this verdict. The numbers are the depth and the
 -- conflict budget.
-abbrev pub AreQueriesOfVerdict : PlainSystem → PlainGoal → ℕ → ℕ → Verdict → List Asked → Type 0
+abbrev pub AreQueriesOfVerdict : PlainSystem → PlainGoalForms → ℕ → ℕ → Verdict → List Asked → Type 0
 -- The last is the hazard query that has the run.
 AreQueriesOfVerdict s g depth conflicts (Unsafe t) asked =
     (breach : Option ℕ) × AskedPrefixAndLastMeets s g depth breach (λ a. a.query ≡ Hazard (length t.rules)) asked

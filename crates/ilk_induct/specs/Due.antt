@@ -7,7 +7,7 @@ use Rattle.ilk_solver.specs.Answered.{IsSpentLog}
 use Rattle.ilk_unroll.specs.declared.queries.Wanted.{Wanted}
 use Rattle.ilk_unroll.specs.declared.queries.Wanted.TheVariants.{Hazard, Breach as BreachQuery, Step}
 use Rattle.ilk_unroll.specs.declared.reading.Trace.{Trace}
-use Rattle.ilk_unroll.specs.Goal.{PlainGoal, step_count, step_count_is_allowed}
+use Rattle.ilk_unroll.specs.Goal.{PlainGoalForms, step_count, step_count_is_allowed}
 use Rattle.ilk_unroll.specs.Query.{query_formula}
 use Rattle.ilk_unroll.specs.Satisfied.{IsSatisfiable}
 use Rattle.ilk_certificate.specs.declared.asked.Asked.{Asked}
@@ -29,7 +29,7 @@ use Rattle.ilk_induct.specs.Asked.{AreQueriesOfVerdict}
 
 -- Holds if the response to a query is right: its run is one that the query asks for, its log
 -- refutes the query, or its search used up the budget.
-abbrev pub IsResponse : PlainSystem → PlainGoal → Wanted → ℕ → Response → List LogStep → Type 0
+abbrev pub IsResponse : PlainSystem → PlainGoalForms → Wanted → ℕ → Response → List LogStep → Type 0
 IsResponse s g q budget (Run t) log = IsRunOfQuery s g q t × IsSatisfiable (query_formula s g q)
 IsResponse s g q budget Refuted log = IsRefuted s g q log × ¬ HasRun s g q
 IsResponse s g q budget GivenUp log = IsSpentLog (query_formula s g q) budget log
@@ -81,19 +81,19 @@ query_or_verdict_after_response depth due GivenUp = End Spent
 
 -- Holds if no hazard is reached in fewer than `h` steps, no breach in fewer than `b`, and each step
 -- query for fewer than `i` steps has a run.
-pub record NoHazardBreachInductionBelow (s : PlainSystem) (g : PlainGoal) (h b i : ℕ) : Type 0 where
+pub record NoHazardBreachInductionBelow (s : PlainSystem) (g : PlainGoalForms) (h b i : ℕ) : Type 0 where
   pub no_hazard : (m : ℕ) → m < h → ¬ HasRun s g (Hazard m)
   pub no_breach : (m : ℕ) → m < b → ¬ HasRun s g (BreachQuery m)
   pub runs : (m : ℕ) → 0 < m → m < i → HasRun s g (Step m)
 
 -- Holds if `t` is a shortest breach of fewer than `n` steps, and no hazard is reached in fewer than
 -- `n`.
-pub record IsFoundBreachWithoutShorter (s : PlainSystem) (g : PlainGoal) (n : ℕ) (t : Trace) : Type 0 where
+pub record IsFoundBreachWithoutShorter (s : PlainSystem) (g : PlainGoalForms) (n : ℕ) (t : Trace) : Type 0 where
   pub known : NoHazardBreachInductionBelow s g n (length t.rules) 0
   pub run : IsRunOfQuery s g (BreachQuery (length t.rules)) t
   pub later : length t.rules < n
 
-abbrev pub ResultsKnownBeforeDueQuery : PlainSystem → PlainGoal → DueQuery → Type 0
+abbrev pub ResultsKnownBeforeDueQuery : PlainSystem → PlainGoalForms → DueQuery → Type 0
 ResultsKnownBeforeDueQuery s g (Unbroken (Hazard n)) = NoHazardBreachInductionBelow s g n n n
 ResultsKnownBeforeDueQuery s g (Unbroken (BreachQuery n)) = NoHazardBreachInductionBelow s g (n + 1) n n
 ResultsKnownBeforeDueQuery s g (Unbroken (Step n)) = NoHazardBreachInductionBelow s g (n + 1) (n + 1) n
@@ -101,7 +101,7 @@ ResultsKnownBeforeDueQuery s g (Broken n t) = IsFoundBreachWithoutShorter s g n 
 
 -- Holds if query `q` is next in order after the queries `asked`, none of which ended the series,
 -- and `left` conflicts are left.
-pub record QueryFollowsAskedInOrder (s : PlainSystem) (g : PlainGoal) (depth conflicts : ℕ) (breach : Option ℕ) (q : Wanted) (asked : List Asked) (left : ℕ) : Type 0 where
+pub record QueryFollowsAskedInOrder (s : PlainSystem) (g : PlainGoalForms) (depth conflicts : ℕ) (breach : Option ℕ) (q : Wanted) (asked : List Asked) (left : ℕ) : Type 0 where
   pub order : map (λ (a : Asked). a.query) asked ++ q ∷ [] ≡ queries_to_query_given_breach breach q
   pub valid : IsTrue (step_count_is_allowed q)
   pub within : step_count q ≤ depth
@@ -110,12 +110,12 @@ pub record QueryFollowsAskedInOrder (s : PlainSystem) (g : PlainGoal) (depth con
   pub logs : All (LogStepsDerivedAndFresh s g) asked
   pub counted : total_conflicts asked + left ≡ conflicts
 
-pub record IsDueAfterAskedQueries (s : PlainSystem) (g : PlainGoal) (depth conflicts : ℕ) (due : DueQuery) (asked : List Asked) (left : ℕ) : Type 0 where
+pub record IsDueAfterAskedQueries (s : PlainSystem) (g : PlainGoalForms) (depth conflicts : ℕ) (due : DueQuery) (asked : List Asked) (left : ℕ) : Type 0 where
   pub in_order : QueryFollowsAskedInOrder s g depth conflicts (breach_length due) (due_query due) asked left
   pub known : ResultsKnownBeforeDueQuery s g due
 
 -- Holds if the verdict is right, or `Spent`, and the queries `asked` lead to it.
-pub record IsRightOrSpentVerdict (s : PlainSystem) (g : PlainGoal) (depth conflicts : ℕ) (verdict : Verdict) (asked : List Asked) : Type 0 where
+pub record IsRightOrSpentVerdict (s : PlainSystem) (g : PlainGoalForms) (depth conflicts : ℕ) (verdict : Verdict) (asked : List Asked) : Type 0 where
   pub right : IsExactSystemVerdict s g depth verdict ⊎ (verdict ≡ Spent)
   pub lasts : SystemVerdictHoldsAtAnyLength s g verdict
   pub queries : AreQueriesOfVerdict s g depth conflicts verdict asked
@@ -130,6 +130,6 @@ max_queries_left depth (Broken n t) = 3 * (depth - n) + 2
 
 -- Holds if what follows after a query is right: a query that is next, with fewer than `due` queries
 -- left, or a verdict.
-abbrev pub IsValidContinuation : PlainSystem → PlainGoal → ℕ → ℕ → ℕ → Next → List Asked → ℕ → Type 0
+abbrev pub IsValidContinuation : PlainSystem → PlainGoalForms → ℕ → ℕ → ℕ → Next → List Asked → ℕ → Type 0
 IsValidContinuation s g depth conflicts due (Ask next) asked left = IsDueAfterAskedQueries s g depth conflicts next asked left × (max_queries_left depth next < due)
 IsValidContinuation s g depth conflicts due (End verdict) asked left = IsRightOrSpentVerdict s g depth conflicts verdict asked

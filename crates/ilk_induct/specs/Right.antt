@@ -4,7 +4,7 @@ use Rattle.ilk_ir.specs.System.{PlainSystem}
 use Rattle.ilk_unroll.specs.declared.queries.Wanted.{Wanted}
 use Rattle.ilk_unroll.specs.declared.queries.Wanted.TheVariants.{Hazard, Breach as BreachQuery, Step}
 use Rattle.ilk_unroll.specs.declared.reading.Trace.{Trace}
-use Rattle.ilk_unroll.specs.Goal.{PlainGoal}
+use Rattle.ilk_unroll.specs.Goal.{PlainGoalForms}
 use Rattle.ilk_unroll.specs.Run.{is_wanted_run}
 use Rattle.ilk_induct.specs.declared.verdict.Verdict.{Verdict}
 use Rattle.ilk_induct.specs.declared.verdict.Verdict.TheVariants.{Safe, Unsafe, Breach, NotInductive, Spent}
@@ -29,26 +29,26 @@ pub record IsLeastSafeInductionLength (Has : Wanted → Type 0) (depth i : ℕ) 
 
 -- Holds if within the depth no hazard is reached and no family broken, and each step query has a
 -- run.
-pub record NeitherBreachNorInductive (Has : Wanted → Type 0) (depth : ℕ) : Type 0 where
+pub record NoHazardBreachInductionUpTo (Has : Wanted → Type 0) (depth : ℕ) : Type 0 where
   pub no_hazard : HoldsForNoneUpTo depth (ReachesHazard Has)
   pub no_breach : HoldsForNoneUpTo depth (ReachesBreach Has)
   pub no_induction : HoldsForNoneUpTo depth (IsInductiveAt Has)
 
 -- Holds if the trace is a run that the query asks for.
-abbrev pub IsRunOfQuery : PlainSystem → PlainGoal → Wanted → Trace → Type 0
+abbrev pub IsRunOfQuery : PlainSystem → PlainGoalForms → Wanted → Trace → Type 0
 IsRunOfQuery s g q t = IsTrue (is_wanted_run s g q t.first t.rules)
 
 -- Holds if a verdict is right for runs of at most `depth` steps. It never holds for `Spent`.
-abbrev pub IsExactSystemVerdict : PlainSystem → PlainGoal → ℕ → Verdict → Type 0
+abbrev pub IsExactSystemVerdict : PlainSystem → PlainGoalForms → ℕ → Verdict → Type 0
 IsExactSystemVerdict s g depth (Unsafe t) = IsShortestHazardLength (HasRun s g) depth (length t.rules) × IsRunOfQuery s g (Hazard (length t.rules)) t
 IsExactSystemVerdict s g depth (Breach t) = IsShortestBreachWithoutHazard (HasRun s g) depth (length t.rules) × IsRunOfQuery s g (BreachQuery (length t.rules)) t
 IsExactSystemVerdict s g depth (Safe k) = IsLeastSafeInductionLength (HasRun s g) depth k
-IsExactSystemVerdict s g depth (NotInductive t) = NeitherBreachNorInductive (HasRun s g) depth × IsRunOfQuery s g (Step depth) t
+IsExactSystemVerdict s g depth (NotInductive t) = NoHazardBreachInductionUpTo (HasRun s g) depth × IsRunOfQuery s g (Step depth) t
 IsExactSystemVerdict s g depth Spent = ⊥
 
 -- Holds if a safe verdict means that runs of any length reach no hazard and break no family. It
 -- always holds for the other verdicts.
-abbrev pub SystemVerdictHoldsAtAnyLength : PlainSystem → PlainGoal → Verdict → Type 0
+abbrev pub SystemVerdictHoldsAtAnyLength : PlainSystem → PlainGoalForms → Verdict → Type 0
 SystemVerdictHoldsAtAnyLength s g (Unsafe t) = Unit {0}
 SystemVerdictHoldsAtAnyLength s g (Breach t) = Unit {0}
 SystemVerdictHoldsAtAnyLength s g (Safe k) = NoHazardOrBreachEver (HasRun s g)

@@ -13,7 +13,7 @@ use Rattle.ilk_cnf.proofs.Gates.{new-in, any_of-in, with_part-and_then}
 use Rattle.ilk_cnf.proofs.Extending.{no_more_if, only_from_if}
 use Rattle.ilk_ints.specs.Bits.{bit_count, lowest_bits_of, assigned_bits_from_var}
 use Rattle.ilk_ints.specs.AtMost.{highest_bit_decides, at_most_part, at_most_lit, at_most_bits}
-use Rattle.ilk_ints.specs.Named.{one_hot_bits, bound_lits_part_from, bound_bits, bound_vars_bits}
+use Rattle.ilk_ints.specs.Named.{one_hot_bits, bound_lits_part_from, bound_bits, at_most_vars_bits}
 use Rattle.ilk_ints.proofs.OneOfLaw.{map-left, first-two}
 use Rattle.ilk_ints.proofs.ValuesLaw.{assigned_bits_from_var-left}
 use Rattle.ilk_ints.proofs.AtMostLaw.{at_most-law, at_most-exact}
@@ -84,7 +84,7 @@ pub bounds-law : (es : List Literal) (a : List Bool) (first range k w n : ℕ) (
     assigned_bits_from_var a first (bit_count range) ≡ lowest_bits_of (bit_count range) w → is_clause_over n (below ∷ es) ≡ true →
     is_true a below ≡ ltb w k → map (is_true a) es ≡ one_hot_bits w k (length es) →
     ExtensionsAreExactly a (bound_lits_part_from first range below k es n).part.vars
-    (bound_lits_part_from first range below k es n).part.clauses (EqualsGivenValues (bound_vars_bits range w k (length es)))
+    (bound_lits_part_from first range below k es n).part.clauses (EqualsGivenValues (at_most_vars_bits range w k (length es)))
 bounds-law [] a first range k w n below size low some high enough less is inside under same = only_from_if a n [] [] (no_more_if a n [] true size refl)
 bounds-law (e ∷ es) a first range k w n below size low some high enough less is inside under same =
     let p = at_most_part range k below e n in
@@ -101,7 +101,7 @@ bounds-law (e ∷ es) a first range k w n below size low some high enough less i
     let next_same : map (is_true (a ++ b)) es ≡ one_hot_bits w (k + 1) (length es) = map-left a b es (rw size (and_parts _ _ (and_parts _ _ inside).1).1) ∙ others in
     let next = bounds-law es (a ++ b) first range (k + 1) w p.vars l long low some (omega (arith, high, grows)) enough less kept (next-inside first range k n below e es low some high inside) next_under next_same in
     let fits : length a ≤ p.vars = rw size grows in
-    one_by_one a b (bound_vars_bits range w (k + 1) (length es)) p.vars rest.part.vars p.clauses rest.part.clauses fits (bounds-low es first range (k + 1) p.vars l) (at_most-in range k n below e (first-two n below e es inside)) one next
+    one_by_one a b (at_most_vars_bits range w (k + 1) (length es)) p.vars rest.part.vars p.clauses rest.part.clauses fits (bounds-low es first range (k + 1) p.vars l) (at_most-in range k n below e (first-two n below e es inside)) one next
   where
     first_of : (p q : Bool) (ps qs : List Bool) → p ∷ ps ≡ q ∷ qs → p ≡ q
     first_of p q ps qs h = cc
@@ -115,14 +115,14 @@ pub bounds-say : (es : List Literal) (a c : List Bool) (first range k w n : ℕ)
     range ≤ 2 ^ bit_count range → w < range →
     assigned_bits_from_var a first (bit_count range) ≡ lowest_bits_of (bit_count range) w → is_clause_over n (below ∷ es) ≡ true →
     is_true a below ≡ ltb w k → map (is_true a) es ≡ one_hot_bits w k (length es) →
-    map (is_true (a ++ (bound_vars_bits range w k (length es) ++ c))) (bound_lits_part_from first range below k es n).lits
+    map (is_true (a ++ (at_most_vars_bits range w k (length es) ++ c))) (bound_lits_part_from first range below k es n).lits
     ≡ bound_bits w k (length es)
 bounds-say [] a c first range k w n below size low some high enough less is inside under same = refl
 bounds-say (e ∷ es) a c first range k w n below size low some high enough less is inside under same =
     let p = at_most_part range k below e n in
     let l = at_most_lit first range k n in
     let b = at_most_bits range k w in
-    let d = bound_vars_bits range w (k + 1) (length es) in
+    let d = at_most_vars_bits range w (k + 1) (length es) in
     let here : is_true a e ≡ eqb w k = first_of (is_true a e) (eqb w k) (map (is_true a) es) (one_hot_bits w (k + 1) (length es)) same in
     let others : map (is_true a) es ≡ one_hot_bits w (k + 1) (length es) = rest_of (is_true a e) (eqb w k) (map (is_true a) es) (one_hot_bits w (k + 1) (length es)) same in
     let one : ExtensionsAreExactly a p.vars p.clauses (EqualsGivenValues b) = at_most-law a range k w n below e size (first-two n below e es inside) under here in

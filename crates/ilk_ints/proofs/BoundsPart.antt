@@ -8,7 +8,7 @@ use Rattle.ilk_cnf.specs.Truth.{is_true}
 use Rattle.ilk_cnf.specs.Extends.{ExtensionsAreExactly, EqualsGivenValues}
 use Rattle.ilk_cnf.proofs.Extending.{no_more_if, only_from_if}
 use Rattle.ilk_ints.specs.Bits.{bit_count, lowest_bits_of, assigned_bits_from_var}
-use Rattle.ilk_ints.specs.Named.{one_hot_bits, bound_count, bound_lits_part_from, bound_lits_part, bound_bits, bound_vars_bits}
+use Rattle.ilk_ints.specs.Named.{one_hot_bits, bound_count, bound_lits_part_from, bound_lits_part, bound_bits, at_most_vars_bits}
 use Rattle.ilk_ints.proofs.AtMostLaw.{bits_some}
 use Rattle.ilk_ints.proofs.BoundsLaw.{bounds-law, bounds-say}
 
@@ -72,7 +72,7 @@ pub bound_lits_part-law : (values : List Literal) (a : List Bool) (first range w
     is_clause_over n values ≡ true → w < range → assigned_bits_from_var a first (bit_count range) ≡ lowest_bits_of (bit_count range) w →
     map (is_true a) values ≡ one_hot_bits w 0 range →
     ExtensionsAreExactly a (bound_lits_part first range values n).part.vars (bound_lits_part first range values n).part.clauses
-    (EqualsGivenValues (bound_vars_bits range w 1 (bound_count range)))
+    (EqualsGivenValues (at_most_vars_bits range w 1 (bound_count range)))
 bound_lits_part-law [] a first range w n size low high enough all inside less is says = absurd (omega arith)
 bound_lits_part-law (e ∷ es) a first range w n size low high enough all inside less is says =
     elim (cases_lt 1 range) [
@@ -80,13 +80,13 @@ bound_lits_part-law (e ∷ es) a first range w n size low high enough all inside
           (let r = ready a first range w n e es all inside says in
           subst
           (λ (j : ℕ). ExtensionsAreExactly a (bound_lits_part first range (e ∷ es) n).part.vars
-          (bound_lits_part first range (e ∷ es) n).part.clauses (EqualsGivenValues (bound_vars_bits range w 1 j))) r.count
+          (bound_lits_part first range (e ∷ es) n).part.clauses (EqualsGivenValues (at_most_vars_bits range w 1 j))) r.count
           (bounds-law (take (bound_count range) es) a first range 1 w n e size low
           (bits_some range (bit_count range) more enough) high enough less is r.inside r.under
           r.same))
       | inr one ↦
           (let none : 0 ≡ bound_count range = omega (arith, few_bounds range) in
-          subst (λ (j : ℕ). ExtensionsAreExactly a (bound_lits_part_from first range e 1 (take j es) n).part.vars (bound_lits_part_from first range e 1 (take j es) n).part.clauses (EqualsGivenValues (bound_vars_bits range w 1 j))) none
+          subst (λ (j : ℕ). ExtensionsAreExactly a (bound_lits_part_from first range e 1 (take j es) n).part.vars (bound_lits_part_from first range e 1 (take j es) n).part.clauses (EqualsGivenValues (at_most_vars_bits range w 1 j))) none
           (only_from_if a n [] [] (no_more_if a n [] true size refl)))
     ]
 
@@ -94,7 +94,7 @@ pub bound_lits_part-say : (values : List Literal) (a c : List Bool) (first range
     0 < first → first + bit_count range ≤ n + 1 → range ≤ 2 ^ bit_count range → length values ≡ range →
     is_clause_over n values ≡ true → w < range → assigned_bits_from_var a first (bit_count range) ≡ lowest_bits_of (bit_count range) w →
     map (is_true a) values ≡ one_hot_bits w 0 range →
-    map (is_true (a ++ (bound_vars_bits range w 1 (bound_count range) ++ c)))
+    map (is_true (a ++ (at_most_vars_bits range w 1 (bound_count range) ++ c)))
     (bound_lits_part first range values n).lits
     ≡ bound_bits w 1 (bound_count range)
 bound_lits_part-say [] a c first range w n size low high enough all inside less is says = absurd (omega arith)
@@ -104,7 +104,7 @@ bound_lits_part-say (e ∷ es) a c first range w n size low high enough all insi
           (let r = ready a first range w n e es all inside says in
           subst
           (λ (j : ℕ).
-          map (is_true (a ++ (bound_vars_bits range w 1 j ++ c)))
+          map (is_true (a ++ (at_most_vars_bits range w 1 j ++ c)))
           (bound_lits_part first range (e ∷ es) n).lits
           ≡ bound_bits w 1 j) r.count
           (bounds-say (take (bound_count range) es) a c first range 1 w n e size low
@@ -112,7 +112,7 @@ bound_lits_part-say (e ∷ es) a c first range w n size low high enough all insi
           r.same))
       | inr one ↦
           (let none : 0 ≡ bound_count range = omega (arith, few_bounds range) in
-          subst (λ (j : ℕ). map (is_true (a ++ (bound_vars_bits range w 1 j ++ c))) (bound_lits_part_from first range e 1 (take j es) n).lits ≡ bound_bits w 1 j) none refl)
+          subst (λ (j : ℕ). map (is_true (a ++ (at_most_vars_bits range w 1 j ++ c))) (bound_lits_part_from first range e 1 (take j es) n).lits ≡ bound_bits w 1 j) none refl)
     ]
 
 pub split-inside : (n k m : ℕ) (values : List Literal) (e : Literal) → 1 ≤ length values → e ≡ get_or values 0 e → is_clause_over n values ≡ true → is_clause_over n (e ∷ take k (take m (drop 1 values))) ≡ true

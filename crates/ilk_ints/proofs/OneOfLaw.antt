@@ -14,7 +14,7 @@ use Rattle.ilk_cnf.proofs.Parts.{value-new, is_true-left}
 use Rattle.ilk_cnf.proofs.Gates.{new-in, with_part-and_then}
 use Rattle.ilk_cnf.proofs.Extending.{one_more_if, no_more_if, if_then_if}
 use Rattle.ilk_ints.specs.declared.selection.TheConstants.{MAX_JOINED}
-use Rattle.ilk_ints.specs.OneOf.{at_most_one_clauses, disjoint_or_clauses, disjoint_or_part, exactly_one_of_few_part, join_until_few, exactly_one_part, exactly_one_true, some_true, join_bits, exactly_one_bits}
+use Rattle.ilk_ints.specs.OneOf.{at_most_one_clauses, disjoint_or_clauses, disjoint_or_part, exactly_one_of_few_part, join_until_few, exactly_one_part, exactly_one_true, some_true, join_until_few_bits, exactly_one_bits}
 use Rattle.ilk_ints.proofs.PairsLaw.{at_most_one_true, exactly_one-join, at_most_one-in, disjoint_or-in, few-say, disjoint_or-say, taken-in}
 
 pub map-left : (a b : List Bool) (ls : List Literal) → is_clause_over (length a) ls ≡ true → map (is_true (a ++ b)) ls ≡ map (is_true a) ls
@@ -83,7 +83,7 @@ either-law : (t : Bool) (a : List Bool) (ok : Bool) (p q : FormulaPart) (b c : L
 either-law true a ok p q b c one two = one
 either-law false a ok p q b c one two = two
 
-join_until_few-law : (k : ℕ) (ls : List Literal) (a : List Bool) (n : ℕ) → length a ≡ n → is_clause_over n ls ≡ true → PartLaw a (exactly_one_true (map (is_true a) ls)) (join_until_few k ls n) (join_bits k (map (is_true a) ls))
+join_until_few-law : (k : ℕ) (ls : List Literal) (a : List Bool) (n : ℕ) → length a ≡ n → is_clause_over n ls ≡ true → PartLaw a (exactly_one_true (map (is_true a) ls)) (join_until_few k ls n) (join_until_few_bits k (map (is_true a) ls))
 join_until_few-law zero ls a n size h = few-law a ls n size
 join_until_few-law (suc k) ls a n size h =
     let v = positive_lit (n + 1) in
@@ -100,16 +100,16 @@ join_until_few-law (suc k) ls a n size h =
     let first : PartLaw a (at_most_one_true front) (disjoint_or_part gs n) (p ∷ []) =
     subst (λ (gq : List Bool). PartLaw a (at_most_one_true gq) (disjoint_or_part gs n) (some_true gq ∷ [])) (sym (take-map (is_true a) MAX_JOINED ls)) (disjoint_or-law a gs n size parts.0) in
     let left : map (is_true (a ++ p ∷ [])) next ≡ back = next-true (drop MAX_JOINED ls) a p n size parts.1 ∙ ap (λ (xs : List Bool). xs ++ p ∷ []) (sym (drop-map (is_true a) MAX_JOINED ls)) in
-    let then : PartLaw (a ++ p ∷ []) (exactly_one_true back) (join_until_few k next (n + 1)) (join_bits k back) =
-    subst (λ (xs : List Bool). PartLaw (a ++ p ∷ []) (exactly_one_true xs) (join_until_few k next (n + 1)) (join_bits k xs)) left
+    let then : PartLaw (a ++ p ∷ []) (exactly_one_true back) (join_until_few k next (n + 1)) (join_until_few_bits k back) =
+    subst (λ (xs : List Bool). PartLaw (a ++ p ∷ []) (exactly_one_true xs) (join_until_few k next (n + 1)) (join_until_few_bits k xs)) left
     (join_until_few-law k next (a ++ p ∷ []) (n + 1) here (next-in (drop MAX_JOINED ls) n parts.1)) in
-    let both : PartLaw a (at_most_one_true front && exactly_one_true back) (and_then (disjoint_or_part gs n) (join_until_few k next)) (p ∷ join_bits k back) =
-    if_then_if a (p ∷ []) (join_bits k back) (at_most_one_true front) (exactly_one_true back) (n + 1) (join_until_few k next (n + 1)).vars (disjoint_or_clauses gs v) (join_until_few k next (n + 1)).clauses
+    let both : PartLaw a (at_most_one_true front && exactly_one_true back) (and_then (disjoint_or_part gs n) (join_until_few k next)) (p ∷ join_until_few_bits k back) =
+    if_then_if a (p ∷ []) (join_until_few_bits k back) (at_most_one_true front) (exactly_one_true back) (n + 1) (join_until_few k next (n + 1)).vars (disjoint_or_clauses gs v) (join_until_few k next (n + 1)).clauses
     fits (join_until_few-low k next (n + 1)) (disjoint_or-in gs n parts.0) first (λ _. then) in
-    let joined : PartLaw a (exactly_one_true qs) (and_then (disjoint_or_part gs n) (join_until_few k next)) (p ∷ join_bits k back) =
-    subst (λ (o : Bool). PartLaw a o (and_then (disjoint_or_part gs n) (join_until_few k next)) (p ∷ join_bits k back)) (exactly_one-join front (drop MAX_JOINED qs) ∙ ap exactly_one_true (take-append-drop MAX_JOINED qs)) both in
-    subst (λ (j : ℕ). PartLaw a (exactly_one_true qs) (join_until_few (suc k) ls n) (cond (nat_le j MAX_JOINED) [] (p ∷ join_bits k back))) (sym (length-map ls (is_true a)))
-    (either-law (nat_le (length ls) MAX_JOINED) a (exactly_one_true qs) (exactly_one_of_few_part ls n) (and_then (disjoint_or_part gs n) (join_until_few k next)) [] (p ∷ join_bits k back) (few-law a ls n size) joined)
+    let joined : PartLaw a (exactly_one_true qs) (and_then (disjoint_or_part gs n) (join_until_few k next)) (p ∷ join_until_few_bits k back) =
+    subst (λ (o : Bool). PartLaw a o (and_then (disjoint_or_part gs n) (join_until_few k next)) (p ∷ join_until_few_bits k back)) (exactly_one-join front (drop MAX_JOINED qs) ∙ ap exactly_one_true (take-append-drop MAX_JOINED qs)) both in
+    subst (λ (j : ℕ). PartLaw a (exactly_one_true qs) (join_until_few (suc k) ls n) (cond (nat_le j MAX_JOINED) [] (p ∷ join_until_few_bits k back))) (sym (length-map ls (is_true a)))
+    (either-law (nat_le (length ls) MAX_JOINED) a (exactly_one_true qs) (exactly_one_of_few_part ls n) (and_then (disjoint_or_part gs n) (join_until_few k next)) [] (p ∷ join_until_few_bits k back) (few-law a ls n size) joined)
 
 join_until_few-vars : (k : ℕ) (ls : List Literal) (n : ℕ) → (join_until_few k ls n).vars ≤ n + k
 join_until_few-vars zero ls n = omega arith
@@ -153,8 +153,8 @@ one_of-low ls n = join_until_few-low (length ls) ls n
 pub part-in : (ls : List Literal) (n : ℕ) → is_clause_over n ls ≡ true → are_clauses_over (exactly_one_part ls n).vars (exactly_one_part ls n).clauses ≡ true
 part-in ls n h = join_until_few-in (length ls) ls n h
 
-same_length : (ls : List Literal) (qs : List Bool) → length qs ≡ length ls → join_bits (length ls) qs ≡ exactly_one_bits qs
-same_length ls qs h = ap (λ (k : ℕ). join_bits k qs) (sym h)
+same_length : (ls : List Literal) (qs : List Bool) → length qs ≡ length ls → join_until_few_bits (length ls) qs ≡ exactly_one_bits qs
+same_length ls qs h = ap (λ (k : ℕ). join_until_few_bits k qs) (sym h)
 
 pub one_of-law : (ls : List Literal) (a : List Bool) (n : ℕ) → length a ≡ n → is_clause_over n ls ≡ true
     → ExtensionsAreExactly a (exactly_one_part ls n).vars (exactly_one_part ls n).clauses (PassesAndEqualsGivenValues (exactly_one_true (map (is_true a) ls)) (exactly_one_bits (map (is_true a) ls)))

@@ -80,6 +80,6 @@ bound_bits w k zero = []
 bound_bits w k (suc j) = nat_le w k ∷ bound_bits w (k + 1) j
 
 -- The truth values of the variables for `j` bounds from `k` on, if the integer is `w`.
-abbrev pub bound_vars_bits : ℕ → ℕ → ℕ → ℕ → List Bool
-bound_vars_bits range w k zero = []
-bound_vars_bits range w k (suc j) = at_most_bits range k w ++ bound_vars_bits range w (k + 1) j
+abbrev pub at_most_vars_bits : ℕ → ℕ → ℕ → ℕ → List Bool
+at_most_vars_bits range w k zero = []
+at_most_vars_bits range w k (suc j) = at_most_bits range k w ++ at_most_vars_bits range w (k + 1) j

@@ -60,13 +60,13 @@ some_true qs = list_any (λ q. q) qs
 
 -- The truth values of the new variables of `join_until_few`, if the literals have these truth
 -- values.
-abbrev pub join_bits : ℕ → List Bool → List Bool
-join_bits zero qs = []
-join_bits (suc k) qs =
+abbrev pub join_until_few_bits : ℕ → List Bool → List Bool
+join_until_few_bits zero qs = []
+join_until_few_bits (suc k) qs =
     if nat_le (length qs) MAX_JOINED
     then []
-    else some_true (take MAX_JOINED qs) ∷ join_bits k (drop MAX_JOINED qs ++ some_true (take MAX_JOINED qs) ∷ [])
+    else some_true (take MAX_JOINED qs) ∷ join_until_few_bits k (drop MAX_JOINED qs ++ some_true (take MAX_JOINED qs) ∷ [])
 
 -- The values of the new variables of `exactly_one_part`, if the literals have these values.
 abbrev pub exactly_one_bits : List Bool → List Bool
-exactly_one_bits qs = join_bits (length qs) qs
+exactly_one_bits qs = join_until_few_bits (length qs) qs

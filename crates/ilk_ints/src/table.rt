@@ -6,7 +6,7 @@ ghost use Rattle.ilk_cnf.specs.Part.{with_part};
 ghost use Rattle.ilk_cnf.specs.Truth.{is_true};
 ghost use Rattle.ilk_ints.specs.Bits.{bit_count, assigned_bits_from_var, lowest_bits_of};
 ghost use Rattle.ilk_ints.specs.Number.{value_lit_part};
-ghost use Rattle.ilk_ints.specs.Named.{value_lits_part_from, value_lits_part, one_hot_bits, one_hot_var_bits, value_var_count, bound_var_count, value_bound_var_count, bound_count, bound_lits_part_from, bound_lits_part, bound_bits, bound_vars_bits};
+ghost use Rattle.ilk_ints.specs.Named.{value_lits_part_from, value_lits_part, one_hot_bits, one_hot_var_bits, value_var_count, bound_var_count, value_bound_var_count, bound_count, bound_lits_part_from, bound_lits_part, bound_bits, at_most_vars_bits};
 
 use crate::bounded::{
     Bounded, add_value_lit_clauses, add_vars_to_cnf, bit_count, one_bit_value_lit,
@@ -251,13 +251,13 @@ pub fn add_bound_lits(
         ≡ lowest_bits_of (bit_count n.range) w →
         map (is_true a) values.now ≡ one_hot_bits w 0 n.range →
         PartExtensionsAreExactly a (bound_lits_part n.first n.range values.now used.old).part
-        (EqualsGivenValues (bound_vars_bits n.range w 1 (bound_count n.range)))) }
+        (EqualsGivenValues (at_most_vars_bits n.range w 1 (bound_count n.range)))) }
     ensures exact { OnOk result
         ((a c : List Bool) (w : ℕ) → length a ≡ used.old → w < n.range →
         assigned_bits_from_var a n.first (bit_count n.range)
         ≡ lowest_bits_of (bit_count n.range) w →
         map (is_true a) values.now ≡ one_hot_bits w 0 n.range →
-        map (is_true (a ++ (bound_vars_bits n.range w 1 (bound_count n.range) ++ c)))
+        map (is_true (a ++ (at_most_vars_bits n.range w 1 (bound_count n.range) ++ c)))
         (bound_lits_part n.first n.range values.now used.old).lits
         ≡ bound_bits w 1 (bound_count n.range)) }
 {

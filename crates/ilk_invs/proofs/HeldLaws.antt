@@ -23,7 +23,7 @@ use Rattle.ilk_model.specs.Holding.{holds_section, is_holding_state, is_unreleas
 use Rattle.ilk_layout.specs.Image.{image_of}
 use Rattle.ilk_layout.specs.Conditions.{is_released_count, is_seen_count}
 use Rattle.ilk_layout.proofs.ConditionValues.{mode-holds, rel-holds, seen-holds}
-use Rattle.ilk_invs.specs.Held.{path_section_held, section_held_by, section_retained_by, route_holds_sections, section_on_unreleased_path, route_locked_or_occupied, rel_below, seen_below}
+use Rattle.ilk_invs.specs.Held.{path_section_held, section_held_by, section_retained_by, mode_holds_sections, section_on_unreleased_path, route_locked_or_occupied, rel_below, seen_below}
 use Rattle.ilk_invs.proofs.PartLaws.{any-if, marked_pair-holds, some_of-holds}
 use Rattle.ilk_invs.proofs.Tests.{counted-below, found-at, list_any-flat_map}
 
@@ -81,8 +81,8 @@ module _ (p : PlantLists) (s : State) (shape : HasShape p s) where
       none_of Locked = refl
       none_of Occupied = refl
 
-  pub route_holds_sections-holds : (r : ℕ) (now : RouteState) → slice_get s.routes r ≡ Some now → tree_holds (image_of p s) (route_holds_sections r) ≡ is_holding_state now
-  route_holds_sections-holds r now at =
+  pub mode_holds_sections-holds : (r : ℕ) (now : RouteState) → slice_get s.routes r ≡ Some now → tree_holds (image_of p s) (mode_holds_sections r) ≡ is_holding_state now
+  mode_holds_sections-holds r now at =
       let one = mode-holds p s shape r now Free at in
       let two = mode-holds p s shape r now Marked at in
       rw (one, two) (neither now.mode)
@@ -114,14 +114,14 @@ module _ (p : PlantLists) (s : State) (shape : HasShape p s) where
   section_held_by-holds r route now x known at = by_test (contains_section x (sections_outside_path route)) refl
     where
       by_test : (b : Bool) → contains_section x (sections_outside_path route) ≡ b → tree_holds (image_of p s) (section_held_by r route x) ≡ holds_section x route now
-      by_test true e = rw e (route_holds_sections-holds r now at ∙ sym (and-true (is_holding_state now)))
+      by_test true e = rw e (mode_holds_sections-holds r now at ∙ sym (and-true (is_holding_state now)))
       by_test false e =
-          rw e (marked_pair-holds (image_of p s) (route_holds_sections r) (section_on_unreleased_path r route x) (is_holding_state now) (is_unreleased_on_path route now x) (route_holds_sections-holds r now at)
+          rw e (marked_pair-holds (image_of p s) (mode_holds_sections r) (section_on_unreleased_path r route x) (is_holding_state now) (is_unreleased_on_path route now x) (mode_holds_sections-holds r now at)
           (section_on_unreleased_path-holds r route now x known at))
 
   pub path_section_held-holds : (r : ℕ) (now : RouteState) (i : ℕ) → slice_get s.routes r ≡ Some now → tree_holds (image_of p s) (path_section_held r i) ≡ (is_holding_state now && nat_le now.rel i)
   path_section_held-holds r now i at =
-      marked_pair-holds (image_of p s) (route_holds_sections r) (rel_below r (i + 1)) (is_holding_state now) (nat_le now.rel i) (route_holds_sections-holds r now at) (rel_below-holds r now (i + 1) at ∙ below-next now.rel i)
+      marked_pair-holds (image_of p s) (mode_holds_sections r) (rel_below r (i + 1)) (is_holding_state now) (nat_le now.rel i) (mode_holds_sections-holds r now at) (rel_below-holds r now (i + 1) at ∙ below-next now.rel i)
 
   pub section_retained_by-holds : (r : ℕ) (route : Route) (now : RouteState) (x : ℕ) → slice_get p.routes r ≡ Some route → slice_get s.routes r ≡ Some now → tree_holds (image_of p s) (section_retained_by r route x) ≡
       (is_locked_or_occupied now && is_unreleased_on_path route now x)

@@ -26,10 +26,10 @@ use Rattle.ilk_model.specs.Holding.{all_path_indices_pass_test, is_holding_state
 use Rattle.ilk_layout.specs.Image.{image_of}
 use Rattle.ilk_layout.specs.Conditions.{lock_is}
 use Rattle.ilk_layout.proofs.ConditionValues.{lock-holds}
-use Rattle.ilk_invs.specs.Held.{path_section_held, section_held_by, route_holds_sections, seen_below}
+use Rattle.ilk_invs.specs.Held.{path_section_held, section_held_by, mode_holds_sections, seen_below}
 use Rattle.ilk_invs.specs.HoldFamilies.{possible_holders, path_lock_matches_seen, held_sections_have_locks, is_possible_holder, none_before_if_holding, none_holding, route_holding, v3_locks_match_routes_tree}
 use Rattle.ilk_invs.specs.Parts.{each_of, conditions_of_each_path_index, conditions_of_each_route, implication}
-use Rattle.ilk_invs.proofs.HeldLaws.{below-next, path_section_held-holds, section_held_by-holds, route_holds_sections-holds, seen_below-holds}
+use Rattle.ilk_invs.proofs.HeldLaws.{below-next, path_section_held-holds, section_held_by-holds, mode_holds_sections-holds, seen_below-holds}
 use Rattle.ilk_invs.proofs.PartLaws.{each-place, each-route, each_of-holds, state_of_route, where-holds}
 use Rattle.ilk_invs.proofs.Tests.{dropped-at}
 use Rattle.ilk_routes.proofs.Shape.{beside-known}
@@ -152,15 +152,15 @@ module _ (p : PlantLists) (plant : IsPlant p) (s : State) (shape : HasShape p s)
       ∙ list_all-alike (λ x. tree_holds (image_of p s) (locked_if_holding x))
       (λ x. if is_holding_state now then has_lock_state s x LockedLock else true) (sections_outside_path route)
       (λ i x found.
-      where-holds (image_of p s) (route_holds_sections r) (lock_is p x LockedLock) (is_holding_state now) (has_lock_state s x LockedLock)
-      (route_holds_sections-holds p s shape r now at) (lock-holds p s shape x LockedLock (beside-known p route of i x found))) in
+      where-holds (image_of p s) (mode_holds_sections r) (lock_is p x LockedLock) (is_holding_state now) (has_lock_state s x LockedLock)
+      (mode_holds_sections-holds p s shape r now at) (lock-holds p s shape x LockedLock (beside-known p route of i x found))) in
       list_all-append (tree_holds (image_of p s)) (conditions_of_each_path_index route (path_lock_matches_seen p r)) (map locked_if_holding (sections_outside_path route))
       ∙ ap (λ v. v && list_all (tree_holds (image_of p s)) (map locked_if_holding (sections_outside_path route))) places
       ∙ ap (λ v. all_path_indices_pass_test route (λ i x. not (is_holding_state now && nat_le now.rel i) || has_lock_state s x (path_section_lock now i)) && v) beside
       ∙ by_holding (is_holding_state now)
     where
       locked_if_holding : ℕ → Tree
-      locked_if_holding x = implication (route_holds_sections r) (lock_is p x LockedLock)
+      locked_if_holding x = implication (mode_holds_sections r) (lock_is p x LockedLock)
 
       by_holding : (b : Bool) →
           (all_path_indices_pass_test route (λ i x. not (b && nat_le now.rel i) || has_lock_state s x (path_section_lock now i))

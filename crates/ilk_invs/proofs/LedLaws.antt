@@ -30,7 +30,7 @@ use Rattle.ilk_layout.specs.Conditions.{is_board_aspect, mode_is, no_train_at}
 use Rattle.ilk_layout.proofs.ConditionValues.{board-holds, mode-holds, occupancy-holds}
 use Rattle.ilk_invs.specs.Held.{route_locked_or_occupied, seen_below}
 use Rattle.ilk_invs.specs.Parts.{conditions_of_each_path_index, conditions_of_each_route, some_of}
-use Rattle.ilk_invs.specs.TrainFamilies.{body_at, head_at, route_set_for_head_at, route_entered, route_set_and_clear_past, no_section_seen_past}
+use Rattle.ilk_invs.specs.TrainFamilies.{body_at, head_at, route_set_for_head_at, occupied_or_locked_source_closed, route_set_and_clear_past, no_section_seen_past}
 use Rattle.ilk_invs.proofs.HeldLaws.{below-next, route_locked_or_occupied-holds, seen_below-holds}
 use Rattle.ilk_invs.proofs.PartLaws.{any-if, each_of-holds, marked_pair-holds, some-place, some-route, vacant-all}
 use Rattle.ilk_invs.proofs.Tests.{dropped-at, list_any-never}
@@ -73,9 +73,9 @@ module _ (p : PlantLists) (plant : IsPlant p) (s : State) (shape : HasShape p s)
         rw ends (sym within))
   ]
 
-  route_entered-holds : (r : ℕ) (route : Route) (now : RouteState) → slice_get p.routes r ≡ Some route → slice_get s.routes r ≡ Some now →
-      tree_holds (image_of p s) (route_entered p r route) ≡ (same_mode now.mode Occupied || (same_mode now.mode Locked && has_aspect s route.source Closed))
-  route_entered-holds r route now known at =
+  occupied_or_locked_source_closed-holds : (r : ℕ) (route : Route) (now : RouteState) → slice_get p.routes r ≡ Some route → slice_get s.routes r ≡ Some now →
+      tree_holds (image_of p s) (occupied_or_locked_source_closed p r route) ≡ (same_mode now.mode Occupied || (same_mode now.mode Locked && has_aspect s route.source Closed))
+  occupied_or_locked_source_closed-holds r route now known at =
       let occupied = mode-holds p s shape r now Occupied at in
       let closed = board-holds p s shape route.source Closed (plant.routes_known r route known).source in
       let either : tree_holds (image_of p s) (some_of (mode_is r Occupied ∷ is_board_aspect p route.source Closed ∷ [])) ≡ (same_mode now.mode Occupied || has_aspect s route.source Closed) =
@@ -99,11 +99,11 @@ module _ (p : PlantLists) (plant : IsPlant p) (s : State) (shape : HasShape p s)
       && (nat_le now.seen (i + 1) && list_all (is_vacant s) (drop (i + 1) route.path)))
   route_set_and_clear_past-holds r route now i known at =
       let of = plant.routes_known r route known in
-      let entered = route_entered-holds r route now known at in
+      let entered = occupied_or_locked_source_closed-holds r route now known at in
       let seen = no_section_seen_past-holds r route now i known at in
       let vacant = vacant-all p s shape calm (drop (i + 1) route.path) (λ k x found. all-at (λ x. x < length p.sections) route.path ((i + 1) + k) x of.path (dropped-at (i + 1) route.path k x found)) in
-      each_of-holds (image_of p s) (route_entered p r route ∷ (no_section_seen_past r route i ++ map (no_train_at p) (drop (i + 1) route.path)))
-      ∙ ap (λ v. tree_holds (image_of p s) (route_entered p r route) && v)
+      each_of-holds (image_of p s) (occupied_or_locked_source_closed p r route ∷ (no_section_seen_past r route i ++ map (no_train_at p) (drop (i + 1) route.path)))
+      ∙ ap (λ v. tree_holds (image_of p s) (occupied_or_locked_source_closed p r route) && v)
       (list_all-append (tree_holds (image_of p s)) (no_section_seen_past r route i) (map (no_train_at p) (drop (i + 1) route.path)))
       ∙ rw (entered, seen, vacant) refl
 

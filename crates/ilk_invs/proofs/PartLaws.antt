@@ -21,7 +21,7 @@ use Rattle.ilk_model.specs.Holding.{all_path_indices_pass_test, all_routes_pass_
 use Rattle.ilk_layout.specs.Image.{image_of}
 use Rattle.ilk_layout.specs.Conditions.{no_train_at}
 use Rattle.ilk_layout.proofs.ConditionValues.{vacant-holds}
-use Rattle.ilk_invs.specs.Parts.{as_one_literal, conditions_for_optional_value, each_of, conditions_of_each_path_index, conditions_of_each_route, some_of, implication}
+use Rattle.ilk_invs.specs.Parts.{with_one_literal_mark, conditions_for_optional_value, each_of, conditions_of_each_path_index, conditions_of_each_route, some_of, implication}
 use Rattle.ilk_invs.proofs.Tests.{list_any-flat_map}
 
 pub then-this : (a b : Bool) → (not a || (b || false)) ≡ (if a then b else true)
@@ -38,7 +38,7 @@ some_of-holds values ts = any_of-holds values ts
 pub where-holds : (values : List ℕ) (t u : Tree) (a b : Bool) → tree_holds values t ≡ a → tree_holds values u ≡ b → tree_holds values (implication t u) ≡ (if a then b else true)
 where-holds values t u a b one two = rw (one, two) (then-this a b)
 
-pub marked_pair-holds : (values : List ℕ) (t u : Tree) (a b : Bool) → tree_holds values t ≡ a → tree_holds values u ≡ b → tree_holds values (as_one_literal (each_of (t ∷ u ∷ []))) ≡ (a && b)
+pub marked_pair-holds : (values : List ℕ) (t u : Tree) (a b : Bool) → tree_holds values t ≡ a → tree_holds values u ≡ b → tree_holds values (with_one_literal_mark (each_of (t ∷ u ∷ []))) ≡ (a && b)
 marked_pair-holds values t u a b one two = rw (one, two) (both a b)
   where
     both : (a b : Bool) → not (not (a && (b && true))) ≡ (a && b)

@@ -34,7 +34,7 @@ use Rattle.ilk_layout.proofs.Calm.{body-of, occupancy-in, taken-in}
 use Rattle.ilk_layout.proofs.Plants.{body-known}
 use Rattle.ilk_invs.specs.Held.{section_retained_by}
 use Rattle.ilk_invs.specs.Parts.{conditions_of_each_route, some_of}
-use Rattle.ilk_invs.specs.TrainFamilies.{body_at, head_at, route_retains_at, body_has_route_set_at, route_set_for_head_at, head_has_route_set_at, v7_heads_have_routes_tree, v8_bodies_have_routes_tree}
+use Rattle.ilk_invs.specs.TrainFamilies.{body_at, head_at, route_retains_in_direction, body_has_route_set_at, route_set_for_head_at, head_has_route_set_at, v7_heads_have_routes_tree, v8_bodies_have_routes_tree}
 use Rattle.ilk_invs.proofs.HeldLaws.{section_retained_by-holds}
 use Rattle.ilk_invs.proofs.PartLaws.{any-if, each_of-holds, some-route, some_of-holds}
 use Rattle.ilk_invs.proofs.PointLaws.{not-kept}
@@ -42,11 +42,11 @@ use Rattle.ilk_invs.proofs.LedLaws.{body_at-holds, head_at-holds, led-holds}
 use Rattle.ilk_invs.proofs.OccupancyLaws.{has_head_in, has_train_in, last-place, own-head, own-train, passes-then, same-taken, taken-head, taken-train, then-passes}
 
 module _ (p : PlantLists) (plant : IsPlant p) (s : State) (shape : HasShape p s) (calm : hazard p s ≡ None) where
-  route_retains_at-holds : (d : Dir) (x r : ℕ) (route : Route) (now : RouteState) →
+  route_retains_in_direction-holds : (d : Dir) (x r : ℕ) (route : Route) (now : RouteState) →
       slice_get p.routes r ≡ Some route → slice_get s.routes r ≡ Some now →
-      list_any (tree_holds (image_of p s)) (route_retains_at p d x r route)
+      list_any (tree_holds (image_of p s)) (route_retains_in_direction p d x r route)
       ≡ (route_runs_in_direction p d route && is_locked_or_occupied now && is_unreleased_on_path route now x)
-  route_retains_at-holds d x r route now known at =
+  route_retains_in_direction-holds d x r route now known at =
       any-if (image_of p s) (section_retained_by r route x) (route_runs_in_direction p d route && contains_section x route.path)
       ∙ ap (λ v. (route_runs_in_direction p d route && contains_section x route.path) && v) (section_retained_by-holds p s shape r route now x known at)
       ∙ by_path (contains_section x route.path) refl
@@ -74,10 +74,10 @@ module _ (p : PlantLists) (plant : IsPlant p) (s : State) (shape : HasShape p s)
           ∙ without (route_runs_in_direction p d route) (is_locked_or_occupied now)
           ∙ ap (λ v. route_runs_in_direction p d route && is_locked_or_occupied now && v) (sym none)
 
-  kept-holds : (d : Dir) (x : ℕ) → list_any (tree_holds (image_of p s)) (conditions_of_each_route p (route_retains_at p d x)) ≡ is_unreleased_on_some_route p s d x
+  kept-holds : (d : Dir) (x : ℕ) → list_any (tree_holds (image_of p s)) (conditions_of_each_route p (route_retains_in_direction p d x)) ≡ is_unreleased_on_some_route p s d x
   kept-holds d x =
-      some-route p s shape (image_of p s) (route_retains_at p d x) (λ route now. route_runs_in_direction p d route && is_locked_or_occupied now && is_unreleased_on_path route now x)
-      (λ r route now known at. route_retains_at-holds d x r route now known at)
+      some-route p s shape (image_of p s) (route_retains_in_direction p d x) (λ route now. route_runs_in_direction p d route && is_locked_or_occupied now && is_unreleased_on_path route now x)
+      (λ r route now known at. route_retains_in_direction-holds d x r route now known at)
 
   instance-holds : (t : Tree) (ts : List Tree) (a b plain : Bool) → tree_holds (image_of p s) t ≡ a →
       list_any (tree_holds (image_of p s)) ts ≡ b →
@@ -96,7 +96,7 @@ module _ (p : PlantLists) (plant : IsPlant p) (s : State) (shape : HasShape p s)
   body_has_route_set_at-holds : (d : Dir) (x : ℕ) → x < length p.sections → list_all (tree_holds (image_of p s)) (body_has_route_set_at p d x)
       ≡ (if continues_without_board p d x then not (has_train_in d (occupancy_or_crash p s x)) || is_unreleased_on_some_route p s d x else true)
   body_has_route_set_at-holds d x within =
-      instance-holds (body_at p d x) (conditions_of_each_route p (route_retains_at p d x)) (has_train_in d (occupancy_or_crash p s x)) (is_unreleased_on_some_route p s d x) (continues_without_board p d x)
+      instance-holds (body_at p d x) (conditions_of_each_route p (route_retains_in_direction p d x)) (has_train_in d (occupancy_or_crash p s x)) (is_unreleased_on_some_route p s d x) (continues_without_board p d x)
       (body_at-holds p plant s shape calm d x within) (kept-holds d x)
 
   all-sections : (f : Dir → ℕ → List Tree) (test : Dir → ℕ → Bool) →

@@ -16,8 +16,8 @@ use Rattle.ilk_routes.specs.Claims.{sections_outside_path}
 use Rattle.ilk_layout.specs.Variables.{ranges_of_plant}
 use Rattle.ilk_layout.specs.Conditions.{mode_is, no_train_at, is_released_count, is_seen_count}
 use Rattle.ilk_layout.proofs.Valid.{mode_is-valid, no_train_at-valid, is_released_count-valid, is_seen_count-valid}
-use Rattle.ilk_invs.specs.Held.{path_section_held, section_held_by, section_retained_by, route_holds_sections, section_on_unreleased_path, route_locked_or_occupied, rel_below, seen_below}
-use Rattle.ilk_invs.specs.Parts.{as_one_literal, conditions_for_optional_value, each_of, conditions_of_each_path_index, conditions_of_each_route, some_of, implication}
+use Rattle.ilk_invs.specs.Held.{path_section_held, section_held_by, section_retained_by, mode_holds_sections, section_on_unreleased_path, route_locked_or_occupied, rel_below, seen_below}
+use Rattle.ilk_invs.specs.Parts.{with_one_literal_mark, conditions_for_optional_value, each_of, conditions_of_each_path_index, conditions_of_each_route, some_of, implication}
 use Rattle.ilk_invs.specs.RouteFamilies.{path_vacant}
 
 module _ (p : PlantLists) (plant : IsPlant p) where
@@ -102,8 +102,8 @@ module _ (p : PlantLists) (plant : IsPlant p) where
       (mode_is-valid p r Free within) (mode_is-valid p r Marked within)
       (mode_is-valid p r Allocating within))
 
-  pub route_holds_sections-valid : (r : ℕ) → r < length p.routes → tree_valid (ranges_of_plant p) (route_holds_sections r) ≡ true
-  route_holds_sections-valid r within =
+  pub mode_holds_sections-valid : (r : ℕ) → r < length p.routes → tree_valid (ranges_of_plant p) (mode_holds_sections r) ≡ true
+  mode_holds_sections-valid r within =
       some_of-valid (mode_is r Free ∷ mode_is r Marked ∷ []) (two-valid (mode_is r Free) (mode_is r Marked) (mode_is-valid p r Free within) (mode_is-valid p r Marked within))
 
   pub section_retained_by-valid : (r : ℕ) (route : Route) (x : ℕ) → slice_get p.routes r ≡ Some route → tree_valid (ranges_of_plant p) (section_retained_by r route x) ≡ true
@@ -114,15 +114,15 @@ module _ (p : PlantLists) (plant : IsPlant p) where
   pub section_held_by-valid : (r : ℕ) (route : Route) (x : ℕ) → slice_get p.routes r ≡ Some route → tree_valid (ranges_of_plant p) (section_held_by r route x) ≡ true
   section_held_by-valid r route x known = by_test (contains_section x (sections_outside_path route))
     where
-      by_test : (b : Bool) → tree_valid (ranges_of_plant p) (if b then route_holds_sections r else as_one_literal (each_of (route_holds_sections r ∷ section_on_unreleased_path r route x ∷ []))) ≡ true
-      by_test true = route_holds_sections-valid r (slice_get_within p.routes r route known)
+      by_test : (b : Bool) → tree_valid (ranges_of_plant p) (if b then mode_holds_sections r else with_one_literal_mark (each_of (mode_holds_sections r ∷ section_on_unreleased_path r route x ∷ []))) ≡ true
+      by_test true = mode_holds_sections-valid r (slice_get_within p.routes r route known)
       by_test false =
-          each_of-valid (route_holds_sections r ∷ section_on_unreleased_path r route x ∷ []) (two-valid (route_holds_sections r) (section_on_unreleased_path r route x) (route_holds_sections-valid r (slice_get_within
+          each_of-valid (mode_holds_sections r ∷ section_on_unreleased_path r route x ∷ []) (two-valid (mode_holds_sections r) (section_on_unreleased_path r route x) (mode_holds_sections-valid r (slice_get_within
           p.routes r route known)) (section_on_unreleased_path-valid r route x known))
 
   pub path_section_held-valid : (r i : ℕ) (route : Route) → slice_get p.routes r ≡ Some route → i < length route.path → tree_valid (ranges_of_plant p) (path_section_held r i) ≡ true
   path_section_held-valid r i route known less =
-      each_of-valid (route_holds_sections r ∷ rel_below r (i + 1) ∷ []) (two-valid (route_holds_sections r) (rel_below r (i + 1)) (route_holds_sections-valid r (slice_get_within p.routes r route known))
+      each_of-valid (mode_holds_sections r ∷ rel_below r (i + 1) ∷ []) (two-valid (mode_holds_sections r) (rel_below r (i + 1)) (mode_holds_sections-valid r (slice_get_within p.routes r route known))
       (rel_below-valid r (i + 1) route known (omega (arith, less))))
 
   pub path_known : (r : ℕ) (route : Route) (i x : ℕ) → slice_get p.routes r ≡ Some route → slice_get route.path i ≡ Some x → x < length p.sections

@@ -15,14 +15,14 @@ use Rattle.ilk_layout.specs.Variables.{ranges_of_plant}
 use Rattle.ilk_layout.specs.Conditions.{is_board_aspect, is_listed_point_commanded, is_listed_point_detected, lock_is, mode_is, is_released_count, is_seen_count}
 use Rattle.ilk_layout.proofs.Listed.{is_listed_point_commanded-valid}
 use Rattle.ilk_layout.proofs.Valid.{is_board_aspect-valid, is_listed_point_detected-valid, lock_is-valid, mode_is-valid, is_released_count-valid, is_seen_count-valid}
-use Rattle.ilk_invs.specs.Held.{path_section_held, section_held_by, section_retained_by, route_holds_sections, rel_below, seen_below}
+use Rattle.ilk_invs.specs.Held.{path_section_held, section_held_by, section_retained_by, mode_holds_sections, rel_below, seen_below}
 use Rattle.ilk_invs.specs.declared.hold_family.TheConstants.{MAX_ORDERED_HOLDERS}
 use Rattle.ilk_invs.specs.HoldFamilies.{at_most_one_by_halves, at_most_one_in_order, at_most_one_holder, possible_holders, path_lock_matches_seen, held_sections_have_locks, none_before_if_holding, none_holding, not_held_by_both_groups, route_holding, v2_sections_held_once_tree, v3_locks_match_routes_tree}
 use Rattle.ilk_invs.specs.Parts.{each_of, conditions_of_each_path_index, conditions_of_each_route, some_of, implication}
 use Rattle.ilk_invs.specs.PointFamily.{listed_points_on_path, point_matches_route_mode, v6_points_match_modes_tree}
 use Rattle.ilk_invs.specs.RouteFamilies.{counts_are_consistent, open_only_for_route, path_vacant, v1_consistent_counts_tree, v4_allocating_paths_vacant_tree, v5_open_needs_locked_tree}
 use Rattle.ilk_routes.proofs.Shape.{beside-known}
-use Rattle.ilk_invs.proofs.ValidParts.{conditions_for_optional_value-valid, each_of-valid, flat_map-valid, section_held_by-valid, if-valid, route_holds_sections-valid, joined-valid, map-valid, more-valid, one-valid, path_known, path_section_held-valid, path_vacant-valid, places-valid, rel_below-valid, routes-valid, section_retained_by-valid, seen_below-valid, some_of-valid, three-valid, two-valid, implication-valid}
+use Rattle.ilk_invs.proofs.ValidParts.{conditions_for_optional_value-valid, each_of-valid, flat_map-valid, section_held_by-valid, if-valid, mode_holds_sections-valid, joined-valid, map-valid, more-valid, one-valid, path_known, path_section_held-valid, path_vacant-valid, places-valid, rel_below-valid, routes-valid, section_retained_by-valid, seen_below-valid, some_of-valid, three-valid, two-valid, implication-valid}
 
 module _ (p : PlantLists) (plant : IsPlant p) where
   pub v1-valid : tree_valid (ranges_of_plant p) (v1_consistent_counts_tree p) ≡ true
@@ -115,11 +115,11 @@ module _ (p : PlantLists) (plant : IsPlant p) where
   v3-valid =
       each_of-valid p plant (conditions_of_each_route p (held_sections_have_locks p)) (routes-valid p plant (held_sections_have_locks p) (λ r route known.
       joined-valid p plant (conditions_of_each_path_index route (path_lock_matches_seen p r))
-      (map (λ x. implication (route_holds_sections r) (lock_is p x LockedLock)) (sections_outside_path route))
+      (map (λ x. implication (mode_holds_sections r) (lock_is p x LockedLock)) (sections_outside_path route))
       (places-valid p plant route (path_lock_matches_seen p r) (λ i x at. of_place r route i x known at (slice_get_within route.path i x at)))
-      (map-valid p plant (λ x. implication (route_holds_sections r) (lock_is p x LockedLock)) (sections_outside_path route) (λ i x at.
-      implication-valid p plant (route_holds_sections r) (lock_is p x LockedLock)
-      (route_holds_sections-valid p plant r (slice_get_within p.routes r route known))
+      (map-valid p plant (λ x. implication (mode_holds_sections r) (lock_is p x LockedLock)) (sections_outside_path route) (λ i x at.
+      implication-valid p plant (mode_holds_sections r) (lock_is p x LockedLock)
+      (mode_holds_sections-valid p plant r (slice_get_within p.routes r route known))
       (lock_is-valid p x LockedLock (beside-known p route (plant.routes_known r route known) i x at))))))
     where
       of_place : (r : ℕ) (route : Route) (i x : ℕ) → slice_get p.routes r ≡ Some route → slice_get route.path i ≡ Some x → i < length route.path → list_all (tree_valid (ranges_of_plant p)) (path_lock_matches_seen p r i x) ≡ true

@@ -24,7 +24,7 @@ use Rattle.ilk_invs.specs.HoldFamilies.{v2_sections_held_once_tree, v3_locks_mat
 use Rattle.ilk_invs.specs.Parts.{each_of, conditions_of_each_path_index, conditions_of_each_route, some_of, implication}
 use Rattle.ilk_invs.specs.PointFamily.{v6_points_match_modes_tree}
 use Rattle.ilk_invs.specs.RouteFamilies.{v1_consistent_counts_tree, v4_allocating_paths_vacant_tree, v5_open_needs_locked_tree, v9_protecting_boards_closed_tree}
-use Rattle.ilk_invs.specs.TrainFamilies.{body_at, head_at, route_retains_at, body_has_route_set_at, route_set_for_head_at, route_entered, route_set_and_clear_past, head_has_route_set_at, no_section_seen_past, v7_heads_have_routes_tree, v8_bodies_have_routes_tree, vacant_or_up}
+use Rattle.ilk_invs.specs.TrainFamilies.{body_at, head_at, route_retains_in_direction, body_has_route_set_at, route_set_for_head_at, occupied_or_locked_source_closed, route_set_and_clear_past, head_has_route_set_at, no_section_seen_past, v7_heads_have_routes_tree, v8_bodies_have_routes_tree, vacant_or_up}
 use Rattle.ilk_invs.proofs.Tests.{dropped-at}
 use Rattle.ilk_invs.proofs.ValidParts.{each_of-valid, flat_map-valid, if-valid, joined-valid, map-valid, more-valid, one-valid, path_known, places-valid, route_locked_or_occupied-valid, routes-valid, section_retained_by-valid, seen_below-valid, some_of-valid, two-valid, implication-valid}
 use Rattle.ilk_invs.proofs.ValidRouteTrees.{v1-valid, v2-valid, v3-valid, v4-valid, v5-valid, v6-valid}
@@ -52,8 +52,8 @@ module _ (p : PlantLists) (plant : IsPlant p) where
   no_section_seen_past-valid r route i known less =
       if-valid p plant (nat_lt (i + 1) (length route.path)) (seen_below r (i + 2) ∷ []) (one-valid p plant (seen_below r (i + 2)) (seen_below-valid p plant r (i + 2) route known (omega (arith, less))))
 
-  route_entered-valid : (r : ℕ) (route : Route) → slice_get p.routes r ≡ Some route → tree_valid (ranges_of_plant p) (route_entered p r route) ≡ true
-  route_entered-valid r route known =
+  occupied_or_locked_source_closed-valid : (r : ℕ) (route : Route) → slice_get p.routes r ≡ Some route → tree_valid (ranges_of_plant p) (occupied_or_locked_source_closed p r route) ≡ true
+  occupied_or_locked_source_closed-valid r route known =
       let within = slice_get_within p.routes r route known in
       each_of-valid p plant (route_locked_or_occupied r ∷ some_of (mode_is r Occupied ∷ is_board_aspect p route.source Closed ∷ []) ∷ [])
       (two-valid p plant (route_locked_or_occupied r) (some_of (mode_is r Occupied ∷ is_board_aspect p route.source Closed ∷ [])) (route_locked_or_occupied-valid p plant r within)
@@ -64,8 +64,8 @@ module _ (p : PlantLists) (plant : IsPlant p) where
   route_set_and_clear_past-valid : (r : ℕ) (route : Route) (i x : ℕ) → slice_get p.routes r ≡ Some route → slice_get route.path i ≡ Some x → tree_valid (ranges_of_plant p) (route_set_and_clear_past p r route i) ≡ true
   route_set_and_clear_past-valid r route i x known at =
       let less = slice_get_within route.path i x at in
-      each_of-valid p plant (route_entered p r route ∷ (no_section_seen_past r route i ++ map (no_train_at p) (drop (i + 1) route.path)))
-      (more-valid p plant (route_entered p r route) (no_section_seen_past r route i ++ map (no_train_at p) (drop (i + 1) route.path)) (route_entered-valid r route known)
+      each_of-valid p plant (occupied_or_locked_source_closed p r route ∷ (no_section_seen_past r route i ++ map (no_train_at p) (drop (i + 1) route.path)))
+      (more-valid p plant (occupied_or_locked_source_closed p r route) (no_section_seen_past r route i ++ map (no_train_at p) (drop (i + 1) route.path)) (occupied_or_locked_source_closed-valid r route known)
       (joined-valid p plant (no_section_seen_past r route i) (map (no_train_at p) (drop (i + 1) route.path)) (no_section_seen_past-valid r route i known less)
       (map-valid p plant (no_train_at p) (drop (i + 1) route.path) (λ k y there. no_train_at-valid p y (path_known p plant r route ((i + 1) + k) y known (dropped-at (i + 1) route.path k y there))))))
 
@@ -91,10 +91,11 @@ module _ (p : PlantLists) (plant : IsPlant p) where
   v8-valid : tree_valid (ranges_of_plant p) (v8_bodies_have_routes_tree p) ≡ true
   v8-valid =
       instances-valid (body_has_route_set_at p) (λ d x within.
-      if-valid p plant (continues_without_board p d x) (some_of (negation (body_at p d x) ∷ conditions_of_each_route p (route_retains_at p d x)) ∷ []) (one-valid p plant (some_of (negation (body_at p d x) ∷ conditions_of_each_route p
-      (route_retains_at p d x)))
-      (some_of-valid p plant (negation (body_at p d x) ∷ conditions_of_each_route p (route_retains_at p d x)) (more-valid p plant (negation (body_at p d x)) (conditions_of_each_route p (route_retains_at p d x)) (body_at-valid d x within)
-      (routes-valid p plant (route_retains_at p d x) (λ r route known.
+      if-valid p plant (continues_without_board p d x) (some_of (negation (body_at p d x) ∷ conditions_of_each_route p (route_retains_in_direction p d x)) ∷ []) (one-valid p plant (some_of (negation (body_at p d x) ∷ conditions_of_each_route p
+      (route_retains_in_direction p d x)))
+      (some_of-valid p plant (negation (body_at p d x) ∷ conditions_of_each_route p (route_retains_in_direction p d x))
+      (more-valid p plant (negation (body_at p d x)) (conditions_of_each_route p (route_retains_in_direction p d x)) (body_at-valid d x within)
+      (routes-valid p plant (route_retains_in_direction p d x) (λ r route known.
       if-valid p plant (route_runs_in_direction p d route && contains_section x route.path)
       (section_retained_by r route x ∷ []) (one-valid p plant (section_retained_by r route x) (section_retained_by-valid p plant r route x known))))))))
 

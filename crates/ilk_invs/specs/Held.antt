@@ -9,7 +9,7 @@ use Rattle.ilk_plant.specs.declared.state.Mode.TheVariants.{Free, Marked, Alloca
 use Rattle.ilk_plant.specs.declared.table.Route.{Route}
 use Rattle.ilk_routes.specs.Claims.{sections_outside_path}
 use Rattle.ilk_layout.specs.Conditions.{mode_is, is_released_count, is_seen_count}
-use Rattle.ilk_invs.specs.Parts.{as_one_literal, each_of, some_of}
+use Rattle.ilk_invs.specs.Parts.{with_one_literal_mark, each_of, some_of}
 
 -- The condition that fewer than `k` path sections of route `r` are seen.
 abbrev pub seen_below : ℕ → ℕ → Tree
@@ -24,8 +24,8 @@ abbrev pub route_locked_or_occupied : ℕ → Tree
 route_locked_or_occupied r = negation (some_of (mode_is r Free ∷ mode_is r Marked ∷ mode_is r Allocating ∷ []))
 
 -- The condition that route `r` holds sections: it is neither Free nor Marked.
-abbrev pub route_holds_sections : ℕ → Tree
-route_holds_sections r = negation (some_of (mode_is r Free ∷ mode_is r Marked ∷ []))
+abbrev pub mode_holds_sections : ℕ → Tree
+mode_holds_sections r = negation (some_of (mode_is r Free ∷ mode_is r Marked ∷ []))
 
 -- The condition that section `x` is on the path of route `r` and not released: `x` is path[i] for
 -- some i from `rel` on.
@@ -37,13 +37,13 @@ section_on_unreleased_path r route x =
 -- protecting points, or on its path and not released.
 abbrev pub section_held_by : ℕ → Route → ℕ → Tree
 section_held_by r route x =
-    if contains_section x (sections_outside_path route) then route_holds_sections r else as_one_literal (each_of (route_holds_sections r ∷ section_on_unreleased_path r route x ∷ []))
+    if contains_section x (sections_outside_path route) then mode_holds_sections r else with_one_literal_mark (each_of (mode_holds_sections r ∷ section_on_unreleased_path r route x ∷ []))
 
 -- The condition that route `r` holds path[`i`]: it holds sections, and at most `i` are released.
 abbrev pub path_section_held : ℕ → ℕ → Tree
-path_section_held r i = as_one_literal (each_of (route_holds_sections r ∷ rel_below r (i + 1) ∷ []))
+path_section_held r i = with_one_literal_mark (each_of (mode_holds_sections r ∷ rel_below r (i + 1) ∷ []))
 
 -- The condition that route `r` is Locked or Occupied, and section `x` is on its path and not
 -- released.
 abbrev pub section_retained_by : ℕ → Route → ℕ → Tree
-section_retained_by r route x = as_one_literal (each_of (route_locked_or_occupied r ∷ section_on_unreleased_path r route x ∷ []))
+section_retained_by r route x = with_one_literal_mark (each_of (route_locked_or_occupied r ∷ section_on_unreleased_path r route x ∷ []))

@@ -12,7 +12,7 @@ use Rattle.ilk_plant.specs.declared.table.Route.{Route}
 use Rattle.ilk_routes.specs.Claims.{sections_outside_path}
 use Rattle.ilk_layout.specs.Conditions.{lock_is}
 use Rattle.ilk_invs.specs.declared.hold_family.TheConstants.{MAX_ORDERED_HOLDERS}
-use Rattle.ilk_invs.specs.Held.{path_section_held, section_held_by, route_holds_sections, seen_below}
+use Rattle.ilk_invs.specs.Held.{path_section_held, section_held_by, mode_holds_sections, seen_below}
 use Rattle.ilk_invs.specs.Parts.{conditions_for_optional_value, each_of, conditions_of_each_path_index, conditions_of_each_route, some_of, implication}
 
 -- Returns whether route `r` may hold section `x`: `x` is in its path, overlap or protecting points.
@@ -76,7 +76,7 @@ path_lock_matches_seen p r i x =
 abbrev pub held_sections_have_locks : PlantLists → ℕ → Route → List Tree
 held_sections_have_locks p r route =
     conditions_of_each_path_index route (path_lock_matches_seen p r)
-    ++ map (λ x. implication (route_holds_sections r) (lock_is p x LockedLock)) (sections_outside_path route)
+    ++ map (λ x. implication (mode_holds_sections r) (lock_is p x LockedLock)) (sections_outside_path route)
 
 -- Family V3: a section that a route holds on its path has lock Used if the route has seen it. Every
 -- other section that it holds has lock Locked.

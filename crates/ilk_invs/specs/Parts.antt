@@ -19,8 +19,8 @@ implication condition then_this = some_of (negation condition ∷ then_this ∷ 
 
 -- The condition `t`, an And or Or, with the mark that it is one literal of a formula (`ilk_forms`),
 -- which equal conditions share.
-abbrev pub as_one_literal : Tree → Tree
-as_one_literal t = negation (negation t)
+abbrev pub with_one_literal_mark : Tree → Tree
+with_one_literal_mark t = negation (negation t)
 
 -- The conditions for the given value, or none if no value is given.
 abbrev pub conditions_for_optional_value : {A : Type 0} → Option A → (A → List Tree) → List Tree

@@ -14,7 +14,7 @@ use Rattle.ilk_layout.specs.declared.values.Occupancy.TheVariants.{Vacant, Taken
 use Rattle.ilk_model.specs.Holding.{continues_without_board, route_runs_in_direction}
 use Rattle.ilk_layout.specs.Conditions.{is_board_aspect, mode_is, no_train_at, occupancy_is, train_at}
 use Rattle.ilk_invs.specs.Held.{section_retained_by, route_locked_or_occupied, seen_below}
-use Rattle.ilk_invs.specs.Parts.{as_one_literal, each_of, conditions_of_each_path_index, conditions_of_each_route, some_of}
+use Rattle.ilk_invs.specs.Parts.{with_one_literal_mark, each_of, conditions_of_each_path_index, conditions_of_each_route, some_of}
 
 -- The condition that a train in direction `d` has its head at section `x`.
 abbrev pub head_at : PlantLists → Dir → ℕ → Tree
@@ -39,15 +39,15 @@ no_section_seen_past r route i = if nat_lt (i + 1) (length route.path) then seen
 
 -- The condition that route `r` is Occupied, or Locked with its source Closed: it is Locked or
 -- Occupied, and it is Occupied or its source is Closed.
-abbrev pub route_entered : PlantLists → ℕ → Route → Tree
-route_entered p r route =
-    as_one_literal (each_of (route_locked_or_occupied r ∷ some_of (mode_is r Occupied ∷ is_board_aspect p route.source Closed ∷ []) ∷ []))
+abbrev pub occupied_or_locked_source_closed : PlantLists → ℕ → Route → Tree
+occupied_or_locked_source_closed p r route =
+    with_one_literal_mark (each_of (route_locked_or_occupied r ∷ some_of (mode_is r Occupied ∷ is_board_aspect p route.source Closed ∷ []) ∷ []))
 
 -- The condition that route `r` is set for a train with its head at path[`i`]. The route is
 -- Occupied, or Locked with its source Closed. All later path sections are not seen, and are vacant.
 abbrev pub route_set_and_clear_past : PlantLists → ℕ → Route → ℕ → Tree
 route_set_and_clear_past p r route i =
-    each_of (route_entered p r route ∷ (no_section_seen_past r route i ++ map (no_train_at p) (drop (i + 1) route.path)))
+    each_of (occupied_or_locked_source_closed p r route ∷ (no_section_seen_past r route i ++ map (no_train_at p) (drop (i + 1) route.path)))
 
 -- The conditions that route `r` is set for a train with its head at section `x`, one for each index
 -- of `x` on its path. There is none unless the route runs in direction `d`.
@@ -68,17 +68,17 @@ v7_heads_have_routes_tree p = each_of (flat_map (λ x. head_has_route_set_at p U
 
 -- The condition that route `r` is Locked or Occupied and has not released section `x`. There is
 -- none unless it runs in direction `d` and has `x` in its path.
-abbrev pub route_retains_at : PlantLists → Dir → ℕ → ℕ → Route → List Tree
-route_retains_at p d x r route =
+abbrev pub route_retains_in_direction : PlantLists → Dir → ℕ → ℕ → Route → List Tree
+route_retains_in_direction p d x r route =
     if route_runs_in_direction p d route && contains_section x route.path
     then section_retained_by r route x ∷ []
     else []
 
 -- Family V8 for section `x` and direction `d`, if `x` has a neighbour there but no board: if a
--- train has `x` in its body, some route retains `x` (`route_retains_at`).
+-- train has `x` in its body, some route retains `x` (`route_retains_in_direction`).
 abbrev pub body_has_route_set_at : PlantLists → Dir → ℕ → List Tree
 body_has_route_set_at p d x =
-    if continues_without_board p d x then some_of (negation (body_at p d x) ∷ conditions_of_each_route p (route_retains_at p d x)) ∷ [] else []
+    if continues_without_board p d x then some_of (negation (body_at p d x) ∷ conditions_of_each_route p (route_retains_in_direction p d x)) ∷ [] else []
 
 -- Family V8: if a section of a train's body has a neighbour ahead but no board, some Locked or
 -- Occupied route in the train's direction has it on its path, not released.

@@ -8,7 +8,7 @@ ghost use Rattle.ilk_routes.specs.Claims.{sections_outside_path};
 ghost use Rattle.ilk_layout.specs.Conditions as conditions;
 ghost use Rattle.ilk_invs.specs.Held as definitions;
 
-use crate::parts::as_one_literal;
+use crate::parts::with_one_literal_mark;
 use ilk_base::has_number;
 use ilk_ir::Form;
 use ilk_layout::{is_released_count, is_seen_count, mode_is, negated};
@@ -56,9 +56,9 @@ pub(crate) fn route_locked_or_occupied(
 }
 
 /// Returns the condition that route `r` holds sections: it is neither Free nor Marked.
-pub(crate) fn route_holds_sections(alloc: Global, plant: &Plant, r: u32) -> Result<Form, AllocError>
+pub(crate) fn mode_holds_sections(alloc: Global, plant: &Plant, r: u32) -> Result<Form, AllocError>
     requires { r < length plant.now.routes }
-    ensures { IfOk result (λ form. tree_of form ≡ definitions.route_holds_sections r) }
+    ensures { IfOk result (λ form. tree_of form ≡ definitions.mode_holds_sections r) }
 {
     let mut forms = Vec::new(alloc);
     forms.push(mode_is(plant, r, Mode::Free))?;
@@ -139,14 +139,14 @@ pub(crate) fn section_held_by(
     requires route { IsValidRouteOf plant.now route.now }
     ensures { IfOk result (λ form. tree_of form ≡ definitions.section_held_by r route.now x) }
 {
-    let holding = route_holds_sections(alloc, plant, r)?;
+    let holding = mode_holds_sections(alloc, plant, r)?;
     if is_in_overlap_or_protecting(route, x) {
         return Ok(holding);
     }
     let mut forms = Vec::new(alloc);
     forms.push(holding)?;
     forms.push(section_on_unreleased_path(alloc, plant, r, route, x)?)?;
-    as_one_literal(alloc, Form::And(forms))
+    with_one_literal_mark(alloc, Form::And(forms))
 }
 
 /// Returns the condition that route `r` holds section `i` of its path.
@@ -161,9 +161,9 @@ pub(crate) fn path_section_held(
     ensures { IfOk result (λ form. tree_of form ≡ definitions.path_section_held r i) }
 {
     let mut forms = Vec::new(alloc);
-    forms.push(route_holds_sections(alloc, plant, r)?)?;
+    forms.push(mode_holds_sections(alloc, plant, r)?)?;
     forms.push(rel_below(alloc, plant, r, i + 1)?)?;
-    as_one_literal(alloc, Form::And(forms))
+    with_one_literal_mark(alloc, Form::And(forms))
 }
 
 /// Returns the condition that `route`, which is number `r`, is Locked or Occupied, and section `x`
@@ -182,5 +182,5 @@ pub(crate) fn section_retained_by(
     let mut forms = Vec::new(alloc);
     forms.push(route_locked_or_occupied(alloc, plant, r)?)?;
     forms.push(section_on_unreleased_path(alloc, plant, r, route, x)?)?;
-    as_one_literal(alloc, Form::And(forms))
+    with_one_literal_mark(alloc, Form::And(forms))
 }

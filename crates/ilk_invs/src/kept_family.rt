@@ -25,7 +25,7 @@ fn push_keeps_at(
         (map tree_of forms.new.items
         ≡ map tree_of forms.old.items
         ++ parts.conditions_for_optional_value (slice_get plant.now.routes r)
-        (definitions.route_retains_at plant.now d x r)) }
+        (definitions.route_retains_in_direction plant.now d x r)) }
 {
     let route = plant.route(r);
     if route_runs_in_direction(plant, d, route) && contains_section(&route.path, x) {
@@ -40,7 +40,8 @@ fn is_kept_by_some(alloc: Global, plant: &Plant, d: Dir, x: u32) -> Result<Form,
         (λ form. tree_of form
         ≡ parts.some_of
         (negation (definitions.body_at plant.now d x)
-        ∷ parts.conditions_of_each_route plant.now (definitions.route_retains_at plant.now d x))) }
+        ∷ parts.conditions_of_each_route plant.now
+        (definitions.route_retains_in_direction plant.now d x))) }
 {
     let body = body_at(alloc, plant, d, x)?;
     let mut forms = Vec::new(alloc);

@@ -9,7 +9,7 @@ ghost use Rattle.ilk_invs.specs.Held as held;
 ghost use Rattle.ilk_invs.specs.Parts as parts;
 ghost use Rattle.ilk_invs.specs.HoldFamilies as definitions;
 
-use crate::held::{path_section_held, route_holds_sections, seen_below};
+use crate::held::{mode_holds_sections, path_section_held, seen_below};
 use crate::parts::implication;
 use ilk_ir::Form;
 use ilk_layout::{lock_is, negated};
@@ -78,10 +78,10 @@ fn locked_if_holding(alloc: Global, plant: &Plant, r: u32, x: u32) -> Result<For
     requires section { x < length plant.now.sections }
     ensures { IfOk result
         (λ form. tree_of form
-        ≡ parts.implication (held.route_holds_sections r) (conditions.lock_is plant.now x
+        ≡ parts.implication (held.mode_holds_sections r) (conditions.lock_is plant.now x
         LockedLock)) }
 {
-    let holding = route_holds_sections(alloc, plant, r)?;
+    let holding = mode_holds_sections(alloc, plant, r)?;
     implication(alloc, holding, lock_is(plant, x, Hold::Locked))
 }
 
@@ -98,7 +98,7 @@ fn push_locked(
         (map tree_of forms.new.items
         ≡ map tree_of forms.old.items
         ++ map
-        (λ x. parts.implication (held.route_holds_sections r) (conditions.lock_is plant.now x
+        (λ x. parts.implication (held.mode_holds_sections r) (conditions.lock_is plant.now x
         LockedLock)) sections.now) }
 {
     for x in sections {
@@ -120,7 +120,7 @@ fn push_points_locked(
         (map tree_of forms.new.items
         ≡ map tree_of forms.old.items
         ++ map
-        (λ x. parts.implication (held.route_holds_sections r) (conditions.lock_is plant.now x
+        (λ x. parts.implication (held.mode_holds_sections r) (conditions.lock_is plant.now x
         LockedLock)) (map (λ listed. listed.point) points.now)) }
 {
     for listed in points {

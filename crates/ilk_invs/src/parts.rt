@@ -7,8 +7,8 @@ use ilk_layout::negated;
 use std::alloc::{AllocError, Global};
 
 /// Returns `form`, an And or Or, with the mark that it is one literal of a formula.
-pub(crate) fn as_one_literal(alloc: Global, form: Form) -> Result<Form, AllocError>
-    ensures { IfOk result (λ marked. tree_of marked ≡ parts.as_one_literal (tree_of form)) }
+pub(crate) fn with_one_literal_mark(alloc: Global, form: Form) -> Result<Form, AllocError>
+    ensures { IfOk result (λ marked. tree_of marked ≡ parts.with_one_literal_mark (tree_of form)) }
 {
     let opposite = negated(alloc, form)?;
     negated(alloc, opposite)

@@ -12,7 +12,7 @@ ghost use Rattle.ilk_invs.specs.Parts as parts;
 ghost use Rattle.ilk_invs.specs.TrainFamilies as definitions;
 
 use crate::held::{route_locked_or_occupied, seen_below};
-use crate::parts::as_one_literal;
+use crate::parts::with_one_literal_mark;
 use crate::route_families::push_each_section_vacant;
 use ilk_ir::Form;
 use ilk_layout::{
@@ -108,16 +108,22 @@ fn occupied_or_closed(
     Ok(Form::Or(forms))
 }
 
-fn route_entered(alloc: Global, plant: &Plant, r: u32, route: &Route) -> Result<Form, AllocError>
+fn occupied_or_locked_source_closed(
+    alloc: Global,
+    plant: &Plant,
+    r: u32,
+    route: &Route,
+) -> Result<Form, AllocError>
     requires known { r < length plant.now.routes }
     requires route { IsValidRouteOf plant.now route.now }
-    ensures { IfOk result (λ form. tree_of form ≡ definitions.route_entered plant.now r
+    ensures { IfOk result (λ form. tree_of form
+        ≡ definitions.occupied_or_locked_source_closed plant.now r
         route.now) }
 {
     let mut forms = Vec::new(alloc);
     forms.push(route_locked_or_occupied(alloc, plant, r)?)?;
     forms.push(occupied_or_closed(alloc, plant, r, route)?)?;
-    as_one_literal(alloc, Form::And(forms))
+    with_one_literal_mark(alloc, Form::And(forms))
 }
 
 fn push_none_seen_past(
@@ -155,7 +161,7 @@ fn leads_from(
         ≡ definitions.route_set_and_clear_past plant.now r route.now i) }
 {
     let mut forms = Vec::new(alloc);
-    forms.push(route_entered(alloc, plant, r, route)?)?;
+    forms.push(occupied_or_locked_source_closed(alloc, plant, r, route)?)?;
     push_none_seen_past(alloc, &mut forms, plant, r, route, i)?;
     push_each_section_vacant(&mut forms, plant, &route.path.as_slice()[i + 1..])?;
     Ok(Form::And(forms))

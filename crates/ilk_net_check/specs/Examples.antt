@@ -37,12 +37,12 @@ abbrev pub line_of_two : NetDraft
 line_of_two = record { sections = first (Some b) ∷ last ∷ [] }
 
 -- The line of two sections, but `a` doesn't name its neighbour `b`.
-abbrev pub line_cut : NetDraft
-line_cut = record { sections = first None ∷ last ∷ [] }
+abbrev pub line_linked_one_way : NetDraft
+line_linked_one_way = record { sections = first None ∷ last ∷ [] }
 
 -- The line in which `a` doesn't name `b`, with a third section that is also named `b`.
-abbrev pub cut_line_with_duplicate : NetDraft
-cut_line_with_duplicate = record { sections = first None ∷ last ∷ plain b None None ∷ [] }
+abbrev pub line_linked_one_way_with_duplicate : NetDraft
+line_linked_one_way_with_duplicate = record { sections = first None ∷ last ∷ plain b None None ∷ [] }
 
 -- Three linear sections in a ring.
 abbrev pub ring_of_three : NetDraft

@@ -1,18 +1,18 @@
 ghost use Rattle.std.specs.Prelude.{◌≡◌, [], ◌∷◌};
 ghost use Rattle.ilk_plant.specs.NetworkRules.{network_rules_broken};
 ghost use Rattle.ilk_plant.specs.declared.broken.Rule.TheVariants.{N1, N3, N4, N5, N6, N7, N8};
-ghost use Rattle.ilk_net_check.specs.Examples.{at, fork, fork_with_turned_leg, fork_with_ring, line_cut, cut_line_with_duplicate, line_of_two, loop_of_one, ring_of_three};
+ghost use Rattle.ilk_net_check.specs.Examples.{at, fork, fork_with_turned_leg, fork_with_ring, line_linked_one_way, line_linked_one_way_with_duplicate, line_of_two, loop_of_one, ring_of_three};
 
 fn line_is_clean()
     ensures { network_rules_broken line_of_two ≡ [] }
 {}
 
 fn cut_line_is_refused()
-    ensures { network_rules_broken line_cut ≡ at N5 1 ∷ at N6 0 ∷ at N8 0 ∷ [] }
+    ensures { network_rules_broken line_linked_one_way ≡ at N5 1 ∷ at N6 0 ∷ at N8 0 ∷ [] }
 {}
 
 fn repeated_name_is_refused()
-    ensures { network_rules_broken cut_line_with_duplicate
+    ensures { network_rules_broken line_linked_one_way_with_duplicate
         ≡ at N1 2 ∷ at N5 1 ∷ at N6 0 ∷ at N6 2 ∷ at N8 0 ∷ [] }
 {}
 

@@ -30,8 +30,8 @@ as_document d = do
   then_some (has_member_count 3 d) (record { version = version; sections = sections; routes = routes })
 
 -- Returns the document `written`, if its version is 1 or 2. Otherwise returns `None`.
-abbrev pub if_known_version : DocumentMembers → Option VersionedDocument
-if_known_version written = do
+abbrev pub document_if_known_version : DocumentMembers → Option VersionedDocument
+document_if_known_version written = do
   version ← version_from_number written.version
   Some (record { version = version; sections = written.sections; routes = written.routes })
 

@@ -31,8 +31,8 @@ as_optional_text (object ms) = None
 
 -- Returns the member `name` of an object as an optional text, if it is a text or null. Otherwise
 -- returns `None`.
-abbrev pub member_as_optional_text : Name → Data → Option (Option Name)
-member_as_optional_text name d = get name d >>= as_optional_text
+abbrev pub member_as_text_or_null : Name → Data → Option (Option Name)
+member_as_text_or_null name d = get name d >>= as_optional_text
 
 -- Returns the items of the member `name` of an object, if it is an array. Otherwise returns `None`.
 abbrev pub member_as_array : Name → Data → Option Items

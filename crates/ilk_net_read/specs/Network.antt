@@ -10,7 +10,7 @@ use Rattle.ilk_plant.specs.declared.draft.SectionDraft.{SectionDraft}
 use Rattle.ilk_net_read.specs.declared.fault.Form.TheVariants.{F2, F3, F4, F5, F6}
 use Rattle.ilk_net_read.specs.declared.fault.FormFault.{FormFault}
 use Rattle.ilk_net_read.specs.declared.fault.Place.TheVariants.{Document, Section}
-use Rattle.ilk_net_read.specs.Document.{VersionedDocument, as_document, has_allowed_section_route_counts, if_known_version}
+use Rattle.ilk_net_read.specs.Document.{VersionedDocument, as_document, has_allowed_section_route_counts, document_if_known_version}
 use Rattle.ilk_net_read.specs.Fault.{rule_fault_at_place, value_if_passes, or_fault}
 use Rattle.ilk_net_read.specs.Member.{items_as_list}
 use Rattle.ilk_net_read.specs.Section.{as_section}
@@ -24,7 +24,7 @@ value_of bytes = or_fault (rule_fault_at_place F2 Document) (if is_utf8 bytes th
 abbrev pub document_from_value : Data → Result VersionedDocument FormFault
 document_from_value d = do
   written ← or_fault (rule_fault_at_place F3 Document) (as_document d)
-  document ← or_fault (rule_fault_at_place F4 Document) (if_known_version written)
+  document ← or_fault (rule_fault_at_place F4 Document) (document_if_known_version written)
   value_if_passes has_allowed_section_route_counts (rule_fault_at_place F6 Document) document
 
 -- Returns section `i` from its value, or the first violated rule: F3 if it isn't a section, F5 for

@@ -6,7 +6,7 @@ use Rattle.ilk_base.specs.Option.{◌>>=◌, then_some}
 use Rattle.ilk_plant.specs.declared.draft.KindDraft.TheVariants.{Linear, Point}
 use Rattle.ilk_plant.specs.declared.draft.SectionDraft.{SectionDraft}
 use Rattle.ilk_plant.specs.declared.network.Dir.{Dir}
-use Rattle.ilk_net_read.specs.Member.{has_member_count, member_as_text, member_as_optional_text}
+use Rattle.ilk_net_read.specs.Member.{has_member_count, member_as_text, member_as_text_or_null}
 
 -- Returns the direction in the member `faces` of a point's object. Returns `None` if it has no such
 -- member or another value.
@@ -19,10 +19,10 @@ facing_direction d = member_as_text (codes "faces") d >>= direction_from_word
 abbrev pub as_linear : Data → Option SectionDraft
 as_linear d = do
   name ← member_as_text (codes "name") d
-  down ← member_as_optional_text (codes "down") d
-  up ← member_as_optional_text (codes "up") d
-  board_down ← member_as_optional_text (codes "board_down") d
-  board_up ← member_as_optional_text (codes "board_up") d
+  down ← member_as_text_or_null (codes "down") d
+  up ← member_as_text_or_null (codes "up") d
+  board_down ← member_as_text_or_null (codes "board_down") d
+  board_up ← member_as_text_or_null (codes "board_up") d
   then_some (has_member_count 6 d) (record { name = name; kind = Linear down up board_down board_up })
 
 -- Returns the value as a point. It must be an object of exactly a name, the kind, the neighbours at

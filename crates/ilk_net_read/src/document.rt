@@ -46,7 +46,7 @@ fn written(value: &Value) -> Option<Members<'_>>
 
 fn in_version<'v>(members: &Members<'v>) -> Option<Document<'v>>
     ensures { option_map document_view result
-        ≡ parts.if_known_version (document_members_view members.now) }
+        ≡ parts.document_if_known_version (document_members_view members.now) }
 {
     let version = Version::from_number(members.version)?;
     Some(Document {

@@ -19,7 +19,7 @@ mod version;
 pub use document::{Document, document_from_value};
 pub use fault::{Form, FormError, FormFault, Place, ValueReadError, rule_error_at_place};
 pub use member::{
-    has_member_count, member_as_array, member_as_optional_text, member_as_str, member_as_text,
+    has_member_count, member_as_array, member_as_str, member_as_text, member_as_text_or_null,
     member_as_texts, member_as_u64,
 };
 pub use name::{is_between, is_name, is_name_if_given};

@@ -67,12 +67,12 @@ fn optional_text(alloc: Global, value: &Value) -> Result<Option<Text>, ValueRead
 
 /// Returns a copy of the member `name` of an object, or `None` if it is null. Fails if it is
 /// neither a text nor null, or memory runs out.
-pub fn member_as_optional_text(
+pub fn member_as_text_or_null(
     alloc: Global,
     value: &Value,
     name: &str,
 ) -> Result<Option<Text>, ValueReadError>
-    ensures { IsReadIfKindMatches result (member.member_as_optional_text name.now
+    ensures { IsReadIfKindMatches result (member.member_as_text_or_null name.now
         (view value.now)) }
 {
     match value.get(name) {

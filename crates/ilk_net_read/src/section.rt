@@ -6,7 +6,7 @@ ghost use Rattle.ilk_net_read.specs.Network as network;
 ghost use Rattle.ilk_net_read.specs.Section as section;
 
 use crate::fault::rule_error_at_place;
-use crate::member::{has_member_count, member_as_optional_text, member_as_str, member_as_text};
+use crate::member::{has_member_count, member_as_str, member_as_text, member_as_text_or_null};
 use crate::name::{is_name, is_name_if_given};
 use crate::{Form, FormError, Place, ValueReadError};
 use ilk_plant::{Dir, KindDraft, SectionDraft};
@@ -17,10 +17,10 @@ fn linear(alloc: Global, value: &Value) -> Result<SectionDraft, ValueReadError>
     ensures { IsReadIfKindMatches result (section.as_linear (view value.now)) }
 {
     let name = member_as_text(alloc, value, "name")?;
-    let down = member_as_optional_text(alloc, value, "down")?;
-    let up = member_as_optional_text(alloc, value, "up")?;
-    let board_down = member_as_optional_text(alloc, value, "board_down")?;
-    let board_up = member_as_optional_text(alloc, value, "board_up")?;
+    let down = member_as_text_or_null(alloc, value, "down")?;
+    let up = member_as_text_or_null(alloc, value, "up")?;
+    let board_down = member_as_text_or_null(alloc, value, "board_down")?;
+    let board_up = member_as_text_or_null(alloc, value, "board_up")?;
     if !has_member_count(value, 6) {
         return Err(ValueReadError::WrongKind);
     }

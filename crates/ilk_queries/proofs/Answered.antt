@@ -21,13 +21,13 @@ use Rattle.ilk_model.specs.declared.event.Event.{Event}
 use Rattle.ilk_layout.specs.Image.{image_of}
 use Rattle.ilk_layout.specs.Laws.{AreImageOfSafeState}
 use Rattle.ilk_behave.specs.Behaviour.{system_of_plant}
-use Rattle.ilk_unroll.specs.Goal.{CopyDemand, PlainGoal, demands_of, demand_form_fails_in_copy, form_demands_below_copy, demand_form_holds_in_copy, step_count}
+use Rattle.ilk_unroll.specs.Goal.{CopyDemand, PlainGoalForms, demands_of, demand_form_fails_in_copy, form_demands_below_copy, demand_form_holds_in_copy, step_count}
 use Rattle.ilk_unroll.specs.Run.{is_wanted_run, demand_is_met_by_run, run_firing_rules}
 use Rattle.ilk_unroll.specs.declared.queries.Wanted.{Wanted}
 use Rattle.ilk_unroll.specs.declared.queries.Wanted.TheVariants.{Hazard, Breach, Step}
 use Rattle.ilk_unroll.proofs.QueryLaw.{Wants, wanted-from, wants}
 use Rattle.ilk_queries.specs.Asked.{IsRunForQuery, first_breaks_invariant_at, meets_invariant}
-use Rattle.ilk_queries.specs.Lifting.{AllHaveShape, GoalFormsMatchPlant, RulesStepLikeEvents, events_by_rules, form_holds_for_values, state_has_no_hazard}
+use Rattle.ilk_queries.specs.Lifting.{AllHaveShape, GoalFormsMatchPlant, RulesStepLikeEvents, events_of_rule_numbers_or_none, form_holds_for_values, state_has_no_hazard}
 use Rattle.ilk_queries.specs.Walk.{states_from}
 use Rattle.ilk_queries.proofs.Demands.{all-more, below-met, holds-met}
 use Rattle.ilk_queries.proofs.Queries.{breach-met, hazard-met, shaped-at, step-met}
@@ -44,7 +44,7 @@ run-many system values (rule ∷ rules) lists e =
 safe-more : (p : PlantLists) (states : List State) (n : ℕ) (t : State) → slice_get states n ≡ Some t → list_all (state_has_no_hazard p) (take (n + 1) states) ≡ (list_all (state_has_no_hazard p) (take n states) && state_has_no_hazard p t)
 safe-more p states n t at = ap (list_all (state_has_no_hazard p)) (take-next states n t at) ∙ all-more (state_has_no_hazard p) (take n states) t
 
-module _ (p : PlantLists) (steps : RulesStepLikeEvents p) (g : PlainGoal) (goal : GoalFormsMatchPlant p g) where
+module _ (p : PlantLists) (steps : RulesStepLikeEvents p) (g : PlainGoalForms) (goal : GoalFormsMatchPlant p g) where
   record Walked (s : State) (events : List Event) (states : List State) (n : ℕ) : Type 0 where
     shaped : AllHaveShape p states
     first : slice_get states 0 ≡ Some s
@@ -128,7 +128,7 @@ module _ (p : PlantLists) (steps : RulesStepLikeEvents p) (g : PlainGoal) (goal 
   record Led (q : Wanted) (s : State) (rules : List ℕ) : Type 0 where
     events : List Event
     states : List State
-    by_rules : events_by_rules p rules ≡ Some events
+    by_rules : events_of_rule_numbers_or_none p rules ≡ Some events
     count : length events ≡ step_count q
     is : states_from p s events ≡ Some states
     shaped : AllHaveShape p states
@@ -153,7 +153,7 @@ module _ (p : PlantLists) (steps : RulesStepLikeEvents p) (g : PlainGoal) (goal 
         met = ap (λ (u : List (List ℕ)). list_all (demand_is_met_by_run u) (demands_of g q)) goes.5 ∙ w.met;
       }
 
-  pub to-asked : (q : Wanted) (s : State) (rules : List ℕ) → HasShape p s → IsBeginning q s → is_wanted_run (system_of_plant p) g q (image_of p s) rules ≡ true → (events : List Event) × (events_by_rules p rules ≡ Some events) ×
+  pub to-asked : (q : Wanted) (s : State) (rules : List ℕ) → HasShape p s → IsBeginning q s → is_wanted_run (system_of_plant p) g q (image_of p s) rules ≡ true → (events : List Event) × (events_of_rule_numbers_or_none p rules ≡ Some events) ×
       IsRunForQuery p q s events
   to-asked (Hazard n) s rules shape begins wanted =
       let w = wants (system_of_plant p) g (Hazard n) (image_of p s) rules wanted in

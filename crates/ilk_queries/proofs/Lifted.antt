@@ -10,21 +10,21 @@ use Rattle.ilk_plant.specs.declared.state.State.{State}
 use Rattle.ilk_model.specs.declared.event.Event.{Event}
 use Rattle.ilk_layout.specs.Image.{image_of}
 use Rattle.ilk_behave.specs.Behaviour.{system_of_plant}
-use Rattle.ilk_unroll.specs.Goal.{PlainGoal, step_count_is_allowed}
+use Rattle.ilk_unroll.specs.Goal.{PlainGoalForms, step_count_is_allowed}
 use Rattle.ilk_unroll.specs.Run.{is_wanted_run}
 use Rattle.ilk_unroll.specs.declared.queries.Wanted.{Wanted}
 use Rattle.ilk_unroll.specs.declared.queries.Wanted.TheVariants.{Hazard, Breach, Step}
 use Rattle.ilk_queries.specs.Asked.{HasQueriedRun, IsRunForQuery}
-use Rattle.ilk_queries.specs.Lifting.{GoalFormsMatchPlant, RulesStepLikeEvents, events_by_rules}
+use Rattle.ilk_queries.specs.Lifting.{GoalFormsMatchPlant, RulesStepLikeEvents, events_of_rule_numbers_or_none}
 use Rattle.ilk_queries.proofs.Answered.{IsBeginning, first-values, to-asked}
 
-module _ (p : PlantLists) (steps : RulesStepLikeEvents p) (g : PlainGoal) (goal : GoalFormsMatchPlant p g) where
+module _ (p : PlantLists) (steps : RulesStepLikeEvents p) (g : PlainGoalForms) (goal : GoalFormsMatchPlant p g) where
   pub record IsLifted (q : Wanted) (first rules : List ℕ) : Type 0 where
     pub state : State
     pub shape : HasShape p state
     pub image : image_of p state ≡ first
     pub events : List Event
-    pub by_rules : events_by_rules p rules ≡ Some events
+    pub by_rules : events_of_rule_numbers_or_none p rules ≡ Some events
     pub run : IsRunForQuery p q state events
 
   from-state : (q : Wanted) (first rules : List ℕ) (s : State) → HasShape p s → image_of p s ≡ first → IsBeginning p steps g goal q s → is_wanted_run (system_of_plant p) g q first rules ≡ true → IsLifted q first rules

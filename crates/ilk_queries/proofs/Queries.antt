@@ -13,7 +13,7 @@ use Rattle.ilk_plant.specs.declared.state.State.{State}
 use Rattle.ilk_model.specs.Hazard.{hazard}
 use Rattle.ilk_model.specs.declared.hazards.HazardAt.{HazardAt}
 use Rattle.ilk_layout.specs.Image.{image_of}
-use Rattle.ilk_unroll.specs.Goal.{CopyDemand, PlainGoal, demands_of, demand_form_fails_in_copy, form_demands_below_copy, demand_form_holds_in_copy}
+use Rattle.ilk_unroll.specs.Goal.{CopyDemand, PlainGoalForms, demands_of, demand_form_fails_in_copy, form_demands_below_copy, demand_form_holds_in_copy}
 use Rattle.ilk_unroll.specs.Run.{demand_is_met_by_run}
 use Rattle.ilk_unroll.specs.declared.queries.Wanted.TheVariants.{Hazard, Breach, Step}
 use Rattle.ilk_queries.specs.Asked.{first_breaks_invariant_at, meets_invariant}
@@ -27,7 +27,7 @@ shaped-at p [] n t shaped at = cc
 shaped-at p (s ∷ states) zero t shaped at = subst (HasShape p) (same_Some s t at) shaped.0
 shaped-at p (s ∷ states) (suc n) t shaped at = shaped-at p states n t shaped.1 at
 
-module _ (p : PlantLists) (steps : RulesStepLikeEvents p) (g : PlainGoal) (goal : GoalFormsMatchPlant p g) where
+module _ (p : PlantLists) (steps : RulesStepLikeEvents p) (g : PlainGoalForms) (goal : GoalFormsMatchPlant p g) where
   pub hazard-met : (n : ℕ) (states : List State) (s t : State) → AllHaveShape p states →
       slice_get states 0 ≡ Some s → slice_get states n ≡ Some t → n ≤ length states →
       list_all (demand_is_met_by_run (map (image_of p) states)) (demands_of g (Hazard n))

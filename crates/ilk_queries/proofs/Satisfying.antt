@@ -10,7 +10,7 @@ use Rattle.ilk_behave.specs.Behaviour.{system_of_plant}
 use Rattle.ilk_behave.specs.Steps.{SystemMatchesEvents}
 use Rattle.ilk_layout.specs.Image.{image_of}
 use Rattle.ilk_unroll.specs.Assignment.{EncodesWantedRun, run_assignment}
-use Rattle.ilk_unroll.specs.Goal.{PlainGoal, goal_valid, step_count_is_allowed}
+use Rattle.ilk_unroll.specs.Goal.{PlainGoalForms, goal_valid, step_count_is_allowed}
 use Rattle.ilk_unroll.specs.Query.{query_formula}
 use Rattle.ilk_unroll.specs.Run.{is_wanted_run}
 use Rattle.ilk_unroll.specs.declared.queries.Wanted.{Wanted}
@@ -43,27 +43,27 @@ satisfiable_is p q plant steps goal valid sound complete =
 pub valid_system : (p : PlantLists) (system : PlainSystem) → system ≡ system_of_plant p → IsTrue (system_valid (system_of_plant p)) → IsTrue (system_valid system)
 valid_system p system same valid = ap system_valid same ∙ valid
 
-pub valid_goal : (p : PlantLists) (ranges : List ℕ) (goal : PlainGoal) → ranges ≡ ranges_of_plant p → goal ≡ goal_of_plant p → IsTrue (goal_valid (ranges_of_plant p) (goal_of_plant p)) → IsTrue (goal_valid ranges goal)
+pub valid_goal : (p : PlantLists) (ranges : List ℕ) (goal : PlainGoalForms) → ranges ≡ ranges_of_plant p → goal ≡ goal_of_plant p → IsTrue (goal_valid (ranges_of_plant p) (goal_of_plant p)) → IsTrue (goal_valid ranges goal)
 valid_goal p ranges goal one two valid = ap (λ r. goal_valid r goal) one ∙ ap (goal_valid (ranges_of_plant p)) two ∙ valid
 
 pub formula_is :
-    {E : Type 0} (r : Result Formula E) (p : PlantLists) (q : Wanted) (system : PlainSystem) (goal : PlainGoal)
+    {E : Type 0} (r : Result Formula E) (p : PlantLists) (q : Wanted) (system : PlainSystem) (goal : PlainGoalForms)
     →
     system ≡ system_of_plant p → goal ≡ goal_of_plant p → IfOk r (λ cnf. cnf ≡ query_formula system goal q) →
     IfOk r (λ cnf. cnf ≡ query_formula (system_of_plant p) (goal_of_plant p) q)
 formula_is (Ok cnf) p q system goal one two h = h ∙ ap (λ s. query_formula s goal q) one ∙ ap (λ g. query_formula (system_of_plant p) g q) two
 formula_is (Err e) p q system goal one two h = h
 
-abbrev pub IsSound : PlainSystem → PlainGoal → Wanted → Type 0
+abbrev pub IsSound : PlainSystem → PlainGoalForms → Wanted → Type 0
 IsSound system goal q = (a : List Bool) → length a ≡ (query_formula system goal q).vars → IsTrue (satisfies a (query_formula system goal q).clauses) → EncodesWantedRun system goal q a
 
-abbrev pub IsComplete : PlainSystem → PlainGoal → Wanted → Type 0
+abbrev pub IsComplete : PlainSystem → PlainGoalForms → Wanted → Type 0
 IsComplete system goal q = (first rules : List ℕ) → IsTrue (is_wanted_run system goal q first rules) →
     (length (run_assignment system goal q first rules) ≡ (query_formula system goal q).vars) ×
     IsTrue (satisfies (run_assignment system goal q first rules) (query_formula system goal q).clauses)
 
 pub satisfiable_on :
-    {E : Type 0} (r : Result Formula E) (p : PlantLists) (q : Wanted) (system : PlainSystem) (goal : PlainGoal)
+    {E : Type 0} (r : Result Formula E) (p : PlantLists) (q : Wanted) (system : PlainSystem) (goal : PlainGoalForms)
     →
     system ≡ system_of_plant p → goal ≡ goal_of_plant p → IsPlant p → SystemMatchesEvents p → GoalFormsMatchPlant p (goal_of_plant p) →
     IsTrue (step_count_is_allowed q) → OnOk r (IsSound system goal q) → OnOk r (IsComplete system goal q) →

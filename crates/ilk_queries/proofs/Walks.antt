@@ -18,9 +18,9 @@ use Rattle.ilk_model.specs.declared.event.Event.{Event}
 use Rattle.ilk_model.specs.declared.hazards.HazardAt.{HazardAt}
 use Rattle.ilk_layout.specs.Image.{image_of}
 use Rattle.ilk_behave.specs.Behaviour.{system_of_plant}
-use Rattle.ilk_unroll.specs.Goal.{PlainGoal}
+use Rattle.ilk_unroll.specs.Goal.{PlainGoalForms}
 use Rattle.ilk_unroll.specs.Run.{run_firing_rules}
-use Rattle.ilk_queries.specs.Lifting.{AllHaveShape, GoalFormsMatchPlant, RulesStepLikeEvents, events_by_rules, form_holds_for_values, state_has_no_hazard}
+use Rattle.ilk_queries.specs.Lifting.{AllHaveShape, GoalFormsMatchPlant, RulesStepLikeEvents, events_of_rule_numbers_or_none, form_holds_for_values, state_has_no_hazard}
 use Rattle.ilk_queries.specs.Walk.{states_from}
 
 pub none-is : {A : Type 0} (o : Option A) → is_none o ≡ true → o ≡ None
@@ -76,7 +76,7 @@ states-run p s (event ∷ events) states e safe =
     let whole : run p s (event ∷ events) ≡ slice_get (s ∷ outer.0) (suc (length events)) = free ∙ ap (λ o. o >>= (λ t. run p t events)) inner.1 ∙ rest in
     whole ∙ ap (λ (u : List State). slice_get u (suc (length events))) outer.2
 
-module _ (p : PlantLists) (steps : RulesStepLikeEvents p) (g : PlainGoal) (goal : GoalFormsMatchPlant p g) where
+module _ (p : PlantLists) (steps : RulesStepLikeEvents p) (g : PlainGoalForms) (goal : GoalFormsMatchPlant p g) where
   pub wellformed-state : (s : State) → HasShape p s → form_holds_for_values g.wellformed (image_of p s) ≡ state_has_no_hazard p s
   wellformed-state s shape = by_hazard (hazard p s) refl
     where
@@ -128,7 +128,7 @@ module _ (p : PlantLists) (steps : RulesStepLikeEvents p) (g : PlainGoal) (goal 
   pub to-events : (s : State) (rules : List ℕ) (lists : List (List ℕ)) → HasShape p s →
       run_firing_rules (system_of_plant p) (image_of p s) rules ≡ Some lists →
       list_all (form_holds_for_values g.wellformed) (take (length rules) lists) ≡ true →
-      (events : List Event) × (states : List State) × (events_by_rules p rules ≡ Some events) ×
+      (events : List Event) × (states : List State) × (events_of_rule_numbers_or_none p rules ≡ Some events) ×
       (length events ≡ length rules) × (states_from p s events ≡ Some states) ×
       (map (image_of p) states ≡ lists)
   to-events s [] lists shape e well = ([], s ∷ [], refl, refl, refl, same_Some (image_of p s ∷ []) lists e)
@@ -144,7 +144,7 @@ module _ (p : PlantLists) (steps : RulesStepLikeEvents p) (g : PlainGoal) (goal 
       let rest = to-events t rules outer.0 (steps.keeps_shape s t goes.0 shape goes.3) onward later in (
         goes.0 ∷ rest.0,
         s ∷ rest.1,
-        ap (λ o. o >>= (λ event. events_by_rules p rules >>= (λ more. Some (event ∷ more)))) goes.2 ∙ ap (λ o. o >>= (λ more. Some (goes.0 ∷ more))) rest.2,
+        ap (λ o. o >>= (λ event. events_of_rule_numbers_or_none p rules >>= (λ more. Some (event ∷ more)))) goes.2 ∙ ap (λ o. o >>= (λ more. Some (goes.0 ∷ more))) rest.2,
         ap suc rest.3,
         ap (λ o. option_map (λ more. s ∷ more) (option_and_then (λ u. states_from p u rest.0) o)) goes.3 ∙ ap (option_map (λ more. s ∷ more)) rest.4,
         ap (λ (u : List (List ℕ)). image_of p s ∷ u) rest.5 ∙ outer.2,

@@ -3,9 +3,9 @@ use Rattle.ilk_invs.specs.FamilyTrees.{family_trees}
 use Rattle.ilk_props.specs.HazardForm.{hazard_tree}
 use Rattle.ilk_props.specs.StartForm.{start_tree}
 use Rattle.ilk_props.specs.WellformedForm.{wellformed_tree}
-use Rattle.ilk_unroll.specs.Goal.{PlainGoal}
+use Rattle.ilk_unroll.specs.Goal.{PlainGoalForms}
 
 -- The goal of a plant: forms for its initial state, its hazards, its well-formed states and the
 -- families of the invariant.
-abbrev pub goal_of_plant : PlantLists → PlainGoal
+abbrev pub goal_of_plant : PlantLists → PlainGoalForms
 goal_of_plant p = record { start = start_tree p; hazard = hazard_tree p; wellformed = wellformed_tree p; families = family_trees p }

@@ -15,7 +15,7 @@ use Rattle.ilk_layout.specs.Image.{image_of}
 use Rattle.ilk_layout.specs.Laws.{AreImageOfSafeState}
 use Rattle.ilk_layout.specs.Variables.{ranges_of_plant}
 use Rattle.ilk_behave.specs.Behaviour.{event_of_rule, system_of_plant}
-use Rattle.ilk_unroll.specs.Goal.{PlainGoal}
+use Rattle.ilk_unroll.specs.Goal.{PlainGoalForms}
 use Rattle.ilk_model.specs.Meets.{meets_all_families}
 
 -- Holds if in each well-formed state without hazard the rules of the plant's finite system lead to
@@ -30,7 +30,7 @@ pub record RulesStepLikeEvents (p : PlantLists) : Type 0 where
 
 -- Holds if each form of the goal says of an encoded state what it should: that it is the initial
 -- state, is well-formed without hazard, has a hazard, or keeps a family.
-pub record GoalFormsMatchPlant (p : PlantLists) (g : PlainGoal) : Type 0 where
+pub record GoalFormsMatchPlant (p : PlantLists) (g : PlainGoalForms) : Type 0 where
   pub begins : (values : List ℕ) → in_ranges values (ranges_of_plant p) ≡ true → (tree_holds values g.start ≡ true) ↔ (values ≡ image_of p (start p))
   pub wellformed : (values : List ℕ) → in_ranges values (ranges_of_plant p) ≡ true → (tree_holds values g.wellformed ≡ true) ↔ AreImageOfSafeState p values
   pub hazards : (s : State) → HasShape p s → tree_holds (image_of p s) g.hazard ≡ is_some (hazard p s)
@@ -38,11 +38,11 @@ pub record GoalFormsMatchPlant (p : PlantLists) (g : PlainGoal) : Type 0 where
   pub in_range : (s : State) → HasShape p s → in_ranges (image_of p s) (ranges_of_plant p) ≡ true
 
 -- The events of the rules with these numbers, in order; `None` if a rule has no event.
-abbrev pub events_by_rules : PlantLists → List ℕ → Option (List Event)
-events_by_rules p [] = Some []
-events_by_rules p (i ∷ rules) = do
+abbrev pub events_of_rule_numbers_or_none : PlantLists → List ℕ → Option (List Event)
+events_of_rule_numbers_or_none p [] = Some []
+events_of_rule_numbers_or_none p (i ∷ rules) = do
   event ← event_of_rule p i
-  rest ← events_by_rules p rules
+  rest ← events_of_rule_numbers_or_none p rules
   Some (event ∷ rest)
 
 -- Returns whether state `s` has no hazard.

@@ -18,7 +18,7 @@ use Rattle.ilk_log.proofs.Closed.{Within, lone-is}
 use Rattle.ilk_learn.proofs.Derived.{false-from, false-at, has-negated_lit, unit-one}
 use Rattle.ilk_learn.proofs.Members.{kept-at, kept-from}
 use Rattle.ilk_rup.specs.Accepted.{FollowsBySomeHints}
-use Rattle.ilk_rup.specs.Alike.{AreEquivalent, HasConsequencesOf, HasHintsToConflict}
+use Rattle.ilk_rup.specs.Alike.{AreEquivalent, HasPropagatedConsequencesOf, HasHintsToConflict}
 
 pub ends-first : (cs : List (List Literal)) (set next : List Literal) (h : ℕ) (hints : List ℕ) → after_hint cs set h ≡ Some next → hints_end_in_conflict cs next hints ≡ true → hints_end_in_conflict cs set (h ∷ hints) ≡ true
 ends-first cs set next h [] t e = absurd (true≢false (sym e))
@@ -157,7 +157,7 @@ behind-forced ds r d l at differ h b = record {
   forces = λ set all x w u k. cleared ds (other_lits l d) all b (λ top v o. ends-forced ds r d top l at differ h o (λ next y z. k next (λ m q. y m (v m q)) (ap (λ (q : Literal). has_lit q next) (only l x (told set all (l ∷ []) x w u).0) ∙ z)));
 }
 
-covers-by : (ds cs : List (List Literal)) → ((more : List (List Literal)) (i : ℕ) (d : List Literal) → slice_get cs i ≡ Some d → Behind (ds ++ more) d) → HasConsequencesOf ds cs
+covers-by : (ds cs : List (List Literal)) → ((more : List (List Literal)) (i : ℕ) (d : List Literal) → slice_get cs i ≡ Some d → Behind (ds ++ more) d) → HasPropagatedConsequencesOf ds cs
 covers-by ds cs f = λ more set e. covered (ds ++ more) (cs ++ more) (λ i d at. elim (at-either cs more i d at) [
   | inl a ↦ f more a.0 d a.1
   | inr a ↦ behind-own (ds ++ more) (length ds + a.0) d (at-past ds more a.0 d a.1)
@@ -179,7 +179,7 @@ alike-back cs ds k = record { there = k.back; back = k.there }
 pub alike-more : (cs ds xs : List (List Literal)) → AreEquivalent cs ds → AreEquivalent (cs ++ xs) (ds ++ xs)
 alike-more cs ds xs k = record { there = covers-more ds cs k.there; back = covers-more cs ds k.back }
   where
-    covers-more : (ds cs : List (List Literal)) → HasConsequencesOf ds cs → HasConsequencesOf (ds ++ xs) (cs ++ xs)
+    covers-more : (ds cs : List (List Literal)) → HasPropagatedConsequencesOf ds cs → HasPropagatedConsequencesOf (ds ++ xs) (cs ++ xs)
     covers-more ds cs c = λ more set e.
         (let P : List (List Literal) → Type 0 = λ ys. HasHintsToConflict ys set in
         subst P (sym (append_assoc ds xs more)) (c (xs ++ more) set (subst P (append_assoc cs xs more) e)))
@@ -205,7 +205,7 @@ alike-known cs i l c at h = alike-spare cs c (λ more. behind-alone (cs ++ more)
 pub alike-same : (cs : List (List Literal)) (c d : List Literal) → has_distinct_vars c ≡ true → has_distinct_vars d ≡ true → Within c d → Within d c → AreEquivalent (cs ++ c ∷ []) (cs ++ d ∷ [])
 alike-same cs c d v w f g = record { there = one c d w f g; back = one d c v g f }
   where
-    one : (c d : List Literal) → has_distinct_vars d ≡ true → Within c d → Within d c → HasConsequencesOf (cs ++ d ∷ []) (cs ++ c ∷ [])
+    one : (c d : List Literal) → has_distinct_vars d ≡ true → Within c d → Within d c → HasPropagatedConsequencesOf (cs ++ d ∷ []) (cs ++ c ∷ [])
     one c d w f g = covers-by (cs ++ d ∷ []) (cs ++ c ∷ []) (λ more i x at. elim (slice_get-push_cases cs c x i at) [
       | inl b ↦ behind-own ((cs ++ d ∷ []) ++ more) i x (at-before (cs ++ d ∷ []) more i x (at-before cs (d ∷ []) i x b))
       | inr b ↦ (let P : List Literal → Type 0 = λ y. Behind ((cs ++ d ∷ []) ++ more) y in

@@ -29,7 +29,7 @@ use Rattle.ilk_rup.specs.declared.base.DerivationState.{DerivationState}
 use Rattle.ilk_rup.specs.Alike.{AreEquivalent}
 use Rattle.ilk_rup.specs.LitSet.{LitSetList}
 use Rattle.ilk_rup.specs.Needs.{IsClauseFalseApartFromSet, EntryHasReason, AreUnitHintsByVar}
-use Rattle.ilk_rup.specs.Standing.{IsBaseInvariant, KeepsConsequences, AreFormulaAndDerivedClauses, KeepsConsequencesTrailAndConflicts, IsValidClosedOrNot, IsClosedOrRefuted}
+use Rattle.ilk_rup.specs.Standing.{IsBaseInvariant, HasSameFormulaAndConsequences, AreFormulaAndDerivedClauses, KeepsConsequencesTrailAndConflicts, IsValidClosedOrNot, IsClosedOrRefuted}
 use Rattle.ilk_rup.proofs.Keeping.{forced-more, known-more, logged-more}
 
 take-kept : (es fs : List Entry) (i : ℕ) → take (length es) fs ≡ es → i ≤ length es → take i fs ≡ take i es
@@ -147,10 +147,10 @@ refute-explains cs es k c h e =
       untrue = λ m x. absurd (true≢false (sym x));
     }
 
-pub alike-twice : (a b c : DerivationState) → KeepsConsequences a b → KeepsConsequences b c → KeepsConsequences a c
+pub alike-twice : (a b c : DerivationState) → HasSameFormulaAndConsequences a b → HasSameFormulaAndConsequences b c → HasSameFormulaAndConsequences a c
 alike-twice a b c j k = record { formula = k.formula ∙ j.formula; alike = alike-join a.clauses.clauses b.clauses.clauses c.clauses.clauses j.alike k.alike }
 
-pub alike-propagated : (k : DerivationState) (b : ArenaContent) (u : TrailList) (r : PropagationProgress) → SameClauses k.clauses b → KeepsConsequences k (record k { clauses = b; trail = u; queue = r })
+pub alike-propagated : (k : DerivationState) (b : ArenaContent) (u : TrailList) (r : PropagationProgress) → SameClauses k.clauses b → HasSameFormulaAndConsequences k (record k { clauses = b; trail = u; queue = r })
 alike-propagated k b u r same = (let A : List (List Literal) → Type 0 = λ cs. AreEquivalent k.clauses.clauses cs in record { formula = refl; alike = subst A (sym same.clauses) (alike-self k.clauses.clauses) })
 
 pub named_self : (k : DerivationState) → KeepsConsequencesTrailAndConflicts k k

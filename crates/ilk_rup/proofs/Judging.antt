@@ -4,7 +4,7 @@ use Rattle.std.proofs.lemmas.Option.{same_Some}
 use Rattle.ilk_cnf.specs.Literal.{Literal}
 use Rattle.ilk_cnf.specs.Formula.{Formula}
 use Rattle.ilk_lines.specs.Lines.{Bytes}
-use Rattle.ilk_rup.specs.Accepted.{ItemsAreRightAndRefute, AllFollowBySomeHints, IsFirstBadAmong, FollowsBySomeHints, IsRightItem, clauses_after_item, text_items}
+use Rattle.ilk_rup.specs.Accepted.{ItemsAreRightAndRefute, AllFollowBySomeHints, IsFirstBadAmong, FollowsBySomeHints, IsRightItem, with_clause_added_by_item, text_items}
 use Rattle.ilk_rup.specs.Alike.{AreEquivalent}
 use Rattle.ilk_rup.specs.Checker.{CheckerLists}
 use Rattle.ilk_rup.specs.RefutationText.{clause_added_by_item, split_words_into_items, text_words}
@@ -73,7 +73,7 @@ going-step f text now new left rest k g s =
     let more = unwrap_or (clause_added_by_item now.formula.vars s.item) [] in
     record {
       formula = s.formula ∙ g.formula;
-      given = clauses_after_item f.vars given s.item;
+      given = with_clause_added_by_item f.vars given s.item;
       alike = subst A vars (alike-join new.clauses (now.clauses ++ more) (given ++ more) (alike-back (now.clauses ++ more) new.clauses s.alike) (alike-more now.clauses given more g.alike));
       progress = record {
         accepted = λ h. g.progress.accepted (let P : List (List Bytes) → Type 0 = λ xs. ItemsAreRightAndRefute f.vars given xs in subst P (sym s.is) (right, h));

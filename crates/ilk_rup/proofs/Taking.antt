@@ -26,7 +26,7 @@ use Rattle.ilk_learn.proofs.Members.{differ-kept, each-within, kept-at, kept-fro
 use Rattle.ilk_rup.specs.Accepted.{FollowsBySomeHints}
 use Rattle.ilk_rup.specs.Alike.{AreEquivalent}
 use Rattle.ilk_rup.specs.Needs.{IsClauseOfExactlyLiterals, EntryHasReason, AreUnitHintsByVar, unset_literals_first}
-use Rattle.ilk_rup.specs.Standing.{HasCurrentClauseAdded, KeepsConsequences, IsStepForCurrentLiterals, AreFormulaAndDerivedClauses, IsClauseAddedWithStep, IsValidClosedOrNot, IsClosedOrRefuted}
+use Rattle.ilk_rup.specs.Standing.{CurrentClauseFollowsAndIsAdded, HasSameFormulaAndConsequences, IsStepForCurrentLiterals, AreFormulaAndDerivedClauses, IsClauseAddedWithStep, IsValidClosedOrNot, IsClosedOrRefuted}
 use Rattle.ilk_rup.specs.declared.base.DerivationState.{DerivationState}
 use Rattle.ilk_rup.proofs.Alike.{alike-ended, alike-join, alike-known, alike-same, follows-any, follows-known}
 use Rattle.ilk_rup.proofs.Holds.{added-clauses}
@@ -162,8 +162,8 @@ loose-taken k b s step own ka kb added trail =
 pub has-taken : (k m a new : DerivationState) (s : Step) →
     m ≡ record k { clauses = m.clauses; trail = m.trail; queue = m.queue; explainer = m.explainer } →
     m.clauses.clauses ≡ k.clauses.clauses → IsStepForCurrentLiterals m s →
-    IsClauseOfExactlyLiterals m.formula.now.vars m.set.lits s.clause → IsClauseAddedWithStep m s a → IsClosedOrRefuted new → KeepsConsequences a new →
-    HasCurrentClauseAdded k new
+    IsClauseOfExactlyLiterals m.formula.now.vars m.set.lits s.clause → IsClauseAddedWithStep m s a → IsClosedOrRefuted new → HasSameFormulaAndConsequences a new →
+    CurrentClauseFollowsAndIsAdded k new
 has-taken k m a new s rest cs step own added stands same =
     let old = k.clauses.clauses in
     let vars = ap (λ (b : DerivationState). b.formula.now.vars) rest in
@@ -185,7 +185,7 @@ has-taken k m a new s rest cs step own added stands same =
     here : (d : List Literal) → IsClauseOfExactlyLiterals k.formula.now.vars k.set.lits d → IsClauseOfExactlyLiterals m.formula.now.vars m.set.lits d
     here d of = (let P : DerivationState → Type 0 = λ b. IsClauseOfExactlyLiterals b.formula.now.vars b.set.lits d in subst P (sym rest) of)
 
-pub taken-known : (k : DerivationState) (l : Literal) → IsClosedOrRefuted k → k.refuted ≡ false → has_lit l k.set.lits ≡ true → has_lit l (lits_of k.trail.entries) ≡ true → HasCurrentClauseAdded k k
+pub taken-known : (k : DerivationState) (l : Literal) → IsClosedOrRefuted k → k.refuted ≡ false → has_lit l k.set.lits ≡ true → has_lit l (lits_of k.trail.entries) ≡ true → CurrentClauseFollowsAndIsAdded k k
 taken-known k l st e h t =
     let s = st.going e in
     let cs = k.clauses.clauses in
@@ -200,7 +200,7 @@ taken-known k l st e h t =
       alike = λ c of. alike-known cs n.0 l c at (of.more l h);
     }
 
-pub taken-refuted : (k : DerivationState) → IsClosedOrRefuted k → k.refuted ≡ true → HasCurrentClauseAdded k k
+pub taken-refuted : (k : DerivationState) → IsClosedOrRefuted k → k.refuted ≡ true → CurrentClauseFollowsAndIsAdded k k
 taken-refuted k st e =
     let n = k.formula.now.vars in
     let cs = k.clauses.clauses in

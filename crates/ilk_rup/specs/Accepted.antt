@@ -23,13 +23,13 @@ abbrev pub IsRightItem : ℕ → List (List Literal) → List Bytes → Type 0
 IsRightItem n clauses item = (cs : List (List Literal)) × (clause_added_by_item n item ≡ Some cs) × AllFollowBySomeHints n clauses cs
 
 -- Returns `clauses` with the clause that the item adds, if any, at the end.
-abbrev pub clauses_after_item : ℕ → List (List Literal) → List Bytes → List (List Literal)
-clauses_after_item n clauses item = clauses ++ unwrap_or (clause_added_by_item n item) []
+abbrev pub with_clause_added_by_item : ℕ → List (List Literal) → List Bytes → List (List Literal)
+with_clause_added_by_item n clauses item = clauses ++ unwrap_or (clause_added_by_item n item) []
 
 -- Holds if each item is right after those before it, and the empty clause follows at the end.
 abbrev pub ItemsAreRightAndRefute : ℕ → List (List Literal) → List (List Bytes) → Type 0
 ItemsAreRightAndRefute n clauses [] = FollowsBySomeHints n clauses []
-ItemsAreRightAndRefute n clauses (item ∷ items) = IsRightItem n clauses item × ItemsAreRightAndRefute n (clauses_after_item n clauses item) items
+ItemsAreRightAndRefute n clauses (item ∷ items) = IsRightItem n clauses item × ItemsAreRightAndRefute n (with_clause_added_by_item n clauses item) items
 
 -- Holds if item `k`, from 1, is the first that isn't right. If all are right but the empty clause
 -- doesn't follow from them, holds if `k` is the number of items plus 1.
@@ -38,7 +38,7 @@ IsFirstBadAmong n clauses items zero = ⊥
 IsFirstBadAmong n clauses [] (suc zero) = FollowsBySomeHints n clauses [] → ⊥
 IsFirstBadAmong n clauses [] (suc (suc k)) = ⊥
 IsFirstBadAmong n clauses (item ∷ items) (suc zero) = IsRightItem n clauses item → ⊥
-IsFirstBadAmong n clauses (item ∷ items) (suc (suc k)) = IsRightItem n clauses item × IsFirstBadAmong n (clauses_after_item n clauses item) items (suc k)
+IsFirstBadAmong n clauses (item ∷ items) (suc (suc k)) = IsRightItem n clauses item × IsFirstBadAmong n (with_clause_added_by_item n clauses item) items (suc k)
 
 abbrev pub text_items : Bytes → List (List Bytes)
 text_items text = split_words_into_items (text_words text)

@@ -10,10 +10,10 @@ HasHintsToConflict cs set = (hints : List ℕ) × (hints_end_in_conflict cs set 
 
 -- Holds if `ds` has the consequences of `cs`. After any clauses are added to both, some hints over
 -- `ds` end at a false clause if some over `cs` do.
-abbrev pub HasConsequencesOf : List (List Literal) → List (List Literal) → Type 0
-HasConsequencesOf ds cs = (more : List (List Literal)) (set : List Literal) → HasHintsToConflict (cs ++ more) set → HasHintsToConflict (ds ++ more) set
+abbrev pub HasPropagatedConsequencesOf : List (List Literal) → List (List Literal) → Type 0
+HasPropagatedConsequencesOf ds cs = (more : List (List Literal)) (set : List Literal) → HasHintsToConflict (cs ++ more) set → HasHintsToConflict (ds ++ more) set
 
 -- Holds if each of two lists of clauses has the consequences of the other.
 pub record AreEquivalent (cs ds : List (List Literal)) : Type 0 where
-  pub there : HasConsequencesOf ds cs
-  pub back : HasConsequencesOf cs ds
+  pub there : HasPropagatedConsequencesOf ds cs
+  pub back : HasPropagatedConsequencesOf cs ds

@@ -16,7 +16,7 @@ pub record IsEmptyExplainer (x : Explainer) (n : ℕ) : Type 0 where
 -- Holds if `explain` may be called. All parameters are over the same variables, the explainer has
 -- the right hints of unit clauses, and clause `at.clause` is false as `IsClauseFalseApartFromSet`
 -- says.
-pub record CanExplain (x : Explainer) (clauses : ArenaContent) (trail : TrailList) (set : LitSetList) (at : Conflict) : Type 0 where
+pub record IsReadyToExplainConflict (x : Explainer) (clauses : ArenaContent) (trail : TrailList) (set : LitSetList) (at : Conflict) : Type 0 where
   pub vars : x.needed.vars ≡ clauses.vars
   pub set_vars : set.vars ≡ clauses.vars
   pub trail_vars : trail.vars ≡ clauses.vars

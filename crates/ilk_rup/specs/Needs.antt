@@ -52,8 +52,8 @@ IsReasonAt cs es i r = (e : Entry) → slice_get es i ≡ Some e → IsTrue (cla
 
 -- Holds if each entry from index `from` on and before `top` has a valid reason, and `set` has no
 -- literal of its variable.
-abbrev pub EntriesForcedOnOtherVars : List (List Literal) → List Entry → List Literal → ℕ → ℕ → Type 0
-EntriesForcedOnOtherVars cs es set from top = (i : ℕ) (e : Entry) → from ≤ i → i < top → slice_get es i ≡ Some e → IsSomeAnd e.reason (λ c. IsTrue (clause_forces_lit cs (lits_of (take i es)) e.lit c)) × (has_var e.lit.var set ≡ false)
+abbrev pub EntriesForcedWithVarsNotInSet : List (List Literal) → List Entry → List Literal → ℕ → ℕ → Type 0
+EntriesForcedWithVarsNotInSet cs es set from top = (i : ℕ) (e : Entry) → from ≤ i → i < top → slice_get es i ≡ Some e → IsSomeAnd e.reason (λ c. IsTrue (clause_forces_lit cs (lits_of (take i es)) e.lit c)) × (has_var e.lit.var set ≡ false)
 
 -- Holds if `units` has, by variable, the hint of the unit clause of each of the first `known`
 -- entries. It has 0 for all other variables.
@@ -76,7 +76,7 @@ pub record IsClauseFalseApartFromSet (cs : List (List Literal)) (es : List Entry
   pub from_in : from ≤ top
   pub top_in : top ≤ length es
   pub denied : (m : Literal) → has_lit m (nth_clause_or_empty cs c) ≡ true → (has_lit m set ≡ true) ⊎ (has_lit (negated_lit m) (lits_of (take top es)) ≡ true)
-  pub walk : EntriesForcedOnOtherVars cs es set from top
+  pub walk : EntriesForcedWithVarsNotInSet cs es set from top
   pub assumed : (i : ℕ) (e : Entry) → known ≤ i → i < from → slice_get es i ≡ Some e → has_lit (negated_lit e.lit) set ≡ true
   pub untrue : (m : Literal) → has_lit m set ≡ true → has_lit m (lits_of (take known es)) ≡ false
 

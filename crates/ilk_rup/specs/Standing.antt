@@ -44,7 +44,7 @@ pub record IsValidClosedOrNot (k : DerivationState) : Type 0 where
 
 -- Holds if the base is valid, propagation has ended without a conflict, and each entry has a unit
 -- clause.
-pub record IsAfterClosure (k : DerivationState) : Type 0 where
+pub record IsPropagatedWithoutConflict (k : DerivationState) : Type 0 where
   pub loose : IsValidClosedOrNot k
   pub closed : is_saturated k.clauses.clauses (lits_of k.trail.entries) ≡ true
   pub head : k.queue.head ≡ length k.trail.entries
@@ -59,19 +59,19 @@ pub record LogRefutesFormula (k : DerivationState) : Type 0 where
 -- Holds if base `k` may take an item: propagation has ended, or the log refutes the formula.
 pub record IsClosedOrRefuted (k : DerivationState) : Type 0 where
   pub set_vars : k.set.vars ≡ k.formula.now.vars
-  pub going : k.refuted ≡ false → IsAfterClosure k
+  pub going : k.refuted ≡ false → IsPropagatedWithoutConflict k
   pub ended : k.refuted ≡ true → LogRefutesFormula k
 
 -- Holds if the formula is the same, and the clauses of `new` have the same consequences as those of
 -- `old`.
-pub record KeepsConsequences (old new : DerivationState) : Type 0 where
+pub record HasSameFormulaAndConsequences (old new : DerivationState) : Type 0 where
   pub formula : new.formula ≡ old.formula
   pub alike : AreEquivalent old.clauses.clauses new.clauses.clauses
 
 -- Holds if the clauses have the same consequences as before, the trail is the same, and each false
 -- clause stays false.
 pub record KeepsConsequencesTrailAndConflicts (old new : DerivationState) : Type 0 where
-  pub same : KeepsConsequences old new
+  pub same : HasSameFormulaAndConsequences old new
   pub refuted : new.refuted ≡ old.refuted
   pub trail : new.trail ≡ old.trail
   pub conflicts : (c : ℕ) → is_conflict old.clauses.clauses (lits_of old.trail.entries) c ≡ true → is_conflict new.clauses.clauses (lits_of new.trail.entries) c ≡ true
@@ -99,7 +99,7 @@ pub record IsStepForCurrentLiterals (k : DerivationState) (s : Step) : Type 0 wh
 
 -- Holds if the clause of the literals in `old.set` follows, and the clauses of `new` have the
 -- consequences of those of `old` and this clause.
-pub record HasCurrentClauseAdded (old new : DerivationState) : Type 0 where
+pub record CurrentClauseFollowsAndIsAdded (old new : DerivationState) : Type 0 where
   pub stands : IsClosedOrRefuted new
   pub formula : new.formula ≡ old.formula
   pub follows : (c : List Literal) → IsClauseOfExactlyLiterals old.formula.now.vars old.set.lits c → FollowsBySomeHints old.formula.now.vars old.clauses.clauses c
@@ -108,5 +108,5 @@ pub record HasCurrentClauseAdded (old new : DerivationState) : Type 0 where
 -- Holds if the result for the clause of `old.set` is right. After `true` it follows and was added;
 -- after `false` no hints derive it.
 abbrev pub IsTryAddResult : DerivationState → Bool → DerivationState → Type 0
-IsTryAddResult old true new = HasCurrentClauseAdded old new
+IsTryAddResult old true new = CurrentClauseFollowsAndIsAdded old new
 IsTryAddResult old false new = NoHintsDeriveClause old

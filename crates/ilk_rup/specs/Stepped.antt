@@ -4,7 +4,7 @@ use Rattle.ilk_cnf.specs.Formula.{Formula}
 use Rattle.ilk_cnf.specs.Literal.{Literal}
 use Rattle.ilk_lines.specs.Lines.{Bytes}
 use Rattle.ilk_log.specs.Derived.{is_refutation}
-use Rattle.ilk_rup.specs.Accepted.{ItemsAreRightAndRefute, IsFirstBadAmong, FollowsBySomeHints, IsRightItem, clauses_after_item, text_items}
+use Rattle.ilk_rup.specs.Accepted.{ItemsAreRightAndRefute, IsFirstBadAmong, FollowsBySomeHints, IsRightItem, with_clause_added_by_item, text_items}
 use Rattle.ilk_rup.specs.Alike.{AreEquivalent}
 use Rattle.ilk_rup.specs.Checker.{CheckerLists}
 use Rattle.ilk_rup.specs.RefutationText.{split_words_into_items}
@@ -18,7 +18,7 @@ pub record HasAcceptedItem (k : CheckerLists) (old left : List Bytes) (new : Che
   pub is : split_words_into_items old ≡ item ∷ split_words_into_items left
   pub right : IsRightItem k.formula.vars k.clauses item
   pub formula : new.formula ≡ k.formula
-  pub alike : AreEquivalent (clauses_after_item k.formula.vars k.clauses item) new.clauses
+  pub alike : AreEquivalent (with_clause_added_by_item k.formula.vars k.clauses item) new.clauses
   pub shorter : length left < length old
 
 -- Holds if the result for the next item is right. `Right`: the item is right. `Bad`: it is bad, or

@@ -5,7 +5,7 @@ ghost use Rattle.ilk_cnf.specs.Formula.{is_clause_over};
 ghost use Rattle.ilk_cnf.specs.Literal.{Literal, has_lit, has_distinct_vars};
 ghost use Rattle.ilk_watches.specs.Reasons.{is_conflict};
 ghost use Rattle.ilk_trail.specs.Laws.{lits_of};
-ghost use Rattle.ilk_rup.specs.Standing.{KeepsConsequences, IsStepForCurrentLiterals, KeepsConsequencesTrailAndConflicts, IsClauseAddedWithStep, IsTryAddResult, IsValidClosedOrNot, NoHintsDeriveClause, IsAfterClosure, IsClosedOrRefuted};
+ghost use Rattle.ilk_rup.specs.Standing.{HasSameFormulaAndConsequences, IsStepForCurrentLiterals, KeepsConsequencesTrailAndConflicts, IsClauseAddedWithStep, IsTryAddResult, IsValidClosedOrNot, NoHintsDeriveClause, IsPropagatedWithoutConflict, IsClosedOrRefuted};
 
 use crate::assume::{assume_negations, is_true, unset_literals_first};
 use crate::explain::{Conflict, Explainer, reason_index_of_entry};
@@ -126,7 +126,7 @@ impl<'a> DerivationState<'a> {
         requires loose { IsValidClosedOrNot self.old }
         requires going { self.old.refuted ≡ false }
         ensures stands { OnOk result (IsClosedOrRefuted self.new) }
-        ensures same { OnOk result (KeepsConsequences self.old self.new) }
+        ensures same { OnOk result (HasSameFormulaAndConsequences self.old self.new) }
     {
         'rounds: loop {
             match self.queue.propagate(&mut self.clauses, &mut self.trail) {
@@ -153,7 +153,7 @@ impl<'a> DerivationState<'a> {
         requires conflict { IsTrue
             (is_conflict self.old.clauses.clauses (lits_of self.old.trail.entries) conflict) }
         ensures stands { OnOk result (IsClosedOrRefuted self.new) }
-        ensures same { OnOk result (KeepsConsequences self.old self.new) }
+        ensures same { OnOk result (HasSameFormulaAndConsequences self.old self.new) }
     {
         let _ = self.clauses.count();
         let _ = self.trail.count();
@@ -192,7 +192,7 @@ impl<'a> DerivationState<'a> {
     // Returns the clause of the current literals, none of which is true at level 0, with hints that
     // derive it. Returns `None` if and only if no hints do; the trail is unusable afterwards.
     fn derive(&mut self, alloc: Global) -> Result<Option<Step>, AllocError>
-        requires settled { IsAfterClosure self.old }
+        requires settled { IsPropagatedWithoutConflict self.old }
         requires untrue { (l : Literal) → has_lit l self.old.set.lits ≡ true →
             has_lit l (lits_of self.old.trail.entries) ≡ false }
         ensures none { IfOk result (λ step. IfNone step (NoHintsDeriveClause self.old)) }

@@ -5,8 +5,8 @@ ghost use Rattle.ilk_cnf.specs.Formula.{is_lit_over};
 ghost use Rattle.ilk_watches.specs.Reasons.{nth_clause_or_empty};
 ghost use Rattle.std.specs.List.{filter};
 ghost use Rattle.ilk_trail.specs.Laws.{lits_of};
-ghost use Rattle.ilk_rup.specs.Explained.{CanExplain, IsEmptyExplainer};
-ghost use Rattle.ilk_rup.specs.Needs.{HintsDeriveClauseOfLiterals, EntriesForcedOnOtherVars, EntryHasReason, AreNeededLitsAfterClause, HintsWorkWithoutEntry, IsReasonAt, AreNeededLitsAfterLit, HintsFalsifyGivenNeededLits, unit_hints_of_needed};
+ghost use Rattle.ilk_rup.specs.Explained.{IsReadyToExplainConflict, IsEmptyExplainer};
+ghost use Rattle.ilk_rup.specs.Needs.{HintsDeriveClauseOfLiterals, EntriesForcedWithVarsNotInSet, EntryHasReason, AreNeededLitsAfterClause, HintsWorkWithoutEntry, IsReasonAt, AreNeededLitsAfterLit, HintsFalsifyGivenNeededLits, unit_hints_of_needed};
 
 use crate::set::LitSet;
 use ilk_cnf::Lit;
@@ -68,7 +68,7 @@ fn pass(
     requires set { set.now.vars ≡ clauses.now.vars }
     requires trail { trail.now.vars ≡ clauses.now.vars }
     requires below { i < length trail.now.entries }
-    requires walk { EntriesForcedOnOtherVars clauses.now.clauses trail.now.entries set.now.lits
+    requires walk { EntriesForcedWithVarsNotInSet clauses.now.clauses trail.now.entries set.now.lits
         i
         (i + 1) }
     ensures passed { OnOk result
@@ -103,7 +103,7 @@ fn walk(
     requires trail { trail.now.vars ≡ clauses.now.vars }
     requires from { from ≤ top }
     requires top { top ≤ length trail.now.entries }
-    requires walk { EntriesForcedOnOtherVars clauses.now.clauses trail.now.entries set.now.lits
+    requires walk { EntriesForcedWithVarsNotInSet clauses.now.clauses trail.now.entries set.now.lits
         from top }
     requires shows { HintsFalsifyGivenNeededLits clauses.now.clauses (lits_of
         (take top trail.now.entries))
@@ -244,7 +244,7 @@ impl Explainer {
         set: &LitSet,
         at: Conflict,
     ) -> Result<Hints, AllocError>
-        requires { CanExplain self.old clauses.now trail.now set.now at }
+        requires { IsReadyToExplainConflict self.old clauses.now trail.now set.now at }
         ensures hints { IfOk result (λ hints.
             HintsDeriveClauseOfLiterals clauses.now.clauses set.now.lits hints) }
         ensures vars { self.new.needed.vars ≡ self.old.needed.vars }

@@ -17,7 +17,7 @@ use Rattle.ilk_watches.proofs.Within.{clause-there}
 use Rattle.ilk_learn.specs.Levels.{is_current, highest_level}
 use Rattle.ilk_learn.specs.Asserting.{back_level, is_first_lit_at_level, is_false_in_asserting_order}
 use Rattle.ilk_solver.specs.Levels.{LowerLevelsAreSaturated}
-use Rattle.ilk_solver.specs.Search.{SearchLists, IsSearch, all_clauses}
+use Rattle.ilk_solver.specs.Search.{FormulaLogAndView, IsSearch, all_clauses}
 use Rattle.ilk_solver.specs.Learned.{IsLearnedAssertingStep}
 use Rattle.ilk_solver.specs.View.{TrailAndWeights}
 use Rattle.ilk_solver.specs.Held.{search_with_log_and_view, HoldsSearch}
@@ -44,7 +44,7 @@ back-below es (l ∷ ls) a =
     let two = and_parts (is_falsified (lits_of es) (l ∷ ls) && is_current es l) (nat_lt high (level_of es)) one.0 in
     ltb-true high (level_of es) two.1
 
-pub stuck : (s : SearchLists) (step : Step) (k : ℕ) → IsSearch s → 0 < level_of s.view.trail.entries → IsLearnedAssertingStep s step k → CanLearnButNotRefute s.formula s.log
+pub stuck : (s : FormulaLogAndView) (step : Step) (k : ℕ) → IsSearch s → 0 < level_of s.view.trail.entries → IsLearnedAssertingStep s step k → CanLearnButNotRefute s.formula s.log
 stuck s step k h p l = record {
   unrefuted = λ hints. no-false-end (all_clauses s) [] (lits_of (entries_up_to 0 s.view.trail.entries)) hints (h.closed 0 p) (λ m none. absurd (true≢false (sym none)));
   next = (step, l.derived, l.fresh);

@@ -9,7 +9,7 @@ use Rattle.ilk_log.specs.declared.step.Step.{Step}
 use Rattle.ilk_log.specs.Derived.{is_derived, is_derived_log, is_empty_clause, is_refutation, only_last_clause_is_empty, step_clauses}
 use Rattle.ilk_log.specs.Fresh.{IsEmpowering, CanLearnButNotRefute}
 use Rattle.ilk_log.proofs.Count.{fresh_few}
-use Rattle.ilk_solver.specs.Search.{SearchLists}
+use Rattle.ilk_solver.specs.Search.{FormulaLogAndView}
 use Rattle.ilk_solver.specs.Answered.{IsEmpoweringLogWithinBudget, IsSpentLog, has_no_empty_step}
 use Rattle.ilk_log.proofs.Pushed.{derived-push}
 use Rattle.ilk_solver.proofs.Logs.{fresh-push, ends-push}
@@ -72,5 +72,5 @@ spent f budget log h n e st = record {
   small = (let few = fresh_few f log h.derived h.fresh in let each = count-each log n in omega (arith, few, each, e));
 }
 
-pub moved : (P : Formula → List Step → Type 0) (s : SearchLists) (f : Formula) (log : List Step) → s.formula ≡ f → s.log ≡ log → P s.formula s.log → P f log
+pub moved : (P : Formula → List Step → Type 0) (s : FormulaLogAndView) (f : Formula) (log : List Step) → s.formula ≡ f → s.log ≡ log → P s.formula s.log → P f log
 moved P s f log e k h = subst (P f) k (subst (λ (g : Formula). P g s.log) e h)

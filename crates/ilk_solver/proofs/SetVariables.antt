@@ -12,7 +12,7 @@ use Rattle.ilk_trail.specs.Laws.{is_set, lits_of}
 use Rattle.ilk_trail.proofs.Levels.{level-small}
 use Rattle.ilk_solver.specs.Assigned.{AllSet, SomeUnset}
 use Rattle.ilk_solver.specs.View.{TrailAndWeights, IsValidView}
-use Rattle.ilk_solver.specs.Search.{SearchLists, IsSearch}
+use Rattle.ilk_solver.specs.Search.{FormulaLogAndView, IsSearch}
 
 abbrev count_set : ℕ → List Literal → ℕ
 count_set zero ls = 0
@@ -102,7 +102,7 @@ some-unset view k h =
     let u = one-unset view.trail.vars (lits_of view.trail.entries) (omega (arith, c, h)) in
     (u.0, and_from _ _ (and_from _ _ (lt-ltb 0 u.0 u.1) (le-leb u.0 view.trail.vars u.2)) (not_from_false (is_set view.trail.entries u.0) u.3))
 
-pub level-few : (s : SearchLists) → IsSearch s → IsValidView s.view → level_of s.view.trail.entries ≤ s.formula.vars
+pub level-few : (s : FormulaLogAndView) → IsSearch s → IsValidView s.view → level_of s.view.trail.entries ≤ s.formula.vars
 level-few s h k =
     let few = few-entries s.view k in
     let small = level-small 0 s.view.trail.entries k.trail.climbing in

@@ -7,11 +7,11 @@ use Rattle.ilk_arena.specs.Arena.{ArenaContent}
 use Rattle.ilk_watches.specs.Chained.{formula_of}
 use Rattle.ilk_watches.specs.Watched.{IsPropagationInvariant}
 use Rattle.ilk_solver.specs.View.{TrailAndWeights}
-use Rattle.ilk_solver.specs.Search.{SearchLists, IsSearch, all_clauses}
+use Rattle.ilk_solver.specs.Search.{FormulaLogAndView, IsSearch, all_clauses}
 
 -- Returns the search with these clauses, log and view. The first `given` clauses are those of the
 -- formula.
-abbrev pub search_with_log_and_view : Formula → ℕ → List Step → TrailAndWeights → SearchLists
+abbrev pub search_with_log_and_view : Formula → ℕ → List Step → TrailAndWeights → FormulaLogAndView
 search_with_log_and_view clauses given log view = record { formula = record { vars = clauses.vars; clauses = take given clauses.clauses }; log = log; view = view }
 
 -- Holds if the clauses, the log and the view are those of a search. The first `given` clauses are

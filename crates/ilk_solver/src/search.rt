@@ -37,11 +37,11 @@ pub(crate) struct Search {
 }
 
 impl Model for Search {
-    ghost use Rattle.ilk_solver.specs.Search.{SearchLists};
+    ghost use Rattle.ilk_solver.specs.Search.{FormulaLogAndView};
     ghost use Rattle.ilk_watches.specs.Chained.{formula_of};
     ghost use Rattle.ilk_solver.specs.Held.{search_with_log_and_view, HoldsSearchPropagatedTo};
 
-    ghost Value = { SearchLists };
+    ghost Value = { FormulaLogAndView };
 
     ghost view = { λ s. search_with_log_and_view (formula_of s.clauses) s.given s.log s.view };
 

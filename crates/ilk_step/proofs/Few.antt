@@ -13,7 +13,7 @@ use Rattle.ilk_step.specs.Choice.{chosen_lits, choice_part}
 use Rattle.ilk_step.specs.Rules.{settings_unless_skipped_part, rules_part}
 use Rattle.ilk_step.specs.Frame.{setter_lits, value_lits_to_carry_over, equal_unless_any_true, frame_axioms}
 use Rattle.ilk_step.specs.Step.{step_part}
-use Rattle.ilk_step.specs.Size.{total_guard_tree_size, settings_count, copy_literals_count}
+use Rattle.ilk_step.specs.Size.{total_guard_tree_size, settings_count, value_and_bound_lits_count}
 
 choice-few : (m n : ℕ) → ((choice_part m n).vars ≤ n + 2 * m) × (length (choice_part m n).clauses ≤ 4 * m + 1)
 choice-few m n =
@@ -63,7 +63,7 @@ value_lits_to_carry_over-few ls = by_case (length ls == 2)
     by_case true = first_few ls
     by_case false = omega arith
 
-frame_axioms-few : (now next : List VarValueAndBoundLits) (rs : List PlainRule) (k v : ℕ) → length (frame_axioms rs k v now next) ≤ 2 * copy_literals_count now
+frame_axioms-few : (now next : List VarValueAndBoundLits) (rs : List PlainRule) (k v : ℕ) → length (frame_axioms rs k v now next) ≤ 2 * value_and_bound_lits_count now
 frame_axioms-few [] next rs k v = omega arith
 frame_axioms-few (c ∷ now) [] rs k v = omega arith
 frame_axioms-few (c ∷ now) (d ∷ next) rs k v =
@@ -74,7 +74,7 @@ frame_axioms-few (c ∷ now) (d ∷ next) rs k v =
     let one : length values ≤ 2 * length (value_lits_to_carry_over c.values) = equal_unless_any_true-few (value_lits_to_carry_over c.values) (value_lits_to_carry_over d.values) first in
     let few : length (value_lits_to_carry_over c.values) ≤ length c.values = value_lits_to_carry_over-few c.values in
     let two : length bounds ≤ 2 * length c.bounds = equal_unless_any_true-few c.bounds d.bounds first in
-    let three : length rest ≤ 2 * copy_literals_count now = frame_axioms-few now next rs k (v + 1) in
+    let three : length rest ≤ 2 * value_and_bound_lits_count now = frame_axioms-few now next rs k (v + 1) in
     let here : length (values ++ bounds) ≡ length values + length bounds = length-append values bounds in
     let all : length ((values ++ bounds) ++ rest) ≡ length (values ++ bounds) + length rest = length-append (values ++ bounds) rest in
     omega arith
@@ -82,7 +82,7 @@ frame_axioms-few (c ∷ now) (d ∷ next) rs k v =
 pub step-few : (rs : List PlainRule) (now next : List VarValueAndBoundLits) (n : ℕ) →
     ((step_part rs now next n).vars ≤ n + 2 * length rs + total_guard_tree_size rs) ×
     (length (step_part rs now next n).clauses
-    ≤ 4 * length rs + 1 + 2 * total_guard_tree_size rs + settings_count rs + 2 * copy_literals_count now)
+    ≤ 4 * length rs + 1 + 2 * total_guard_tree_size rs + settings_count rs + 2 * value_and_bound_lits_count now)
 step-few rs now next n =
     let p = choice_part (length rs) n in
     let q = rules_part now next (n + 1) rs p.vars in
@@ -93,7 +93,7 @@ step-few rs now next n =
     let two = rules-few rs now next (n + 1) p.vars in
     let rules_vars : q.vars ≤ p.vars + total_guard_tree_size rs = two.0 in
     let rules_clauses : length q.clauses ≤ 2 * total_guard_tree_size rs + settings_count rs = two.1 in
-    let three : length last ≤ 2 * copy_literals_count now = frame_axioms-few now next rs (n + 1) 0 in
+    let three : length last ≤ 2 * value_and_bound_lits_count now = frame_axioms-few now next rs (n + 1) 0 in
     let here : length (q.clauses ++ last) ≡ length q.clauses + length last = length-append q.clauses last in
     let all : length (p.clauses ++ (q.clauses ++ last)) ≡ length p.clauses + length (q.clauses ++ last) = length-append p.clauses (q.clauses ++ last) in
     (omega arith, omega arith)

@@ -14,6 +14,6 @@ settings_count [] = 0
 settings_count (r ∷ rs) = length r.sets + settings_count rs
 
 -- The number of literals for the values and bounds of a system's variables.
-abbrev pub copy_literals_count : List VarValueAndBoundLits → ℕ
-copy_literals_count [] = 0
-copy_literals_count (c ∷ cs) = length c.values + length c.bounds + copy_literals_count cs
+abbrev pub value_and_bound_lits_count : List VarValueAndBoundLits → ℕ
+value_and_bound_lits_count [] = 0
+value_and_bound_lits_count (c ∷ cs) = length c.values + length c.bounds + value_and_bound_lits_count cs

@@ -6,7 +6,7 @@ ghost use Rattle.ilk_ir.specs.System.{plain_rule, rule_valid, in_ranges};
 ghost use Rattle.ilk_forms.specs.Copy.{LiteralsEncode};
 ghost use Rattle.ilk_forms.specs.Leaf.{has_lits_within_vars, ranges_of};
 ghost use Rattle.ilk_step.specs.Choice.{Chooses};
-ghost use Rattle.ilk_step.specs.Size.{total_guard_tree_size, settings_count, copy_literals_count};
+ghost use Rattle.ilk_step.specs.Size.{total_guard_tree_size, settings_count, value_and_bound_lits_count};
 ghost use Rattle.ilk_step.specs.Step.{step_part, step_bits, values_after_rule_number, AreStepBits};
 
 use crate::choice::{Choice, add_rule_choice};
@@ -69,7 +69,7 @@ pub fn add_step(
         (length cnf.new.clauses
         ≤ length cnf.old.clauses +
         (4 * length rules.now + 1 + 2 * total_guard_tree_size (map plain_rule rules.now) +
-        settings_count (map plain_rule rules.now) + 2 * copy_literals_count now.now)) }
+        settings_count (map plain_rule rules.now) + 2 * value_and_bound_lits_count now.now)) }
 {
     let first = cnf.vars() + 1;
     add_rule_choice(alloc, cnf, rules.len())?;

@@ -13,7 +13,7 @@ use Rattle.ilk_plant.specs.Plant.{PlantLists}
 use Rattle.ilk_plant.specs.declared.broken.Broken.{Broken}
 use Rattle.ilk_plant.specs.declared.broken.Rule.{Rule}
 use Rattle.ilk_plant.specs.declared.table.Route.{Route}
-use Rattle.ilk_table_check.specs.Columns.{listed_conflict_matrix, has_later_route_not_listed, has_other_route_not_listed, listed_conflict_flags, listed_conflict_flag_or_false, broken_pairs_with_first}
+use Rattle.ilk_table_check.specs.Columns.{listed_conflict_matrix, does_not_list_all_later_routes, has_other_route_not_listed, listed_conflict_flags, listed_conflict_flag_or_false, broken_pairs_with_first}
 use Rattle.ilk_table_check.proofs.Flagged.{lists_as_conflict-flagged, row-flagged}
 
 none_pass : (test : ℕ → Bool) (a n : ℕ) → ((j : ℕ) → j < a + n → test j ≡ false) → filter test (range_with_len a n) ≡ []
@@ -59,7 +59,8 @@ listed_before p i j second earlier set =
     let flags = listed_conflict_flags p i in
     list_any-none not (take i flags) j (lists_as_conflict p i j) set (get-taken flags i j earlier ∙ own_flag p i j second)
 
-pub none_unlisted : (p : PlantLists) (listed : List (List Bool)) (i : ℕ) → listed ≡ listed_conflict_matrix p → i < length p.routes → has_later_route_not_listed listed i ≡ false → (j : ℕ) → j < length p.routes → shares_without_conflict p i j ≡ false
+pub none_unlisted : (p : PlantLists) (listed : List (List Bool)) (i : ℕ) → listed ≡ listed_conflict_matrix p → i < length p.routes → does_not_list_all_later_routes listed i ≡ false → (j : ℕ) → j < length p.routes → shares_without_conflict p i j
+    ≡ false
 none_unlisted p listed i is first none j second =
     by_test (nat_lt i j) refl
   where

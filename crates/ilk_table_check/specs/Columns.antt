@@ -29,8 +29,8 @@ abbrev pub listed_conflict_flag_or_false : List (List Bool) → ℕ → ℕ → 
 listed_conflict_flag_or_false listed i j = is_some_and (slice_get listed i) (λ flags. slice_index_or flags j false)
 
 -- Returns whether route `i` doesn't list some later route as a conflict, by the table `listed`.
-abbrev pub has_later_route_not_listed : List (List Bool) → ℕ → Bool
-has_later_route_not_listed listed i = is_some_and (slice_get listed i) (λ flags. list_any not (drop (i + 1) flags))
+abbrev pub does_not_list_all_later_routes : List (List Bool) → ℕ → Bool
+does_not_list_all_later_routes listed i = is_some_and (slice_get listed i) (λ flags. list_any not (drop (i + 1) flags))
 
 -- Returns whether route `i` doesn't list some other route as a conflict, by the table `listed`.
 abbrev pub has_other_route_not_listed : List (List Bool) → ℕ → Bool

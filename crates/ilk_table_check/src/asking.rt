@@ -1,7 +1,7 @@
 ghost use Rattle.std.specs.Prelude.{ℕ, ◌≡◌, ◌&&◌, ◌||◌, ◌+◌, ◌<◌, drop, false, length, nat_lt, not, take};
 ghost use Rattle.std.specs.List.{list_any};
 ghost use Rattle.ilk_plant.specs.ColumnRules.{breaks_column_rule_at_pair};
-ghost use Rattle.ilk_table_check.specs.Columns.{listed_conflict_matrix, has_later_route_not_listed, has_other_route_not_listed, listed_conflict_flag_or_false};
+ghost use Rattle.ilk_table_check.specs.Columns.{listed_conflict_matrix, does_not_list_all_later_routes, has_other_route_not_listed, listed_conflict_flag_or_false};
 ghost use Rattle.ilk_base.specs.Numbers.{has_number};
 
 use crate::conflicts::listed_conflict_flag_or_false;
@@ -28,8 +28,8 @@ fn any_unset_after(flags: &Flags, i: u32) -> bool
         .any(|flag| !*flag)
 }
 
-fn has_later_route_not_listed(listed: &Row<Flags>, i: u32) -> bool
-    ensures { result ≡ has_later_route_not_listed listed.now i }
+fn does_not_list_all_later_routes(listed: &Row<Flags>, i: u32) -> bool
+    ensures { result ≡ does_not_list_all_later_routes listed.now i }
 {
     match listed.as_slice().get(i as usize) {
         Some(flags) => any_unset_after(flags, i),
@@ -86,7 +86,7 @@ pub(crate) fn may_break_with_first_route(
     let route = plant.route(i);
     match rule {
         Rule::C5 => any_alone(listed, route.conflicts.as_slice(), i),
-        Rule::C6 => has_later_route_not_listed(listed, i),
+        Rule::C6 => does_not_list_all_later_routes(listed, i),
         Rule::C8 => may_protect_unlisted(listed, route, i),
         _ => true,
     }

@@ -10,7 +10,7 @@ use Rattle.ilk_table_read.specs.declared.route.TheConstants.{MEMBERS_IN_FIRST, M
 use Rattle.ilk_plant.specs.Name.{Name}
 use Rattle.ilk_net_read.specs.declared.version.Version.{Version}
 use Rattle.ilk_net_read.specs.declared.version.Version.TheVariants.{First, Second}
-use Rattle.ilk_net_read.specs.Member.{has_member_count, member_as_text, member_as_optional_text, member_as_array, member_as_texts, all_entries_as}
+use Rattle.ilk_net_read.specs.Member.{has_member_count, member_as_text, member_as_text_or_null, member_as_array, member_as_texts, all_entries_as}
 
 -- Returns the position in the member `position` of an object. Returns `None` if it has no such
 -- member or another value.
@@ -47,7 +47,7 @@ abbrev pub as_route : Version → Data → Option RouteDraft
 as_route version d = do
   name ← member_as_text (codes "name") d
   source ← member_as_text (codes "source") d
-  destination ← member_as_optional_text (codes "destination") d
+  destination ← member_as_text_or_null (codes "destination") d
   path ← member_as_texts (codes "path") d
   overlap ← member_as_texts (codes "overlap") d
   points ← member_as_listed_points (codes "points") d

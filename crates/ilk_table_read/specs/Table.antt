@@ -37,8 +37,8 @@ table_draft_from_conf_value d = document_from_value d >>= table_draft_from_docum
 
 -- Returns the network and the table of a configuration, or the first violated rule: of its text,
 -- its document, its sections in order, then its routes in order.
-abbrev pub net_and_table_drafts : List ℕ → Result (NetDraft × TableDraft) FormFault
-net_and_table_drafts bytes = do
+abbrev pub net_and_table_drafts_from_text : List ℕ → Result (NetDraft × TableDraft) FormFault
+net_and_table_drafts_from_text bytes = do
   d ← value_of bytes
   net ← network_from_conf_value d
   table ← table_draft_from_conf_value d

@@ -1,7 +1,7 @@
 ghost use Rattle.std.specs.Prelude.{IfOk};
 ghost use Rattle.ilk_net_read.specs.Fault.{MatchesUnlessOutOfMemory};
 ghost use Rattle.ilk_plant.specs.Limits.{WithinLimits};
-ghost use Rattle.ilk_table_read.specs.Table.{net_and_table_drafts};
+ghost use Rattle.ilk_table_read.specs.Table.{net_and_table_drafts_from_text};
 
 use crate::table::table_in;
 use ilk_net_read::{FormError, document_from_value, network_from_document, read_value};
@@ -15,7 +15,7 @@ pub fn read_net_and_table_drafts(
     alloc: Global,
     bytes: &[u8],
 ) -> Result<(NetDraft, TableDraft), FormError>
-    ensures exact { MatchesUnlessOutOfMemory result (net_and_table_drafts bytes.now) }
+    ensures exact { MatchesUnlessOutOfMemory result (net_and_table_drafts_from_text bytes.now) }
     ensures limits { IfOk result (λ drafts. WithinLimits drafts.0 drafts.1) }
 {
     let value = read_value(alloc, bytes)?;

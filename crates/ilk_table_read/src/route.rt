@@ -11,8 +11,7 @@ ghost use Rattle.ilk_table_read.specs.Table as table;
 use crate::listed::points_at;
 use ilk_net_read::{
     Form, FormError, Place, ValueReadError, Version, has_member_count, is_between, is_name,
-    is_name_if_given, member_as_optional_text, member_as_text, member_as_texts,
-    rule_error_at_place,
+    is_name_if_given, member_as_text, member_as_text_or_null, member_as_texts, rule_error_at_place,
 };
 use ilk_plant::{
     ListedDraft, MAX_OVERLAP, MAX_PATH, MAX_PROTECTING_BOARDS, MAX_PROTECTING_POINTS,
@@ -72,7 +71,7 @@ fn route(alloc: Global, version: Version, value: &Value) -> Result<RouteDraft, V
 {
     let name = member_as_text(alloc, value, "name")?;
     let source = member_as_text(alloc, value, "source")?;
-    let destination = member_as_optional_text(alloc, value, "destination")?;
+    let destination = member_as_text_or_null(alloc, value, "destination")?;
     let path = member_as_texts(alloc, value, "path")?;
     let overlap = member_as_texts(alloc, value, "overlap")?;
     let points = points_at(alloc, value, "points")?;

@@ -21,7 +21,7 @@ use Rattle.ilk_plant.specs.declared.network.Section.{Section}
 use Rattle.ilk_plant.specs.declared.network.Section.TheVariants.{Linear, Point}
 use Rattle.ilk_tablegen.proofs.IsWay.{IsWay, is_way, ways-are}
 use Rattle.ilk_tablegen.proofs.WayFacts.{before-cons, goes-on, last-cons, way-ends, way-leads}
-use Rattle.ilk_tablegen.specs.EachWay.{IsUnendedPathFrom, IsWayFromSection, TwoWaysDivergePlusFirst}
+use Rattle.ilk_tablegen.specs.EachWay.{IsUnendedPathFrom, IsWayFromSection, WaysPartWithFirstOverPlusLeg}
 use Rattle.ilk_tablegen.specs.Ways.{way_ends_at_section, has_unended_path_from, ways}
 
 module _ (p : PlantLists) (d : Dir) where
@@ -125,35 +125,35 @@ module _ (p : PlantLists) (d : Dir) where
 
   over-one : (n x y : ℕ) →
       ((i j : ℕ) (first second : List ℕ) → i < j → slice_get (ways p d n y) i ≡ Some first →
-      slice_get (ways p d n y) j ≡ Some second → TwoWaysDivergePlusFirst p d y first second) →
+      slice_get (ways p d n y) j ≡ Some second → WaysPartWithFirstOverPlusLeg p d y first second) →
       (i j : ℕ) (first second : List ℕ) → i < j → slice_get (over n y) i ≡ Some first →
-      slice_get (over n y) j ≡ Some second → TwoWaysDivergePlusFirst p d x first second
+      slice_get (over n y) j ≡ Some second → WaysPartWithFirstOverPlusLeg p d x first second
   over-one n x y onward i j first second less at also = by_test (way_ends_at_section p d y) j less at also
     where
       by_test : (b : Bool) (m : ℕ) → i < m →
           slice_get (if b then (y ∷ []) ∷ [] else map (λ way. y ∷ way) (ways p d n y)) i ≡ Some first →
           slice_get (if b then (y ∷ []) ∷ [] else map (λ way. y ∷ way) (ways p d n y)) m ≡ Some second →
-          TwoWaysDivergePlusFirst p d x first second
+          WaysPartWithFirstOverPlusLeg p d x first second
       by_test true zero low e f = absurd (omega (arith, low))
       by_test true (suc m) low e f = absurd (cc)
       by_test false m low e f =
           let one : (rest : List ℕ) × (slice_get (ways p d n y) i ≡ Some rest) × (y ∷ rest ≡ first) = map-at (λ way. y ∷ way) (ways p d n y) i first e in
           let two : (rest : List ℕ) × (slice_get (ways p d n y) m ≡ Some rest) × (y ∷ rest ≡ second) = map-at (λ way. y ∷ way) (ways p d n y) m second f in
-          let parts : TwoWaysDivergePlusFirst p d x (y ∷ one.0) (y ∷ two.0) = inr (refl, onward i m one.0 two.0 low one.1 two.1) in
-          subst (λ a. TwoWaysDivergePlusFirst p d x a second) one.2 (subst (λ b. TwoWaysDivergePlusFirst p d x (y ∷ one.0) b) two.2 parts)
+          let parts : WaysPartWithFirstOverPlusLeg p d x (y ∷ one.0) (y ∷ two.0) = inr (refl, onward i m one.0 two.0 low one.1 two.1) in
+          subst (λ a. WaysPartWithFirstOverPlusLeg p d x a second) one.2 (subst (λ b. WaysPartWithFirstOverPlusLeg p d x (y ∷ one.0) b) two.2 parts)
 
-  over-two : (n x y z : ℕ) → next_to p x d ≡ y ∷ z ∷ [] → (i j : ℕ) (first second : List ℕ) → slice_get (over n y) i ≡ Some first → slice_get (over n z) j ≡ Some second → TwoWaysDivergePlusFirst p d x first second
+  over-two : (n x y z : ℕ) → next_to p x d ≡ y ∷ z ∷ [] → (i j : ℕ) (first second : List ℕ) → slice_get (over n y) i ≡ Some first → slice_get (over n z) j ≡ Some second → WaysPartWithFirstOverPlusLeg p d x first second
   over-two n x y z are i j first second at also =
       let one = begins n y i first at in
       let two = begins n z j second also in
-      let parts : TwoWaysDivergePlusFirst p d x (y ∷ one.0) (z ∷ two.0) = inl are in
-      subst (λ a. TwoWaysDivergePlusFirst p d x a second) one.1 (subst (λ b. TwoWaysDivergePlusFirst p d x (y ∷ one.0) b) two.1 parts)
+      let parts : WaysPartWithFirstOverPlusLeg p d x (y ∷ one.0) (z ∷ two.0) = inl are in
+      subst (λ a. WaysPartWithFirstOverPlusLeg p d x a second) one.1 (subst (λ b. WaysPartWithFirstOverPlusLeg p d x (y ∷ one.0) b) two.1 parts)
 
   in-order-of : (n x : ℕ) (next : List ℕ) → next_to p x d ≡ next → length next ≤ 2 →
       ((y i j : ℕ) (first second : List ℕ) → i < j → slice_get (ways p d n y) i ≡ Some first →
-      slice_get (ways p d n y) j ≡ Some second → TwoWaysDivergePlusFirst p d y first second) →
+      slice_get (ways p d n y) j ≡ Some second → WaysPartWithFirstOverPlusLeg p d y first second) →
       (i j : ℕ) (first second : List ℕ) → i < j → slice_get (flat_map (over n) next) i ≡ Some first →
-      slice_get (flat_map (over n) next) j ≡ Some second → TwoWaysDivergePlusFirst p d x first second
+      slice_get (flat_map (over n) next) j ≡ Some second → WaysPartWithFirstOverPlusLeg p d x first second
   in-order-of n x [] are few onward i j first second less at also = absurd (cc)
   in-order-of n x (y ∷ []) are few onward i j first second less at also =
       elim (split-at (over n y) [] i first at) [
@@ -205,7 +205,7 @@ module _ (p : PlantLists) (d : Dir) where
       by_section None e = let none : length (next_to p x d) ≡ 0 = rw e refl in omega (arith, none)
       by_section (Some section) e = let few : length (next_to p x d) ≡ length (neighbours_on section d) = rw e refl in omega (arith, few, few-beside section d)
 
-  pub in-order : (n x i j : ℕ) (first second : List ℕ) → i < j → slice_get (ways p d n x) i ≡ Some first → slice_get (ways p d n x) j ≡ Some second → TwoWaysDivergePlusFirst p d x first second
+  pub in-order : (n x i j : ℕ) (first second : List ℕ) → i < j → slice_get (ways p d n x) i ≡ Some first → slice_get (ways p d n x) j ≡ Some second → WaysPartWithFirstOverPlusLeg p d x first second
   in-order zero x i j first second less at also = absurd (cc)
   in-order (suc n) x i j first second less at also =
       in-order-of n x (next_to p x d) refl (few-next x) (λ y. in-order n y) i j first second less at also

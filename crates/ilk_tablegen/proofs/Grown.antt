@@ -17,7 +17,7 @@ use Rattle.ilk_plant.specs.declared.limits.TheConstants.{MAX_PATH, MAX_ROUTES}
 use Rattle.ilk_plant.specs.declared.network.Board.{Board}
 use Rattle.ilk_plant.specs.declared.network.Dir.{Dir}
 use Rattle.ilk_tablegen.proofs.Rounds.{board-within}
-use Rattle.ilk_tablegen.specs.Rounds.{empty_way_per_board, ways_within_route_limit, last_section_or_start, is_finished_way, extended_or_finished_ways, extended_way}
+use Rattle.ilk_tablegen.specs.Rounds.{empty_way_per_board, ways_within_route_limit, last_section_or_start, is_finished_way, extensions_of_way_or_itself, extended_way}
 use Rattle.ilk_tablegen.specs.Ways.{all_ways, way_ends_at_section, first_board_with_overlong_way, has_unended_path_from, board_has_overlong_way, ways}
 use Rattle.ilk_tablegen.specs.declared.ways.WayFromBoard.{WayFromBoard}
 use Rattle.ilk_plant.specs.Network.{last_of}
@@ -86,7 +86,7 @@ module _ (p : PlantLists) (n : ℕ) where
       ∙ ap (λ l. map (extended way) (over way.from.dir y) ++ l) (completed-over_all way ys)
       ∙ sym (map-append (extended way) (over way.from.dir y) (flat_map (over way.from.dir) ys))
 
-  round-one : (way : WayFromBoard) → flat_map (completed p n) (extended_or_finished_ways p way) ≡ completed p (suc n) way
+  round-one : (way : WayFromBoard) → flat_map (completed p n) (extensions_of_way_or_itself p way) ≡ completed p (suc n) way
   round-one way = by_test (is_finished_way p way) refl
     where
       by_test : (b : Bool) → is_finished_way p way ≡ b → flat_map (completed p n) (if b then way ∷ [] else map (extended_way way) (next_to p (last_section_or_start way) way.from.dir))
@@ -96,14 +96,14 @@ module _ (p : PlantLists) (n : ℕ) where
           flat_map-map (completed p n) (extended_way way) (next_to p (last_section_or_start way) way.from.dir)
           ∙ completed-over_all way (next_to p (last_section_or_start way) way.from.dir)
 
-  pub round-all : (found : List WayFromBoard) → flat_map (completed p n) (flat_map (extended_or_finished_ways p) found) ≡ flat_map (completed p (suc n)) found
+  pub round-all : (found : List WayFromBoard) → flat_map (completed p n) (flat_map (extensions_of_way_or_itself p) found) ≡ flat_map (completed p (suc n)) found
   round-all [] = refl
   round-all (way ∷ found) =
-      flat_map-append (completed p n) (extended_or_finished_ways p way) (flat_map (extended_or_finished_ways p) found)
-      ∙ ap (λ l. l ++ flat_map (completed p n) (flat_map (extended_or_finished_ways p) found)) (round-one way)
+      flat_map-append (completed p n) (extensions_of_way_or_itself p way) (flat_map (extensions_of_way_or_itself p) found)
+      ∙ ap (λ l. l ++ flat_map (completed p n) (flat_map (extensions_of_way_or_itself p) found)) (round-one way)
       ∙ ap (λ l. completed p (suc n) way ++ l) (round-all found)
 
-  goes-one : IsPlant p → (way : WayFromBoard) → Goes p (suc n) way → All (Goes p n) (extended_or_finished_ways p way)
+  goes-one : IsPlant p → (way : WayFromBoard) → Goes p (suc n) way → All (Goes p n) (extensions_of_way_or_itself p way)
   goes-one plant way goes = by_test (is_finished_way p way) refl
     where
       d : Dir
@@ -137,10 +137,10 @@ module _ (p : PlantLists) (n : ℕ) where
           All-from_slice_get P [] each = All-nil P
           All-from_slice_get P (x ∷ xs) each = All-cons P x xs (each 0 x refl) (All-from_slice_get P xs (λ i z at. each (suc i) z at))
 
-  pub goes-all : IsPlant p → (found : List WayFromBoard) → All (Goes p (suc n)) found → All (Goes p n) (flat_map (extended_or_finished_ways p) found)
+  pub goes-all : IsPlant p → (found : List WayFromBoard) → All (Goes p (suc n)) found → All (Goes p n) (flat_map (extensions_of_way_or_itself p) found)
   goes-all plant [] go = All-nil (Goes p n)
   goes-all plant (way ∷ found) go =
-      All-append (Goes p n) (extended_or_finished_ways p way) (flat_map (extended_or_finished_ways p) found) (goes-one plant way (All-head (Goes p (suc n)) way found go)) (goes-all plant found (All-tail (Goes p (suc n)) way found go))
+      All-append (Goes p n) (extensions_of_way_or_itself p way) (flat_map (extensions_of_way_or_itself p) found) (goes-one plant way (All-head (Goes p (suc n)) way found go)) (goes-all plant found (All-tail (Goes p (suc n)) way found go))
 
 some-way : (p : PlantLists) (d : Dir) (n x : ℕ) → 0 < length (next_to p x d) → has_unended_path_from p d n x ≡ false → 0 < length (ways p d n x)
 some-way p d zero x some ends = absurd (cc)
@@ -227,7 +227,7 @@ pub record AreGrown (p : PlantLists) (n : ℕ) (found : List WayFromBoard) : Typ
 pub begun-grown : (p : PlantLists) → IsPlant p → first_board_with_overlong_way p ≡ None → AreGrown p MAX_PATH (empty_way_per_board p)
 begun-grown p plant none = record { go = begun-go p plant none; whole = begun-whole p }
 
-pub grown-more : (p : PlantLists) → IsPlant p → (n m : ℕ) (found next : List WayFromBoard) → n ≡ suc m → AreGrown p n found → next ≡ flat_map (extended_or_finished_ways p) found → AreGrown p m next
+pub grown-more : (p : PlantLists) → IsPlant p → (n m : ℕ) (found next : List WayFromBoard) → n ≡ suc m → AreGrown p n found → next ≡ flat_map (extensions_of_way_or_itself p) found → AreGrown p m next
 grown-more p plant n m found next count grown after =
     let before : AreGrown p (suc m) found = subst (λ k. AreGrown p k found) count grown in
     subst (AreGrown p m) (sym after) (record { go = goes-all p m plant found before.go; whole = round-all p m found ∙ before.whole })

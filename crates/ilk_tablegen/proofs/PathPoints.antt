@@ -24,7 +24,7 @@ use Rattle.ilk_plant.specs.declared.network.Section.TheVariants.{Linear, Point}
 use Rattle.ilk_plant.specs.declared.table.Listed.{Listed}
 use Rattle.ilk_tablegen.proofs.IsWay.{is_way}
 use Rattle.ilk_tablegen.proofs.WayFacts.{first-next, goes-on}
-use Rattle.ilk_tablegen.specs.Routes.{point_listed_between, points_along, position_towards_any_section}
+use Rattle.ilk_tablegen.specs.Routes.{point_listed_between, points_along, position_towards_one_of_sections}
 use Rattle.ilk_tablegen.specs.Ways.{way_ends_at_section}
 
 -- Returns whether the leg of section x at a position is one of these sections.
@@ -55,7 +55,7 @@ not-listed p z before [] h = refl
 not-listed p z before (x ∷ rest) h =
     ap (contains_section z) (map-append (λ listed. listed.point) (point_listed_between p before x rest) (points_along p x rest))
     ∙ list_any-append (λ y. y == z) (numbers (point_listed_between p before x rest)) (numbers (points_along p x rest))
-    ∙ ap (λ b. b || contains_section z (numbers (points_along p x rest))) (first (position_towards_any_section p (before ∷ take 1 rest) x))
+    ∙ ap (λ b. b || contains_section z (numbers (points_along p x rest))) (first (position_towards_one_of_sections p (before ∷ take 1 rest) x))
     ∙ not-listed p z x rest (right_of (x == z) (contains_section z rest) h)
   where
     left_of : (a b : Bool) → (a || b) ≡ false → a ≡ false
@@ -75,7 +75,7 @@ listed-once p before [] h = refl
 listed-once p before (x ∷ rest) h =
     let parts = and_parts (not (contains_section x rest)) (numbers_differ rest) h in
     ap numbers_differ (map-append (λ listed. listed.point) (point_listed_between p before x rest) (points_along p x rest))
-    ∙ first (position_towards_any_section p (before ∷ take 1 rest) x) (not-listed p x x rest (not-true (contains_section x rest) parts.0)) (listed-once p x rest parts.1)
+    ∙ first (position_towards_one_of_sections p (before ∷ take 1 rest) x) (not-listed p x x rest (not-true (contains_section x rest) parts.0)) (listed-once p x rest parts.1)
   where
     not-true : (b : Bool) → not b ≡ true → b ≡ false
     not-true true e = absurd (cc)
@@ -100,7 +100,7 @@ listed-pass p test before (x ∷ rest) h =
 
     first : (b : Bool) → is_point_section p x ≡ b → list_all test (numbers (points_along p x rest)) ≡ true → list_all test (numbers (point_listed_between p before x rest) ++ numbers (points_along p x rest)) ≡ true
     first false is later = ap (λ (l : List Listed). list_all test (numbers l ++ numbers (points_along p x rest))) (no-point p before x rest is) ∙ later
-    first true is later = listed (position_towards_any_section p (before ∷ take 1 rest) x)
+    first true is later = listed (position_towards_one_of_sections p (before ∷ take 1 rest) x)
       where
         listed : (o : Option Position) → list_all test (numbers (option_to_list (option_map (λ at. record { point = x; at = at }) o)) ++ numbers (points_along p x rest)) ≡ true
         listed None = later
@@ -109,7 +109,7 @@ listed-pass p test before (x ∷ rest) h =
 pub listed-few : (p : PlantLists) (before : ℕ) (path : List ℕ) → length (points_along p before path) ≤ length path
 listed-few p before [] = omega arith
 listed-few p before (x ∷ rest) =
-    let one = first (position_towards_any_section p (before ∷ take 1 rest) x) in
+    let one = first (position_towards_one_of_sections p (before ∷ take 1 rest) x) in
     let more = listed-few p x rest in
     omega (arith, one, more, length-append (point_listed_between p before x rest) (points_along p x rest))
   where

@@ -25,7 +25,7 @@ pub record IsUnendedPathFrom (p : PlantLists) (d : Dir) (x : ℕ) (path : List �
 
 -- Holds if two ways from section x part at a point, the first over its plus leg and the second over
 -- its minus leg.
-abbrev pub TwoWaysDivergePlusFirst : PlantLists → Dir → ℕ → List ℕ → List ℕ → Type 0
-TwoWaysDivergePlusFirst p d x [] others = ⊥
-TwoWaysDivergePlusFirst p d x (y ∷ rest) [] = ⊥
-TwoWaysDivergePlusFirst p d x (y ∷ rest) (z ∷ others) = (next_to p x d ≡ y ∷ z ∷ []) ⊎ ((y ≡ z) × TwoWaysDivergePlusFirst p d y rest others)
+abbrev pub WaysPartWithFirstOverPlusLeg : PlantLists → Dir → ℕ → List ℕ → List ℕ → Type 0
+WaysPartWithFirstOverPlusLeg p d x [] others = ⊥
+WaysPartWithFirstOverPlusLeg p d x (y ∷ rest) [] = ⊥
+WaysPartWithFirstOverPlusLeg p d x (y ∷ rest) (z ∷ others) = (next_to p x d ≡ y ∷ z ∷ []) ⊎ ((y ≡ z) × WaysPartWithFirstOverPlusLeg p d y rest others)

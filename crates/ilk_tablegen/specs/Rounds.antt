@@ -33,8 +33,8 @@ extended_way way y = record { source = way.source; from = way.from; path = way.p
 
 -- The way itself if it has ended, otherwise its extensions by one section, one for each neighbour
 -- ahead.
-abbrev pub extended_or_finished_ways : PlantLists → WayFromBoard → List WayFromBoard
-extended_or_finished_ways p way = if is_finished_way p way then way ∷ [] else map (extended_way way) (next_to p (last_section_or_start way) way.from.dir)
+abbrev pub extensions_of_way_or_itself : PlantLists → WayFromBoard → List WayFromBoard
+extensions_of_way_or_itself p way = if is_finished_way p way then way ∷ [] else map (extended_way way) (next_to p (last_section_or_start way) way.from.dir)
 
 -- For each board, the way from it that has no section yet.
 abbrev pub empty_way_per_board : PlantLists → List WayFromBoard

@@ -15,15 +15,15 @@ use Rattle.ilk_tablegen.specs.declared.ways.WayFromBoard.{WayFromBoard}
 
 -- The position in which point `x` leads to one of these sections, or `None` if none of them is on a
 -- leg of `x`.
-abbrev pub position_towards_any_section : PlantLists → List ℕ → ℕ → Option Position
-position_towards_any_section p sections x =
+abbrev pub position_towards_one_of_sections : PlantLists → List ℕ → ℕ → Option Position
+position_towards_one_of_sections p sections x =
     find (λ at. list_any (λ y. is_some_and (slice_get p.sections x) (is_leg_at_position at y)) sections) (Plus ∷ Minus ∷ [])
 
 -- Section `x` with its position, if it is a point: the position that joins section `before` and the
 -- first section of `after`. Otherwise nothing.
 abbrev pub point_listed_between : PlantLists → ℕ → ℕ → List ℕ → List Listed
 point_listed_between p before x after =
-    option_to_list (option_map (λ at. record { point = x; at = at }) (position_towards_any_section p (before ∷ take 1 after) x))
+    option_to_list (option_map (λ at. record { point = x; at = at }) (position_towards_one_of_sections p (before ∷ take 1 after) x))
 
 -- Each point of a path that comes after section `before`, in order, with its position: that of the
 -- leg which is the section before it or the one after it.

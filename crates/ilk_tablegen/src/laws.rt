@@ -9,7 +9,7 @@ ghost use Rattle.ilk_plant.specs.declared.broken.Rule.TheVariants.{C7};
 ghost use Rattle.ilk_plant.specs.declared.draft.NetDraft.{NetDraft};
 ghost use Rattle.ilk_plant.specs.declared.draft.TableDraft.{TableDraft};
 ghost use Rattle.ilk_plant.specs.declared.network.Dir.{Dir};
-ghost use Rattle.ilk_tablegen.specs.EachWay.{IsUnendedPathFrom, IsWayFromSection, TwoWaysDivergePlusFirst};
+ghost use Rattle.ilk_tablegen.specs.EachWay.{IsUnendedPathFrom, IsWayFromSection, WaysPartWithFirstOverPlusLeg};
 ghost use Rattle.ilk_tablegen.specs.NetworkDraft.{network_draft};
 ghost use Rattle.ilk_tablegen.specs.Rules.{KeepsRulesButC7, BreaksAtMostC7, no_routes};
 ghost use Rattle.ilk_tablegen.specs.Ways.{has_unended_path_from, ways};
@@ -69,7 +69,7 @@ pub fn ways_are_complete_and_distinct(_plant: &Plant)
     ensures order { (d : Dir) (n x i j : ℕ) (first second : List ℕ) → i < j →
         slice_get (ways _plant.now d n x) i ≡ Some first →
         slice_get (ways _plant.now d n x) j ≡ Some second →
-        TwoWaysDivergePlusFirst _plant.now d x first second }
+        WaysPartWithFirstOverPlusLeg _plant.now d x first second }
     ensures on { (d : Dir) (n x : ℕ) →
         IsTrue (has_unended_path_from _plant.now d n x) ↔
         ((path : List ℕ) × (length path ≡ n) × IsUnendedPathFrom _plant.now d x path) }

@@ -2,7 +2,7 @@ ghost use Rattle.std.specs.Prelude.{◌≡◌, ◌∷◌, ◌++◌, ◌<◌, [],
 ghost use Rattle.std.specs.List.{list_any};
 ghost use Rattle.ilk_base.specs.Option.{is_some_and};
 ghost use Rattle.ilk_plant.specs.ColumnRules.{is_leg_at_position};
-ghost use Rattle.ilk_tablegen.specs.Routes.{point_listed_between, points_along, position_towards_any_section};
+ghost use Rattle.ilk_tablegen.specs.Routes.{point_listed_between, points_along, position_towards_one_of_sections};
 
 use ilk_plant::{Listed, Plant, Position, Row, is_leg_at_position};
 use std::alloc::{AllocError, Global};
@@ -19,13 +19,13 @@ fn leads_along(plant: &Plant, x: u32, at: Position, before: u32, after: &[u32]) 
         }
 }
 
-fn position_towards_any_section(
+fn position_towards_one_of_sections(
     plant: &Plant,
     before: u32,
     x: u32,
     after: &[u32],
 ) -> Option<Position>
-    ensures { result ≡ position_towards_any_section plant.now (before ∷ take 1 after.now) x }
+    ensures { result ≡ position_towards_one_of_sections plant.now (before ∷ take 1 after.now) x }
 {
     if leads_along(plant, x, Position::Plus, before, after) {
         Some(Position::Plus)
@@ -46,7 +46,7 @@ fn push_listed(
     ensures { OnOk result (points.new ≡ points.old
         ++ point_listed_between plant.now before x after.now) }
 {
-    if let Some(at) = position_towards_any_section(plant, before, x, after) {
+    if let Some(at) = position_towards_one_of_sections(plant, before, x, after) {
         points.push(Listed { point: x, at })?;
     }
     Ok(())

@@ -1,6 +1,6 @@
 ghost use Rattle.std.specs.Prelude.{◌≡◌, ◌++◌, ◌<◌, All, IfOk, OnOk, None, flat_map, length, map, nat_lt, option_to_list};
 ghost use Rattle.ilk_plant.specs.Network.{last_of};
-ghost use Rattle.ilk_tablegen.specs.Rounds.{empty_way_per_board, ways_within_route_limit, last_section_or_start, is_finished_way, extended_or_finished_ways, extended_way};
+ghost use Rattle.ilk_tablegen.specs.Rounds.{empty_way_per_board, ways_within_route_limit, last_section_or_start, is_finished_way, extensions_of_way_or_itself, extended_way};
 ghost use Rattle.ilk_tablegen.specs.Ways.{first_board_with_overlong_way};
 ghost use Rattle.ilk_plant.specs.declared.limits.TheConstants.{MAX_ROUTES};
 
@@ -75,7 +75,7 @@ fn push_longer(
     way: &WayFromBoard,
 ) -> Result<(), AllocError>
     requires { last_section_or_start way.now < length plant.now.sections }
-    ensures { OnOk result (made.new ≡ made.old ++ extended_or_finished_ways plant.now way.now) }
+    ensures { OnOk result (made.new ≡ made.old ++ extensions_of_way_or_itself plant.now way.now) }
 {
     if is_ended(plant, way) {
         made.push(WayFromBoard {
@@ -97,7 +97,8 @@ fn all_longer(
     ways: &Row<WayFromBoard>,
 ) -> Result<Row<WayFromBoard>, AllocError>
     requires { All (λ way. last_section_or_start way < length plant.now.sections) ways.now }
-    ensures { IfOk result (λ made. made ≡ flat_map (extended_or_finished_ways plant.now) ways.now) }
+    ensures { IfOk result (λ made. made
+        ≡ flat_map (extensions_of_way_or_itself plant.now) ways.now) }
 {
     let mut made = Row::new(alloc);
     for way in ways.as_slice() {

@@ -7,7 +7,7 @@ use Rattle.ilk_io.specs.ReadError.{ReadErrorHasCause}
 use Rattle.ilk_io.specs.declared.reading.ReadError.{ReadError}
 use Rattle.ilk_io.specs.declared.reading.ReadError.TheVariants.{TooLong}
 use Rattle.ilk_io.specs.Source.{HasMoreThan, IsAllLeft, IsAtEnd, Consumes, ConsumesAtMost}
-use Rattle.ilk_top.specs.Feeding.{FedWholeSourceWithinLimit}
+use Rattle.ilk_top.specs.Feeding.{WholeSourceFedAndWithinLimit}
 
 ReaderWasFedBytes-then : (first second third : ExtraInputReader) (front back : List ℕ) → ReaderWasFedBytes first second front → ReaderWasFedBytes second third back → ReaderWasFedBytes first third (front ++ back)
 ReaderWasFedBytes-then first second third front back one two command p read h =
@@ -49,7 +49,7 @@ all-left old (Some rest) done takes end =
 pub Fed-whole :
     (old new after : Option (List ℕ)) (before reader : ExtraInputReader) (count limit n : ℕ) (into : List ℕ) →
     Fed old new before reader count → Consumes new after (take n into) → (n ≡ 0 → 0 < length into → IsAtEnd after) →
-    n ≡ 0 → 0 < length into → count ≤ limit → FedWholeSourceWithinLimit old limit before reader
+    n ≡ 0 → 0 < length into → count ≤ limit → WholeSourceFedAndWithinLimit old limit before reader
 Fed-whole old new after before reader count limit n into so_far takes end none wide within =
     let nothing : Consumes new after [] = subst (λ k. Consumes new after (take k into)) none takes in
     record {
@@ -60,11 +60,11 @@ Fed-whole old new after before reader count limit n into so_far takes end none w
     }
 
 pub kept-whole : {A E : Type 0} (left : Option (List ℕ)) (limit : ℕ) (before after kept : ExtraInputReader) (x : A) (read : Result A E) (result : Result ExtraInputReader E)
-    → result ≡ Ok kept → IfOk result (λ k. (k ≡ after) × (read ≡ Ok x)) → IfOk read (λ _. FedWholeSourceWithinLimit left limit before after) → FedWholeSourceWithinLimit left limit before kept
+    → result ≡ Ok kept → IfOk result (λ k. (k ≡ after) × (read ≡ Ok x)) → IfOk read (λ _. WholeSourceFedAndWithinLimit left limit before after) → WholeSourceFedAndWithinLimit left limit before kept
 kept-whole left limit before after kept x read result is held whole =
     let both : (kept ≡ after) × (read ≡ Ok x) = subst (λ r. IfOk r (λ k. (k ≡ after) × (read ≡ Ok x))) is held in
-    let fed : FedWholeSourceWithinLimit left limit before after = subst (λ r. IfOk r (λ _. FedWholeSourceWithinLimit left limit before after)) both.1 whole in
-    subst (FedWholeSourceWithinLimit left limit before) (sym both.0) fed
+    let fed : WholeSourceFedAndWithinLimit left limit before after = subst (λ r. IfOk r (λ _. WholeSourceFedAndWithinLimit left limit before after)) both.1 whole in
+    subst (WholeSourceFedAndWithinLimit left limit before) (sym both.0) fed
 
 pub kept-longer : {A B : Type 0} (left : Option (List ℕ)) (limit old new : ℕ) (read : Result A ReadError) (result : Result B ReadError)
     → result ≡ Err TooLong → IfErr result (λ e. read ≡ Err e) → IfErr read (λ e. ReadErrorHasCause e limit left old new) → HasMoreThan left limit

@@ -1,7 +1,7 @@
 ghost use Rattle.std.specs.Prelude.{◌≡◌, ◌≢◌, ◌+◌, ◌^◌, ◌<◌, ◌≤◌, Err, IfOk, IfErr};
 ghost use Rattle.ilk_io.specs.ReadError.{ReadErrorHasCause};
 ghost use Rattle.ilk_io.specs.Source.{IsAtEnd, ConsumesAtMost};
-ghost use Rattle.ilk_top.specs.Feeding.{FedWholeSourceWithinLimit};
+ghost use Rattle.ilk_top.specs.Feeding.{WholeSourceFedAndWithinLimit};
 
 use ilk_answers::ExtraInputReader;
 use ilk_io::{Failed, ReadError, Source};
@@ -23,7 +23,7 @@ pub(crate) fn feed_whole_source_to_reader<S: Source>(
 ) -> Result<(), ReadError>
     requires limit { limit < 2 ^ 40 }
     ensures whole { IfOk result (λ _.
-        FedWholeSourceWithinLimit (S.left source.old) limit reader.old reader.new) }
+        WholeSourceFedAndWithinLimit (S.left source.old) limit reader.old reader.new) }
     ensures end { IfOk result (λ _. IsAtEnd (S.left source.new)) }
     ensures cause { IfErr result
         (λ e. ReadErrorHasCause e limit (S.left source.old) (S.faults source.old)

@@ -34,7 +34,7 @@ use Rattle.ilk_forms.proofs.CopyTable.{copy-lits_in, copy-ranges}
 use Rattle.ilk_step.proofs.StepLaw.{says-left}
 use Rattle.ilk_unroll.specs.Query.{copies_part}
 use Rattle.ilk_unroll.specs.Assignment.{copies_bits}
-use Rattle.ilk_unroll.specs.Tables.{are_copies_within_vars, is_valid_in_each, CopiesHaveRanges}
+use Rattle.ilk_unroll.specs.Tables.{are_copies_within_vars, is_valid_in_each, EachCopyHasTheseRanges}
 
 pub copies-low : (count : ℕ) (ranges : List ℕ) (n : ℕ) → n ≤ (copies_part ranges count n).part.vars
 copies-low zero ranges n = omega arith
@@ -63,7 +63,7 @@ copies-are_copies_within_vars (suc count) ranges n fit =
     let m = later.part.vars in
     and_from _ _ (copy-lits_in ranges m fit) (are_copies_within_vars-more m (copy_part ranges m).part.vars later.tables (copy-low ranges m) (copies-are_copies_within_vars count ranges n fit))
 
-pub copies-ranges : (count : ℕ) (ranges : List ℕ) (n : ℕ) → ranges_fit ranges ≡ true → CopiesHaveRanges ranges (copies_part ranges count n).tables
+pub copies-ranges : (count : ℕ) (ranges : List ℕ) (n : ℕ) → ranges_fit ranges ≡ true → EachCopyHasTheseRanges ranges (copies_part ranges count n).tables
 copies-ranges zero ranges n fit = tt
 copies-ranges (suc count) ranges n fit = (copy-ranges ranges (copies_part ranges count n).part.vars fit, copies-ranges count ranges n fit)
 
@@ -71,7 +71,7 @@ pub copies-many : (count : ℕ) (ranges : List ℕ) (n : ℕ) → length (copies
 copies-many zero ranges n = refl
 copies-many (suc count) ranges n = ap suc (copies-many count ranges n)
 
-pub is_valid_in_each-from : (ranges : List ℕ) (tables : List (List VarValueAndBoundLits)) (t : Tree) → CopiesHaveRanges ranges tables → tree_valid ranges t ≡ true → is_valid_in_each tables t ≡ true
+pub is_valid_in_each-from : (ranges : List ℕ) (tables : List (List VarValueAndBoundLits)) (t : Tree) → EachCopyHasTheseRanges ranges tables → tree_valid ranges t ≡ true → is_valid_in_each tables t ≡ true
 is_valid_in_each-from ranges [] t h k = refl
 is_valid_in_each-from ranges (table ∷ tables) t h k = and_from _ _ (ap (λ (rs : List ℕ). tree_valid rs t) h.0 ∙ k) (is_valid_in_each-from ranges tables t h.1 k)
 
@@ -232,7 +232,7 @@ copies-step f g ranges tables whole table i rest before fit left begins seen is 
 pub within-at : (tables : List (List VarValueAndBoundLits)) (n j : ℕ) (table : List VarValueAndBoundLits) → are_copies_within_vars n tables ≡ true → slice_get tables j ≡ Some table → has_lits_within_vars n table ≡ true
 within-at tables n j table h at = list_all-slice_get (has_lits_within_vars n) tables j table h at
 
-pub ranges-at : (tables : List (List VarValueAndBoundLits)) (ranges : List ℕ) (j : ℕ) (table : List VarValueAndBoundLits) → CopiesHaveRanges ranges tables → slice_get tables j ≡ Some table → ranges_of table ≡ ranges
+pub ranges-at : (tables : List (List VarValueAndBoundLits)) (ranges : List ℕ) (j : ℕ) (table : List VarValueAndBoundLits) → EachCopyHasTheseRanges ranges tables → slice_get tables j ≡ Some table → ranges_of table ≡ ranges
 ranges-at [] ranges j table h at = absurd cc
 ranges-at (t ∷ tables) ranges zero table h at = ap ranges_of (sym (same_Some t table at)) ∙ h.0
 ranges-at (t ∷ tables) ranges (suc j) table h at = ranges-at tables ranges j table h.1 at

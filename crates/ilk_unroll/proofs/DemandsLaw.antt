@@ -18,7 +18,7 @@ use Rattle.ilk_ir.specs.Tree.{Tree, all_of, negation, trees_from_list, tree_hold
 use Rattle.ilk_ir.proofs.Trees.{each_valid-trees_from_list}
 use Rattle.ilk_forms.specs.declared.copy.VarValueAndBoundLits.{VarValueAndBoundLits}
 use Rattle.ilk_forms.specs.Leaf.{has_lits_within_vars, ranges_of}
-use Rattle.ilk_forms.specs.Gates.{bool_equals}
+use Rattle.ilk_forms.specs.Gates.{bools_are_equal}
 use Rattle.ilk_forms.specs.Demand.{some_lit_or_form_part, some_lit_or_form_bits}
 use Rattle.ilk_forms.specs.Violated.{form_fails_part, form_fails_bits}
 use Rattle.ilk_forms.proofs.Reading.{Reads, reads}
@@ -27,11 +27,11 @@ use Rattle.ilk_forms.proofs.ViolatedLaw.{form_fails-fits, form_fails-law}
 use Rattle.ilk_step.proofs.RulesLaw.{then-fits, then-law}
 use Rattle.ilk_unroll.specs.declared.queries.Wanted.{Wanted}
 use Rattle.ilk_unroll.specs.declared.queries.Wanted.TheVariants.{Hazard, Breach, Step}
-use Rattle.ilk_unroll.specs.Goal.{PlainGoal, CopyDemand, goal_valid, step_count, demand_form_holds_in_copy, demand_form_fails_in_copy, form_demands_below_copy, demands_of}
+use Rattle.ilk_unroll.specs.Goal.{PlainGoalForms, CopyDemand, goal_valid, step_count, demand_form_holds_in_copy, demand_form_fails_in_copy, form_demands_below_copy, demands_of}
 use Rattle.ilk_unroll.specs.Run.{demand_is_met_by_run}
 use Rattle.ilk_unroll.specs.Query.{copy_lits_at, demanded_part, demands_part}
-use Rattle.ilk_unroll.specs.Assignment.{demanded_bits, demands_bits}
-use Rattle.ilk_unroll.specs.Tables.{are_copies_within_vars, CopiesHaveRanges}
+use Rattle.ilk_unroll.specs.Assignment.{one_demand_bits, demands_bits}
+use Rattle.ilk_unroll.specs.Tables.{are_copies_within_vars, EachCopyHasTheseRanges}
 use Rattle.ilk_unroll.proofs.CopiesLaw.{TablesSay, table-at, tables_say-more, are_copies_within_vars-more}
 
 same : (n : ℕ) → n ≤ n
@@ -51,12 +51,12 @@ table-in [] n j h less = absurd (omega arith)
 table-in (table ∷ tables) n zero h less = (and_parts (has_lits_within_vars n table) (are_copies_within_vars n tables) h).0
 table-in (table ∷ tables) n (suc j) h less = table-in tables n j (and_parts (has_lits_within_vars n table) (are_copies_within_vars n tables) h).1 (omega arith)
 
-table-ranges : (tables : List (List VarValueAndBoundLits)) (ranges : List ℕ) (j : ℕ) → CopiesHaveRanges ranges tables → j < length tables → ranges_of (copy_lits_at tables j) ≡ ranges
+table-ranges : (tables : List (List VarValueAndBoundLits)) (ranges : List ℕ) (j : ℕ) → EachCopyHasTheseRanges ranges tables → j < length tables → ranges_of (copy_lits_at tables j) ≡ ranges
 table-ranges [] ranges j h less = absurd (omega arith)
 table-ranges (table ∷ tables) ranges zero h less = h.0
 table-ranges (table ∷ tables) ranges (suc j) h less = table-ranges tables ranges j h.1 (omega arith)
 
-demands_of-fits : (tables : List (List VarValueAndBoundLits)) (ranges : List ℕ) (d : CopyDemand) (n : ℕ) → are_copies_within_vars n tables ≡ true → CopiesHaveRanges ranges tables → demanded_valid ranges (length tables) d ≡ true →
+demands_of-fits : (tables : List (List VarValueAndBoundLits)) (ranges : List ℕ) (d : CopyDemand) (n : ℕ) → are_copies_within_vars n tables ≡ true → EachCopyHasTheseRanges ranges tables → demanded_valid ranges (length tables) d ≡ true →
     PartFits n (demanded_part tables d n)
 demands_of-fits tables ranges d n h r valid =
     let parts = and_parts (nat_lt d.copy (length tables)) (tree_valid ranges d.form) valid in
@@ -64,7 +64,7 @@ demands_of-fits tables ranges d n h r valid =
     holds-fits d.holds (copy_lits_at tables d.copy) d.form n (table-in tables n d.copy h less) (ap (λ (rs : List ℕ). tree_valid rs d.form) (table-ranges tables ranges d.copy r less) ∙ parts.1)
 
 pub demands-fits : (ds : List CopyDemand) (tables : List (List VarValueAndBoundLits)) (ranges : List ℕ) (n : ℕ) →
-    are_copies_within_vars n tables ≡ true → CopiesHaveRanges ranges tables →
+    are_copies_within_vars n tables ≡ true → EachCopyHasTheseRanges ranges tables →
     list_all (demanded_valid ranges (length tables)) ds ≡ true → PartFits n (demands_part tables ds n)
 demands-fits [] tables ranges n h r valid = record { low = same n; inside = refl }
 demands-fits (d ∷ ds) tables ranges n h r valid =
@@ -78,7 +78,7 @@ holds-law :
     length a ≡ n → Reads a columns ranges values → tree_valid (ranges_of columns) t ≡ true →
     ExtensionsAreExactly a (cond holds (some_lit_or_form_part columns [] t n) (form_fails_part columns t n)).vars
     (cond holds (some_lit_or_form_part columns [] t n) (form_fails_part columns t n)).clauses
-    (PassesAndEqualsGivenValues (bool_equals holds (tree_holds values t))
+    (PassesAndEqualsGivenValues (bools_are_equal holds (tree_holds values t))
     (cond holds (some_lit_or_form_bits columns [] t a) (form_fails_bits columns t a)))
 holds-law true columns ranges values t a n size r k = some_lit_or_form-law t columns ranges values [] a n size r refl k
 holds-law false columns ranges values t a n size r k = form_fails-law t columns ranges values a n size r k
@@ -88,7 +88,7 @@ demands_of-law :
     (n : ℕ) → length a ≡ n →
     TablesSay a n ranges tables run → demanded_valid ranges (length tables) d ≡ true →
     ExtensionsAreExactly a (demanded_part tables d n).vars (demanded_part tables d n).clauses
-    (PassesAndEqualsGivenValues (demand_is_met_by_run run d) (demanded_bits tables d a))
+    (PassesAndEqualsGivenValues (demand_is_met_by_run run d) (one_demand_bits tables d a))
 demands_of-law tables run ranges d a n size h valid =
     let parts = and_parts (nat_lt d.copy (length tables)) (tree_valid ranges d.form) valid in
     let less : d.copy < length tables = ltb-true d.copy (length tables) parts.0 in
@@ -98,13 +98,13 @@ demands_of-law tables run ranges d a n size h valid =
     let p = demanded_part tables d n in
     let says = at.0 in
     let law = holds-law d.holds table ranges values d.form a n size (reads a table ranges values n size says.within says.says says.in_range) (ap (λ (rs : List ℕ). tree_valid rs d.form) says.has_ranges ∙ parts.1) in
-    let met : bool_equals d.holds (tree_holds values d.form) ≡ demand_is_met_by_run run d = ap (λ (o : Option (List ℕ)). is_some_and o (λ ws. bool_equals d.holds (tree_holds ws d.form))) (sym at.1) in
-    subst (λ (b : Bool). ExtensionsAreExactly a p.vars p.clauses (PassesAndEqualsGivenValues b (demanded_bits tables d a))) met law
+    let met : bools_are_equal d.holds (tree_holds values d.form) ≡ demand_is_met_by_run run d = ap (λ (o : Option (List ℕ)). is_some_and o (λ ws. bools_are_equal d.holds (tree_holds ws d.form))) (sym at.1) in
+    subst (λ (b : Bool). ExtensionsAreExactly a p.vars p.clauses (PassesAndEqualsGivenValues b (one_demand_bits tables d a))) met law
 
 pub demands-law :
     (ds : List CopyDemand) (tables : List (List VarValueAndBoundLits)) (run : List (List ℕ)) (ranges : List ℕ) (a : List Bool)
     (n : ℕ) → length a ≡ n →
-    are_copies_within_vars n tables ≡ true → CopiesHaveRanges ranges tables → TablesSay a n ranges tables run →
+    are_copies_within_vars n tables ≡ true → EachCopyHasTheseRanges ranges tables → TablesSay a n ranges tables run →
     list_all (demanded_valid ranges (length tables)) ds ≡ true →
     ExtensionsAreExactly a (demands_part tables ds n).vars (demands_part tables ds n).clauses
     (PassesAndEqualsGivenValues (list_all (demand_is_met_by_run run) ds) (demands_bits tables ds a))
@@ -112,7 +112,7 @@ demands-law [] tables run ranges a n size inside r h valid = no_more_if a n [] t
 demands-law (d ∷ ds) tables run ranges a n size inside r h valid =
     let parts = and_parts (demanded_valid ranges (length tables) d) (list_all (demanded_valid ranges (length tables)) ds) valid in
     let p = demanded_part tables d n in
-    let e = demanded_bits tables d a in
+    let e = one_demand_bits tables d a in
     let one = demands_of-fits tables ranges d n inside r parts.0 in
     let more = are_copies_within_vars-more n p.vars tables one.low inside in
     then-law a e (demands_bits tables ds (a ++ e)) (demand_is_met_by_run run d) (list_all (demand_is_met_by_run run) ds) n p
@@ -125,7 +125,7 @@ below-valid : (ranges : List ℕ) (count : ℕ) (t : Tree) (k start : ℕ) → s
 below-valid ranges count t zero start le h = refl
 below-valid ranges count t (suc k) start le h = and_from _ _ (and_from _ _ (lt-ltb start count (omega arith)) h) (below-valid ranges count t k (start + 1) (omega arith) h)
 
-pub record GoalValid (ranges : List ℕ) (g : PlainGoal) : Type 0 where
+pub record GoalValid (ranges : List ℕ) (g : PlainGoalForms) : Type 0 where
   pub start : tree_valid ranges g.start ≡ true
   pub hazard : tree_valid ranges g.hazard ≡ true
   pub wellformed : tree_valid ranges g.wellformed ≡ true
@@ -133,7 +133,7 @@ pub record GoalValid (ranges : List ℕ) (g : PlainGoal) : Type 0 where
   pub kept : tree_valid ranges (all_of (trees_from_list (g.wellformed ∷ g.families))) ≡ true
   pub safe : tree_valid ranges (all_of (trees_from_list (negation g.hazard ∷ g.families))) ≡ true
 
-pub goal-valid : (ranges : List ℕ) (g : PlainGoal) → goal_valid ranges g ≡ true → GoalValid ranges g
+pub goal-valid : (ranges : List ℕ) (g : PlainGoalForms) → goal_valid ranges g ≡ true → GoalValid ranges g
 goal-valid ranges g h =
     let all = and_parts (tree_valid ranges g.start && tree_valid ranges g.hazard && tree_valid ranges g.wellformed) (list_all (tree_valid ranges) g.families) h in
     let three = and_parts (tree_valid ranges g.start && tree_valid ranges g.hazard) (tree_valid ranges g.wellformed) all.0 in
@@ -144,7 +144,7 @@ goal-valid ranges g h =
 one-valid : (ranges : List ℕ) (count j : ℕ) (t : Tree) (holds : Bool) → j < count → tree_valid ranges t ≡ true → demanded_valid ranges count (record { copy = j; form = t; holds = holds }) ≡ true
 one-valid ranges count j t holds less h = and_from _ _ (lt-ltb j count less) h
 
-pub demands_of-valid : (ranges : List ℕ) (g : PlainGoal) (q : Wanted) → goal_valid ranges g ≡ true → list_all (demanded_valid ranges (suc (step_count q))) (demands_of g q) ≡ true
+pub demands_of-valid : (ranges : List ℕ) (g : PlainGoalForms) (q : Wanted) → goal_valid ranges g ≡ true → list_all (demanded_valid ranges (suc (step_count q))) (demands_of g q) ≡ true
 demands_of-valid ranges g (Hazard n) h =
     let k = goal-valid ranges g h in
     and_from _ _ (one-valid ranges (suc n) 0 g.start true (omega arith) k.start)

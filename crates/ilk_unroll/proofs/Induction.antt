@@ -14,7 +14,7 @@ use Rattle.ilk_ir.specs.Tree.{Tree, all_of, negation, trees_from_list, tree_hold
 use Rattle.ilk_ir.specs.System.{PlainSystem, rule_valid, in_ranges}
 use Rattle.ilk_ir.proofs.Trees.{all_of-holds}
 use Rattle.ilk_unroll.specs.declared.queries.Wanted.TheVariants.{Hazard, Breach, Step}
-use Rattle.ilk_unroll.specs.Goal.{PlainGoal, CopyDemand, demand_form_holds_in_copy, demand_form_fails_in_copy, form_demands_below_copy}
+use Rattle.ilk_unroll.specs.Goal.{PlainGoalForms, CopyDemand, demand_form_holds_in_copy, demand_form_fails_in_copy, form_demands_below_copy}
 use Rattle.ilk_unroll.specs.Run.{run_firing_rules, demand_is_met_by_run}
 use Rattle.ilk_unroll.proofs.Runs.{run-is}
 use Rattle.ilk_unroll.specs.Evidence.{HasRun}
@@ -32,7 +32,7 @@ met-same : (run other : List (List ℕ)) (i j : ℕ) (t : Tree) (holds : Bool) �
 met-same run other i j t holds same = ap (λ (o : Option (List ℕ)). is_some_and o (λ ws. cond holds (tree_holds ws t) (not (tree_holds ws t)))) same
 
 -- A run from the start through well-formed values.
-record FromStart (s : PlainSystem) (g : PlainGoal) (n : ℕ) (first rules : List ℕ) : Type 0 where
+record FromStart (s : PlainSystem) (g : PlainGoalForms) (n : ℕ) (first rules : List ℕ) : Type 0 where
   in_range : in_ranges first s.ranges ≡ true
   many : length rules ≡ n
   run : List (List ℕ)
@@ -41,7 +41,7 @@ record FromStart (s : PlainSystem) (g : PlainGoal) (n : ℕ) (first rules : List
   wellformed : (j : ℕ) → j < n → demand_is_met_by_run run (demand_form_holds_in_copy j g.wellformed) ≡ true
 
 kept-before :
-    (s : PlainSystem) (g : PlainGoal) (n : ℕ) (first rules : List ℕ) (w : FromStart s g n first rules) (j : ℕ)
+    (s : PlainSystem) (g : PlainGoalForms) (n : ℕ) (first rules : List ℕ) (w : FromStart s g n first rules) (j : ℕ)
     (values : List ℕ) → j < n →
     ¬ HasRun s g (Breach j) → slice_get w.run j ≡ Some values → list_all (tree_holds values) g.families ≡ true
 kept-before s g n first rules w j values less none at = by_case (list_all (tree_holds values) g.families) refl
@@ -64,7 +64,7 @@ kept-before s g n first rules w j values less none at = by_case (list_all (tree_
         absurd (none (first, take j rules, wanted-from s g (Breach j) first (take j rules) wanted))
 
 kept-later :
-    (s : PlainSystem) (g : PlainGoal) (n : ℕ) (first rules : List ℕ) (w : FromStart s g n first rules) (m k : ℕ)
+    (s : PlainSystem) (g : PlainGoalForms) (n : ℕ) (first rules : List ℕ) (w : FromStart s g n first rules) (m k : ℕ)
     → m + k ≡ n →
     ((j : ℕ) → j < n → ¬ HasRun s g (Breach j)) → (j : ℕ) → j < k →
     list_all (λ t. demand_is_met_by_run (drop m w.run) (demand_form_holds_in_copy j t)) g.families ≡ true
@@ -75,7 +75,7 @@ kept-later s g n first rules w m k whole none j less =
     ap (λ (o : Option (List ℕ)). list_all (λ t. is_some_and o (λ ws. tree_holds ws t)) g.families) at
     ∙ kept-before s g n first rules w (m + j) here.values (omega arith) (none (m + j) (omega arith)) here.at
 
-last-steps : (s : PlainSystem) (g : PlainGoal) (k n : ℕ) (first rules : List ℕ) →
+last-steps : (s : PlainSystem) (g : PlainGoalForms) (k n : ℕ) (first rules : List ℕ) →
     list_all (rule_valid s.ranges) s.rules ≡ true → k ≤ n → (w : FromStart s g n first rules) →
     ((j : ℕ) → j < n → ¬ HasRun s g (Breach j)) →
     demand_is_met_by_run w.run (demand_form_fails_in_copy n (all_of (trees_from_list (negation g.hazard ∷ g.families)))) ≡ true → HasRun s g (Step k)
@@ -100,7 +100,7 @@ last-steps s g k n first rules valid le w none last =
     let wanted : IsWanted s g (Step k) m.values (drop (n - k) rules) = record { in_range = in_range; many = omega (arith, size, many, le); run = run; is = m.after; met = met } in
     (m.values, drop (n - k) rules, wanted-from s g (Step k) m.values (drop (n - k) rules) wanted)
 
-hazard-steps : (s : PlainSystem) (g : PlainGoal) (k n : ℕ) → list_all (rule_valid s.ranges) s.rules ≡ true → k ≤ n → ((j : ℕ) → j < n → ¬ HasRun s g (Breach j)) → HasRun s g (Hazard n) → HasRun s g (Step k)
+hazard-steps : (s : PlainSystem) (g : PlainGoalForms) (k n : ℕ) → list_all (rule_valid s.ranges) s.rules ≡ true → k ≤ n → ((j : ℕ) → j < n → ¬ HasRun s g (Breach j)) → HasRun s g (Hazard n) → HasRun s g (Step k)
 hazard-steps s g k n valid le none has =
     let w = wanted-parts s g (Hazard n) has.0 has.1 has.2 in
     let many : length has.1 ≡ n = w.many in
@@ -117,7 +117,7 @@ and-false : (a : Bool) → (a && false) ≡ false
 and-false true = refl
 and-false false = refl
 
-breach-steps : (s : PlainSystem) (g : PlainGoal) (k n : ℕ) → list_all (rule_valid s.ranges) s.rules ≡ true → k ≤ n → ((j : ℕ) → j < n → ¬ HasRun s g (Breach j)) → HasRun s g (Breach n) → HasRun s g (Step k)
+breach-steps : (s : PlainSystem) (g : PlainGoalForms) (k n : ℕ) → list_all (rule_valid s.ranges) s.rules ≡ true → k ≤ n → ((j : ℕ) → j < n → ¬ HasRun s g (Breach j)) → HasRun s g (Breach n) → HasRun s g (Step k)
 breach-steps s g k n valid le none has =
     let w = wanted-parts s g (Breach n) has.0 has.1 has.2 in
     let many : length has.1 ≡ n = w.many in
@@ -132,7 +132,7 @@ breach-steps s g k n valid le none has =
     (λ (b : Bool). not (not (tree_holds m.values g.hazard) && b)) here ∙ ap not (and-false (not (tree_holds m.values g.hazard))) in
     last-steps s g k n has.0 has.1 valid le (record { in_range = w.in_range; many = w.many; run = w.run; is = w.is; start = parts.0; wellformed = λ j less. below-each w.run g.wellformed (n + 1) j rest.0 (omega arith) }) none last
 
-forever-to : (s : PlainSystem) (g : PlainGoal) (k : ℕ) → list_all (rule_valid s.ranges) s.rules ≡ true →
+forever-to : (s : PlainSystem) (g : PlainGoalForms) (k : ℕ) → list_all (rule_valid s.ranges) s.rules ≡ true →
     ((n : ℕ) → n ≤ k → ¬ HasRun s g (Hazard n)) → ((n : ℕ) → n ≤ k → ¬ HasRun s g (Breach n)) →
     ¬ HasRun s g (Step k) → (bound n : ℕ) → n ≤ bound → (¬ HasRun s g (Hazard n)) × (¬ HasRun s g (Breach n))
 forever-to s g k valid hazards breaches step zero n le = (hazards n (omega arith), breaches n (omega arith))
@@ -143,7 +143,7 @@ forever-to s g k valid hazards breaches step (suc bound) n le =
       | inr short ↦ (hazards n short, breaches n short)
     ]
 
-pub forever : (s : PlainSystem) (g : PlainGoal) (k : ℕ) → list_all (rule_valid s.ranges) s.rules ≡ true →
+pub forever : (s : PlainSystem) (g : PlainGoalForms) (k : ℕ) → list_all (rule_valid s.ranges) s.rules ≡ true →
     ((n : ℕ) → n ≤ k → ¬ HasRun s g (Hazard n)) → ((n : ℕ) → n ≤ k → ¬ HasRun s g (Breach n)) →
     ¬ HasRun s g (Step k) → (n : ℕ) → (¬ HasRun s g (Hazard n)) × (¬ HasRun s g (Breach n))
 forever s g k valid hazards breaches step n = forever-to s g k valid hazards breaches step n n (omega arith)

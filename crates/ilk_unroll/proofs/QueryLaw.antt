@@ -12,11 +12,11 @@ use Rattle.ilk_forms.specs.Copy.{LiteralsEncode, copy_part}
 use Rattle.ilk_forms.proofs.ColumnLaw.{ranges_fit}
 use Rattle.ilk_forms.proofs.DemandLaw.{PartFits}
 use Rattle.ilk_unroll.specs.declared.queries.Wanted.{Wanted}
-use Rattle.ilk_unroll.specs.Goal.{PlainGoal, CopyDemand, goal_valid, step_count, demands_of}
+use Rattle.ilk_unroll.specs.Goal.{PlainGoalForms, CopyDemand, goal_valid, step_count, demands_of}
 use Rattle.ilk_unroll.specs.Run.{run_firing_rules, demand_is_met_by_run, is_wanted_run}
 use Rattle.ilk_unroll.specs.Query.{PartWithCopyLits, copies_part, steps_part, demands_part, query_part}
 use Rattle.ilk_unroll.specs.Assignment.{copies_bits, steps_bits, demands_bits, run_bits, run_assignment, EncodesWantedRun}
-use Rattle.ilk_unroll.specs.Tables.{are_copies_within_vars, CopiesHaveRanges, step_choice_variables, StepsChooseTheseRules}
+use Rattle.ilk_unroll.specs.Tables.{are_copies_within_vars, EachCopyHasTheseRanges, choice_variables_per_step, StepsChooseTheseRules}
 use Rattle.ilk_unroll.proofs.CopiesLaw.{copies-in, copies-are_copies_within_vars, copies-ranges, copies-many, all_in_ranges, AreCopies, copies-law, TablesSay, copies-say, tables_say-more, are_copies_within_vars-more}
 use Rattle.ilk_unroll.proofs.StepsLaw.{Joined, AreSteps, steps-fits, steps-law, steps-say}
 use Rattle.ilk_unroll.proofs.DemandsLaw.{demanded_valid, demands-fits, demands-law, demands_of-valid}
@@ -25,25 +25,25 @@ use Rattle.ilk_unroll.proofs.Runs.{run-is, joined-run, joined-many}
 pub rules-valid : (s : PlainSystem) → system_valid s ≡ true → list_all (rule_valid s.ranges) s.rules ≡ true
 rules-valid s valid = (and_parts _ _ valid).1
 
-pub record Wants (s : PlainSystem) (g : PlainGoal) (q : Wanted) (first rules : List ℕ) : Type 0 where
+pub record Wants (s : PlainSystem) (g : PlainGoalForms) (q : Wanted) (first rules : List ℕ) : Type 0 where
   pub run : List (List ℕ)
   pub is : run_firing_rules s first rules ≡ Some run
   pub in_range : in_ranges first s.ranges ≡ true
   pub many : length rules ≡ step_count q
   pub met : list_all (demand_is_met_by_run run) (demands_of g q) ≡ true
 
-pub wants : (s : PlainSystem) (g : PlainGoal) (q : Wanted) (first rules : List ℕ) → is_wanted_run s g q first rules ≡ true → Wants s g q first rules
+pub wants : (s : PlainSystem) (g : PlainGoalForms) (q : Wanted) (first rules : List ℕ) → is_wanted_run s g q first rules ≡ true → Wants s g q first rules
 wants s g q first rules h =
     let outer = and_parts (in_ranges first s.ranges && eqb (length rules) (step_count q)) (is_some_and (run_firing_rules s first rules) (λ run. list_all (demand_is_met_by_run run) (demands_of g q))) h in
     let inner = and_parts (in_ranges first s.ranges) (eqb (length rules) (step_count q)) outer.0 in
     let some = some-and (run_firing_rules s first rules) (λ run. list_all (demand_is_met_by_run run) (demands_of g q)) outer.1 in
     record { run = some.0; is = some.1; in_range = inner.0; many = eqb-true (length rules) (step_count q) inner.1; met = some.2 }
 
-pub wanted-from : (s : PlainSystem) (g : PlainGoal) (q : Wanted) (first rules : List ℕ) → Wants s g q first rules → is_wanted_run s g q first rules ≡ true
+pub wanted-from : (s : PlainSystem) (g : PlainGoalForms) (q : Wanted) (first rules : List ℕ) → Wants s g q first rules → is_wanted_run s g q first rules ≡ true
 wanted-from s g q first rules w =
     and_from _ _ (and_from _ _ w.in_range (eq-eqb (length rules) (step_count q) w.many)) (ap (λ (o : Option (List (List ℕ))). is_some_and o (λ run. list_all (demand_is_met_by_run run) (demands_of g q))) w.is ∙ w.met)
 
-assignment-is : (s : PlainSystem) (g : PlainGoal) (q : Wanted) (first rules : List ℕ) (run : List (List ℕ)) → run_firing_rules s first rules ≡ Some run → run_assignment s g q first rules ≡ run_bits s g q run rules
+assignment-is : (s : PlainSystem) (g : PlainGoalForms) (q : Wanted) (first rules : List ℕ) (run : List (List ℕ)) → run_firing_rules s first rules ≡ Some run → run_assignment s g q first rules ≡ run_bits s g q run rules
 assignment-is s g q first rules run is = ap (λ (o : Option (List (List ℕ))). run_bits s g q (unwrap_or o []) rules) is
 
 three_parts :
@@ -57,7 +57,8 @@ three_parts b x rest e d u S D whole parts one two three =
     ∙ ap (λ (v : List Bool). (x ++ e) ++ v) three
     ∙ ap (λ (v : List Bool). v ++ D v) both
 
-pub query-law : (s : PlainSystem) (g : PlainGoal) (q : Wanted) → system_valid s ≡ true → ranges_fit s.ranges ≡ true → goal_valid s.ranges g ≡ true → ExtensionsAreExactly [] (query_part s g q).vars (query_part s g q).clauses (EncodesWantedRun s g q)
+pub query-law : (s : PlainSystem) (g : PlainGoalForms) (q : Wanted) → system_valid s ≡ true → ranges_fit s.ranges ≡ true → goal_valid s.ranges g ≡ true
+    → ExtensionsAreExactly [] (query_part s g q).vars (query_part s g q).clauses (EncodesWantedRun s g q)
 query-law s g q valid fit goal_ok =
     in_words [] d.vars (c.part.clauses ++ (t.clauses ++ d.clauses)) _ (EncodesWantedRun s g q) to from
     (in_turn [] m d.vars c.part.clauses (t.clauses ++ d.clauses) (AreCopies count ranges) inner
@@ -88,7 +89,7 @@ query-law s g q valid fit goal_ok =
     inside : are_copies_within_vars m c.tables ≡ true
     inside = copies-are_copies_within_vars count ranges 0 fit
 
-    have : CopiesHaveRanges ranges c.tables
+    have : EachCopyHasTheseRanges ranges c.tables
     have = copies-ranges count ranges 0 fit
 
     steps_fit : PartFits m t
@@ -146,11 +147,11 @@ query-law s g q valid fit goal_ok =
         let e : b ≡ x ++ (y ++ z) = h.3 ∙ assignment-is s g q h.0 h.1 run w.is ∙ append_assoc x y z in
         (x, y ++ z, e, (run, r.many ∙ ap suc w.many, r.in_range, refl), (y, z, refl, (h.1, r.joined, refl), (w.met, refl)))
 
-pub run-says : (s : PlainSystem) (g : PlainGoal) (q : Wanted) (first rules : List ℕ) → system_valid s ≡ true →
+pub run-says : (s : PlainSystem) (g : PlainGoalForms) (q : Wanted) (first rules : List ℕ) → system_valid s ≡ true →
     ranges_fit s.ranges ≡ true → Wants s g q first rules →
     LiteralsEncode (run_assignment s g q first rules) (copy_part s.ranges (copies_part s.ranges (step_count q) 0).part.vars).columns s.ranges first ×
     StepsChooseTheseRules (run_assignment s g q first rules)
-    (step_choice_variables s.rules (copies_part s.ranges (suc (step_count q)) 0).tables
+    (choice_variables_per_step s.rules (copies_part s.ranges (suc (step_count q)) 0).tables
     (copies_part s.ranges (suc (step_count q)) 0).part.vars) rules
 run-says s g q first rules valid fit w =
     let ranges = s.ranges in
@@ -170,6 +171,6 @@ run-says s g q first rules valid fit w =
     let all = tables_say-more c.tables run x (y ++ z) m m ranges long (omega arith) says in
     let begins : TablesSay (x ++ (y ++ z)) m ranges c.tables (first ∷ r.rest) = subst (λ (u : List (List ℕ)). TablesSay (x ++ (y ++ z)) m ranges c.tables u) r.begins all in (
       subst (λ (u : List Bool). LiteralsEncode u one.columns ranges first) (sym e) begins.0.says,
-      subst (λ (u : List Bool). StepsChooseTheseRules u (step_choice_variables s.rules c.tables m) rules) (sym e)
+      subst (λ (u : List Bool). StepsChooseTheseRules u (choice_variables_per_step s.rules c.tables m) rules) (sym e)
           (steps-say c.tables run rules x z m ranges s.rules long says (rules-valid s valid) r.joined),
     )

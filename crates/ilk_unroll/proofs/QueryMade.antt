@@ -18,12 +18,12 @@ use Rattle.ilk_forms.proofs.ColumnLaw.{ranges_fit}
 use Rattle.ilk_step.specs.declared.choice.Choice.{Choice}
 use Rattle.ilk_unroll.specs.declared.queries.Wanted.{Wanted}
 use Rattle.ilk_unroll.specs.declared.queries.Wanted.TheVariants.{Hazard, Breach, Step}
-use Rattle.ilk_unroll.specs.Goal.{PlainGoal, goal_valid, step_count_is_allowed, step_count, demands_of}
+use Rattle.ilk_unroll.specs.Goal.{PlainGoalForms, goal_valid, step_count_is_allowed, step_count, demands_of}
 use Rattle.ilk_unroll.specs.Run.{is_wanted_run}
 use Rattle.ilk_unroll.specs.Query.{PartWithCopyLits, copies_part, steps_part, demands_part, query_part, query_formula}
 use Rattle.ilk_unroll.specs.Assignment.{run_assignment, EncodesWantedRun}
 use Rattle.ilk_unroll.specs.Represented.{EncodesInRangeValues}
-use Rattle.ilk_unroll.specs.Tables.{are_copies_within_vars, CopiesHaveRanges, step_choice_variables, StepsChooseTheseRules}
+use Rattle.ilk_unroll.specs.Tables.{are_copies_within_vars, EachCopyHasTheseRanges, choice_variables_per_step, StepsChooseTheseRules}
 use Rattle.ilk_unroll.proofs.CopiesLaw.{copies-end, copies-are_copies_within_vars, copies-ranges, copies-many, are_copies_within_vars-more}
 use Rattle.ilk_unroll.proofs.StepsLaw.{steps-fits}
 use Rattle.ilk_unroll.proofs.QueryLaw.{query-law, rules-valid, run-says, wants}
@@ -66,15 +66,15 @@ unrolled_made ranges rules steps g h tables seen made last =
 pub unrolled-inside : (ranges : List ℕ) (steps : ℕ) (g : Formula) (tables : List (List VarValueAndBoundLits)) →
     ranges_fit ranges ≡ true → tables ≡ (copies_part ranges (suc steps) 0).tables →
     g ≡ with_part no_formula (copies_part ranges (suc steps) 0).part →
-    (are_copies_within_vars g.vars tables ≡ true) × CopiesHaveRanges ranges tables
+    (are_copies_within_vars g.vars tables ≡ true) × EachCopyHasTheseRanges ranges tables
 unrolled-inside ranges steps g tables fit seen made =
     let p = copies_part ranges (suc steps) 0 in (
       ap (λ (k : Formula). are_copies_within_vars k.vars tables) made ∙ ap (are_copies_within_vars p.part.vars) seen ∙ copies-are_copies_within_vars (suc steps) ranges 0 fit,
-      subst (CopiesHaveRanges ranges) (sym seen) (copies-ranges (suc steps) ranges 0 fit),
+      subst (EachCopyHasTheseRanges ranges) (sym seen) (copies-ranges (suc steps) ranges 0 fit),
     )
 
 pub unrolled-within : (s : PlainSystem) (g h : Formula) (tables : List (List VarValueAndBoundLits)) → system_valid s ≡ true →
-    are_copies_within_vars g.vars tables ≡ true → CopiesHaveRanges s.ranges tables →
+    are_copies_within_vars g.vars tables ≡ true → EachCopyHasTheseRanges s.ranges tables →
     h ≡ with_part g (steps_part s.rules tables g.vars) → (are_copies_within_vars h.vars tables ≡ true) × (g.vars ≤ h.vars)
 unrolled-within s g h tables valid inside have made =
     let fits = steps-fits tables s.ranges s.rules g.vars inside have (rules-valid s valid) in
@@ -83,7 +83,7 @@ unrolled-within s g h tables valid inside have made =
     (ap (λ (k : ℕ). are_copies_within_vars k tables) vars ∙ are_copies_within_vars-more g.vars (steps_part s.rules tables g.vars).vars tables low inside, omega arith)
 
 pub query_made :
-    (s : PlainSystem) (g : PlainGoal) (q : Wanted) (steps : ℕ) (f h : Formula) (tables : List (List VarValueAndBoundLits)) →
+    (s : PlainSystem) (g : PlainGoalForms) (q : Wanted) (steps : ℕ) (f h : Formula) (tables : List (List VarValueAndBoundLits)) →
     steps ≡ step_count q → tables ≡ (copies_part s.ranges (suc steps) 0).tables →
     f
     ≡ with_part no_formula
@@ -131,7 +131,7 @@ tables-many s steps q tables count seen =
     omega arith
 
 -- The run that an assignment represents, as the literals of its first copy and its choices say it.
-pub record ReadsAs (s : PlainSystem) (g : PlainGoal) (q : Wanted) (a : List Bool) (table : List VarValueAndBoundLits) (choices : List Choice) : Type 0 where
+pub record ReadsAs (s : PlainSystem) (g : PlainGoalForms) (q : Wanted) (a : List Bool) (table : List VarValueAndBoundLits) (choices : List Choice) : Type 0 where
   pub first : List ℕ
   pub rules : List ℕ
   pub wanted : is_wanted_run s g q first rules ≡ true
@@ -141,13 +141,13 @@ pub record ReadsAs (s : PlainSystem) (g : PlainGoal) (q : Wanted) (a : List Bool
   pub chosen : StepsChooseTheseRules a choices rules
 
 pub reads_as :
-    (s : PlainSystem) (g : PlainGoal) (q : Wanted) (a : List Bool) (steps : ℕ) (table : List VarValueAndBoundLits)
+    (s : PlainSystem) (g : PlainGoalForms) (q : Wanted) (a : List Bool) (steps : ℕ) (table : List VarValueAndBoundLits)
     (tables : List (List VarValueAndBoundLits)) (choices : List Choice) →
     system_valid s ≡ true → ranges_fit s.ranges ≡ true → goal_valid s.ranges g ≡ true →
     length a ≡ (query_formula s g q).vars → satisfies a (query_formula s g q).clauses ≡ true →
     steps ≡ step_count q → tables ≡ (copies_part s.ranges (suc steps) 0).tables → slice_get tables 0 ≡ Some table →
     choices
-    ≡ step_choice_variables s.rules (copies_part s.ranges (suc steps) 0).tables
+    ≡ choice_variables_per_step s.rules (copies_part s.ranges (suc steps) 0).tables
     (copies_part s.ranges (suc steps) 0).part.vars →
     ReadsAs s g q a table choices
 reads_as s g q a steps table tables choices valid fit goal_ok size sat count made at seen =
@@ -156,7 +156,7 @@ reads_as s g q a steps table tables choices valid fit goal_ok size sat count mad
     let w = wants s g q run.0 run.1 run.2 in
     let says = run-says s g q run.0 run.1 valid fit w in
     let one : ℕ → List VarValueAndBoundLits = λ k. (copy_part s.ranges (copies_part s.ranges k 0).part.vars).columns in
-    let variables : ℕ → List Choice = λ k. step_choice_variables s.rules (copies_part s.ranges (suc k) 0).tables (copies_part s.ranges (suc k) 0).part.vars in
+    let variables : ℕ → List Choice = λ k. choice_variables_per_step s.rules (copies_part s.ranges (suc k) 0).tables (copies_part s.ranges (suc k) 0).part.vars in
     let here : one steps ≡ table = same_Some (one steps) table (ap (λ (ts : List (List VarValueAndBoundLits)). slice_get ts 0) (sym made) ∙ at) in
     let first : table ≡ one (step_count q) = sym here ∙ ap one count in
     let have : ranges_of table ≡ s.ranges = ap ranges_of first ∙ copy-ranges s.ranges (copies_part s.ranges (step_count q) 0).part.vars fit in

@@ -21,7 +21,7 @@ use Rattle.ilk_step.proofs.RulesLaw.{then-fits}
 use Rattle.ilk_step.proofs.StepLaw.{step-fits, step-law, step-says, step-below}
 use Rattle.ilk_unroll.specs.Query.{steps_part}
 use Rattle.ilk_unroll.specs.Assignment.{steps_bits}
-use Rattle.ilk_unroll.specs.Tables.{are_copies_within_vars, CopiesHaveRanges, step_choice_variables, choices_begin_at_or_before, StepsChooseTheseRules}
+use Rattle.ilk_unroll.specs.Tables.{are_copies_within_vars, EachCopyHasTheseRanges, choice_variables_per_step, choices_begin_at_or_before, StepsChooseTheseRules}
 use Rattle.ilk_unroll.proofs.CopiesLaw.{TableSays, TablesSay, are_copies_within_vars-more, tables_say-more}
 
 same : (n : ℕ) → n ≤ n
@@ -35,7 +35,7 @@ pub one-fits : (now next : List VarValueAndBoundLits) (ranges : List ℕ) (rules
     list_all (rule_valid ranges) rules ≡ true → PartFits n (step_part rules now next n)
 one-fits now next ranges rules n hn hx rn rx valid = step-fits rules now next n hn hx (rx ∙ sym rn) (rules_valid-at ranges (ranges_of now) rules rn valid)
 
-pub steps-fits : (tables : List (List VarValueAndBoundLits)) (ranges : List ℕ) (rules : List PlainRule) (n : ℕ) → are_copies_within_vars n tables ≡ true → CopiesHaveRanges ranges tables → list_all (rule_valid ranges) rules ≡ true →
+pub steps-fits : (tables : List (List VarValueAndBoundLits)) (ranges : List ℕ) (rules : List PlainRule) (n : ℕ) → are_copies_within_vars n tables ≡ true → EachCopyHasTheseRanges ranges tables → list_all (rule_valid ranges) rules ≡ true →
     PartFits n (steps_part rules tables n)
 steps-fits [] ranges rules n h r valid = record { low = same n; inside = refl }
 steps-fits (now ∷ []) ranges rules n h r valid = record { low = same n; inside = refl }
@@ -61,7 +61,7 @@ tables-in [] run a n ranges h = refl
 tables-in (table ∷ tables) [] a n ranges h = absurd h
 tables-in (table ∷ tables) (values ∷ run) a n ranges h = and_from _ _ h.0.within (tables-in tables run a n ranges h.1)
 
-tables-ranges : (tables : List (List VarValueAndBoundLits)) (run : List (List ℕ)) (a : List Bool) (n : ℕ) (ranges : List ℕ) → TablesSay a n ranges tables run → CopiesHaveRanges ranges tables
+tables-ranges : (tables : List (List VarValueAndBoundLits)) (run : List (List ℕ)) (a : List Bool) (n : ℕ) (ranges : List ℕ) → TablesSay a n ranges tables run → EachCopyHasTheseRanges ranges tables
 tables-ranges [] run a n ranges h = tt
 tables-ranges (table ∷ tables) [] a n ranges h = absurd h
 tables-ranges (table ∷ tables) (values ∷ run) a n ranges h = (h.0.has_ranges, tables-ranges tables run a n ranges h.1)
@@ -150,7 +150,7 @@ pub steps-say :
     (tables : List (List VarValueAndBoundLits)) (run : List (List ℕ)) (chosen : List ℕ) (a c : List Bool) (n : ℕ)
     (ranges : List ℕ) (rules : List PlainRule) → length a ≡ n →
     TablesSay a n ranges tables run → list_all (rule_valid ranges) rules ≡ true → Joined rules run chosen →
-    StepsChooseTheseRules (a ++ (steps_bits rules tables chosen a ++ c)) (step_choice_variables rules tables n) chosen
+    StepsChooseTheseRules (a ++ (steps_bits rules tables chosen a ++ c)) (choice_variables_per_step rules tables n) chosen
 steps-say [] [] chosen a c n ranges rules size h valid j = j
 steps-say [] (values ∷ run) chosen a c n ranges rules size h valid j = absurd h
 steps-say (now ∷ tables) [] chosen a c n ranges rules size h valid j = absurd h
@@ -169,12 +169,12 @@ steps-say (now ∷ next ∷ tables) (ws ∷ xs ∷ run) (rule ∷ chosen) a c n 
     let first : Chooses (a ++ (e ++ (d ++ c))) (n + 1) (length rules) rule = (step-below rules ws xs rule j.0, step-says now rules a (d ++ c) n rule size) in
     let rest = steps-say (next ∷ tables) (xs ∷ run) chosen (a ++ e) c p.vars ranges rules long (tables_say-more (next ∷ tables) (xs ∷ run) a e n p.vars ranges size fits.low h.1) valid j.1 in (
       subst (λ (u : List Bool). Chooses u (n + 1) (length rules) rule) whole first,
-      subst (λ (u : List Bool). StepsChooseTheseRules u (step_choice_variables rules (next ∷ tables) p.vars) chosen) (append_assoc a e (d ++ c) ∙ whole) rest,
+      subst (λ (u : List Bool). StepsChooseTheseRules u (choice_variables_per_step rules (next ∷ tables) p.vars) chosen) (append_assoc a e (d ++ c) ∙ whole) rest,
     )
 
 pub choices-numbered : (tables : List (List VarValueAndBoundLits)) (ranges : List ℕ) (rules : List PlainRule) (n m : ℕ) →
-    are_copies_within_vars n tables ≡ true → CopiesHaveRanges ranges tables → list_all (rule_valid ranges) rules ≡ true →
-    (steps_part rules tables n).vars ≤ m → choices_begin_at_or_before m (step_choice_variables rules tables n) ≡ true
+    are_copies_within_vars n tables ≡ true → EachCopyHasTheseRanges ranges tables → list_all (rule_valid ranges) rules ≡ true →
+    (steps_part rules tables n).vars ≤ m → choices_begin_at_or_before m (choice_variables_per_step rules tables n) ≡ true
 choices-numbered [] ranges rules n m h r valid high = refl
 choices-numbered (now ∷ []) ranges rules n m h r valid high = refl
 choices-numbered (now ∷ next ∷ tables) ranges rules n m h r valid high =
@@ -191,16 +191,16 @@ pub steps-next :
     (f g : Formula) (rules : List PlainRule) (choices whole : List Choice) (choice : Choice) (end : Formula)
     (all : List (List VarValueAndBoundLits)) (now next : List VarValueAndBoundLits) (tables : List (List VarValueAndBoundLits)) (k : ℕ) →
     all ≡ now ∷ next ∷ tables → k ≡ length rules → choice ≡ record { first = f.vars + 1; rules = k } →
-    g ≡ with_part f (step_part rules now next f.vars) → choices ++ step_choice_variables rules all f.vars ≡ whole →
+    g ≡ with_part f (step_part rules now next f.vars) → choices ++ choice_variables_per_step rules all f.vars ≡ whole →
     with_part f (steps_part rules all f.vars) ≡ end →
-    ((choices ++ choice ∷ []) ++ step_choice_variables rules (next ∷ tables) g.vars ≡ whole) ×
+    ((choices ++ choice ∷ []) ++ choice_variables_per_step rules (next ∷ tables) g.vars ≡ whole) ×
     (with_part g (steps_part rules (next ∷ tables) g.vars) ≡ end)
 steps-next f g rules choices whole choice end all now next tables k split count is made seen h =
     let p = step_part rules now next f.vars in (
-      append_assoc choices (choice ∷ []) (step_choice_variables rules (next ∷ tables) g.vars)
-          ∙ ap (λ (c : Choice). choices ++ c ∷ step_choice_variables rules (next ∷ tables) g.vars) (is ∙ ap (λ (i : ℕ). record { first = f.vars + 1; rules = i }) count)
-          ∙ ap (λ (e : Formula). choices ++ (record { first = f.vars + 1; rules = length rules }) ∷ step_choice_variables rules (next ∷ tables) e.vars) made
-          ∙ ap (λ (ts : List (List VarValueAndBoundLits)). choices ++ step_choice_variables rules ts f.vars) (sym split)
+      append_assoc choices (choice ∷ []) (choice_variables_per_step rules (next ∷ tables) g.vars)
+          ∙ ap (λ (c : Choice). choices ++ c ∷ choice_variables_per_step rules (next ∷ tables) g.vars) (is ∙ ap (λ (i : ℕ). record { first = f.vars + 1; rules = i }) count)
+          ∙ ap (λ (e : Formula). choices ++ (record { first = f.vars + 1; rules = length rules }) ∷ choice_variables_per_step rules (next ∷ tables) e.vars) made
+          ∙ ap (λ (ts : List (List VarValueAndBoundLits)). choices ++ choice_variables_per_step rules ts f.vars) (sym split)
           ∙ seen,
       ap (λ (e : Formula). with_part e (steps_part rules (next ∷ tables) e.vars)) made
           ∙ with_part-and_then f p (steps_part rules (next ∷ tables))
@@ -208,7 +208,7 @@ steps-next f g rules choices whole choice end all now next tables k split count 
           ∙ h,
     )
 
-pub few-steps : (rules : List PlainRule) (tables : List (List VarValueAndBoundLits)) (n : ℕ) → length tables ≤ 1 → (steps_part rules tables n ≡ empty_part n) × (step_choice_variables rules tables n ≡ [])
+pub few-steps : (rules : List PlainRule) (tables : List (List VarValueAndBoundLits)) (n : ℕ) → length tables ≤ 1 → (steps_part rules tables n ≡ empty_part n) × (choice_variables_per_step rules tables n ≡ [])
 few-steps rules [] n h = (refl, refl)
 few-steps rules (now ∷ []) n h = (refl, refl)
 few-steps rules (now ∷ next ∷ tables) n h = absurd (omega arith)

@@ -6,7 +6,7 @@ use Rattle.ilk_forms.specs.declared.copy.VarValueAndBoundLits.{VarValueAndBoundL
 use Rattle.ilk_forms.specs.Demand.{some_lit_or_form_bits}
 use Rattle.ilk_forms.specs.Violated.{form_fails_bits}
 use Rattle.ilk_step.specs.Step.{step_bits}
-use Rattle.ilk_unroll.specs.Goal.{PlainGoal, CopyDemand, demands_of, step_count}
+use Rattle.ilk_unroll.specs.Goal.{PlainGoalForms, CopyDemand, demands_of, step_count}
 use Rattle.ilk_unroll.specs.Query.{copies_part, copy_lits_at}
 use Rattle.ilk_unroll.specs.Run.{run_firing_rules, is_wanted_run}
 use Rattle.ilk_unroll.specs.declared.queries.Wanted.{Wanted}
@@ -25,21 +25,21 @@ steps_bits rules (now ∷ tables) [] a = []
 steps_bits rules (now ∷ tables) (rule ∷ chosen) a = step_bits now rules a rule ++ steps_bits rules tables chosen (a ++ step_bits now rules a rule)
 
 -- The truth values of the variables that one demand `d` adds after assignment `a`.
-abbrev pub demanded_bits : List (List VarValueAndBoundLits) → CopyDemand → List Bool → List Bool
-demanded_bits tables d a =
+abbrev pub one_demand_bits : List (List VarValueAndBoundLits) → CopyDemand → List Bool → List Bool
+one_demand_bits tables d a =
     if d.holds then some_lit_or_form_bits (copy_lits_at tables d.copy) [] d.form a else form_fails_bits (copy_lits_at tables d.copy) d.form a
 
 -- The truth values of the variables that all demands add after assignment `a`.
 abbrev pub demands_bits : List (List VarValueAndBoundLits) → List CopyDemand → List Bool → List Bool
 demands_bits tables [] a = []
-demands_bits tables (d ∷ ds) a = demanded_bits tables d a ++ demands_bits tables ds (a ++ demanded_bits tables d a)
+demands_bits tables (d ∷ ds) a = one_demand_bits tables d a ++ demands_bits tables ds (a ++ one_demand_bits tables d a)
 
 -- The truth values of the copies and steps of a run, for its value lists and rules.
 abbrev pub copies_and_steps_bits : PlainSystem → List (List VarValueAndBoundLits) → List (List ℕ) → List ℕ → List Bool
 copies_and_steps_bits s tables run rules = copies_bits s.ranges run ++ steps_bits s.rules tables rules (copies_bits s.ranges run)
 
 -- The truth values of all variables of a query's formula, for the value lists and rules of a run.
-abbrev pub run_bits : PlainSystem → PlainGoal → Wanted → List (List ℕ) → List ℕ → List Bool
+abbrev pub run_bits : PlainSystem → PlainGoalForms → Wanted → List (List ℕ) → List ℕ → List Bool
 run_bits s g q run rules = with_demands (copies_part s.ranges (suc (step_count q)) 0).tables
   where
     with_demands : List (List VarValueAndBoundLits) → List Bool
@@ -48,10 +48,10 @@ run_bits s g q run rules = with_demands (copies_part s.ranges (suc (step_count q
 
 -- The assignment that represents, for query `q`, the run that begins with the values `first` and
 -- fires `rules`.
-abbrev pub run_assignment : PlainSystem → PlainGoal → Wanted → List ℕ → List ℕ → List Bool
+abbrev pub run_assignment : PlainSystem → PlainGoalForms → Wanted → List ℕ → List ℕ → List Bool
 run_assignment s g q first rules = run_bits s g q (unwrap_or (run_firing_rules s first rules) []) rules
 
 -- Holds if assignment `a` represents some run for which query `q` asks.
-abbrev pub EncodesWantedRun : PlainSystem → PlainGoal → Wanted → List Bool → Type 0
+abbrev pub EncodesWantedRun : PlainSystem → PlainGoalForms → Wanted → List Bool → Type 0
 EncodesWantedRun s g q a =
     (first : List ℕ) × (rules : List ℕ) × (is_wanted_run s g q first rules ≡ true) × (a ≡ run_assignment s g q first rules)

@@ -5,11 +5,11 @@ use Rattle.std.specs.Prelude.{ℕ, ◌<◌, ◌≤◌, List, IsTrue}
 use Rattle.ilk_ir.specs.System.{PlainSystem}
 use Rattle.ilk_unroll.specs.declared.queries.Wanted.{Wanted}
 use Rattle.ilk_unroll.specs.declared.queries.Wanted.TheVariants.{Hazard, Breach, Step}
-use Rattle.ilk_unroll.specs.Goal.{PlainGoal}
+use Rattle.ilk_unroll.specs.Goal.{PlainGoalForms}
 use Rattle.ilk_unroll.specs.Run.{is_wanted_run}
 
 -- Holds if a run of the system exists for which query `q` asks.
-abbrev pub HasRun : PlainSystem → PlainGoal → Wanted → Type 0
+abbrev pub HasRun : PlainSystem → PlainGoalForms → Wanted → Type 0
 HasRun s g q = (first : List ℕ) × (rules : List ℕ) × IsTrue (is_wanted_run s g q first rules)
 
 -- Holds if `n` is the least number up to `depth` for which `P` holds.

@@ -8,19 +8,19 @@ use Rattle.ilk_unroll.specs.declared.queries.Wanted.{Wanted}
 use Rattle.ilk_unroll.specs.declared.queries.Wanted.TheVariants.{Hazard, Breach, Step}
 
 -- The forms of a goal (`Goal`) as trees.
-pub record PlainGoal : Type 0 where
+pub record PlainGoalForms : Type 0 where
   pub start : Tree
   pub hazard : Tree
   pub wellformed : Tree
   pub families : List Tree
 
 -- The forms of goal `g` as trees.
-abbrev pub plain_goal : Goal → PlainGoal
+abbrev pub plain_goal : Goal → PlainGoalForms
 plain_goal g =
     record { start = tree_of g.start; hazard = tree_of g.hazard; wellformed = tree_of g.wellformed; families = map tree_of g.families }
 
 -- Returns whether each form of the goal is valid over variables with these ranges.
-abbrev pub goal_valid : List ℕ → PlainGoal → Bool
+abbrev pub goal_valid : List ℕ → PlainGoalForms → Bool
 goal_valid ranges g =
     tree_valid ranges g.start && tree_valid ranges g.hazard && tree_valid ranges g.wellformed && list_all (tree_valid ranges) g.families
 
@@ -55,7 +55,7 @@ abbrev pub form_demands_below_copy : Tree → ℕ → List CopyDemand
 form_demands_below_copy t n = map (λ j. demand_form_holds_in_copy j t) (range_with_len 0 n)
 
 -- All demands of a query, by the forms of goal `g`.
-abbrev pub demands_of : PlainGoal → Wanted → List CopyDemand
+abbrev pub demands_of : PlainGoalForms → Wanted → List CopyDemand
 -- From the start by `n` steps to a hazard, through states without one.
 demands_of g (Hazard n) = demand_form_holds_in_copy 0 g.start ∷ form_demands_below_copy g.wellformed n ++ demand_form_holds_in_copy n g.hazard ∷ []
 -- From the start by `n` steps to a broken family; no state has a hazard.

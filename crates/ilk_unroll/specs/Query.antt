@@ -10,7 +10,7 @@ use Rattle.ilk_forms.specs.Copy.{PartWithAllVarLits, copy_part}
 use Rattle.ilk_forms.specs.Demand.{some_lit_or_form_part}
 use Rattle.ilk_forms.specs.Violated.{form_fails_part}
 use Rattle.ilk_step.specs.Step.{step_part}
-use Rattle.ilk_unroll.specs.Goal.{PlainGoal, CopyDemand, step_count, demands_of}
+use Rattle.ilk_unroll.specs.Goal.{PlainGoalForms, CopyDemand, step_count, demands_of}
 use Rattle.ilk_unroll.specs.declared.queries.Wanted.{Wanted}
 
 -- A formula part, and the literals of each copy that it adds (`tables`).
@@ -56,12 +56,12 @@ demands_part tables (d ∷ ds) n = and_then (demanded_part tables d n) (demands_
 
 -- The formula part of query `q`: a copy for the first values and one after each step, the steps,
 -- and the query's demands.
-abbrev pub query_part : PlainSystem → PlainGoal → Wanted → FormulaPart
+abbrev pub query_part : PlainSystem → PlainGoalForms → Wanted → FormulaPart
 query_part s g q = after (copies_part s.ranges (suc (step_count q)) 0)
   where
     after : PartWithCopyLits → FormulaPart
     after copies = and_then copies.part (λ m. and_then (steps_part s.rules copies.tables m) (demands_part copies.tables (demands_of g q)))
 
 -- The whole formula of query `q`: its copies, steps and demands.
-abbrev pub query_formula : PlainSystem → PlainGoal → Wanted → Formula
+abbrev pub query_formula : PlainSystem → PlainGoalForms → Wanted → Formula
 query_formula s g q = with_part (record { vars = 0; clauses = [] }) (query_part s g q)

@@ -8,10 +8,10 @@ use Rattle.ilk_forms.specs.declared.copy.VarValueAndBoundLits.{VarValueAndBoundL
 use Rattle.ilk_forms.specs.Copy.{LiteralsEncode}
 use Rattle.ilk_step.specs.declared.choice.Choice.{Choice}
 use Rattle.ilk_unroll.specs.Assignment.{EncodesWantedRun, run_assignment}
-use Rattle.ilk_unroll.specs.Goal.{PlainGoal}
+use Rattle.ilk_unroll.specs.Goal.{PlainGoalForms}
 use Rattle.ilk_unroll.specs.Query.{PartWithCopyLits, copies_part, query_formula, steps_part}
 use Rattle.ilk_unroll.specs.Run.{is_wanted_run}
-use Rattle.ilk_unroll.specs.Tables.{step_choice_variables}
+use Rattle.ilk_unroll.specs.Tables.{choice_variables_per_step}
 use Rattle.ilk_unroll.specs.declared.queries.Wanted.{Wanted}
 
 -- Holds if the values are within the ranges, and under assignment `a` the literals of a copy say
@@ -25,12 +25,12 @@ IsSatisfiedBy f a = (length a ≡ f.vars) × IsTrue (satisfies a f.clauses)
 
 -- Holds if each satisfying assignment of a query's formula represents a run for which the query
 -- asks.
-abbrev pub IsSatisfiedOnlyByRuns : PlainSystem → PlainGoal → Wanted → Type 0
+abbrev pub IsSatisfiedOnlyByRuns : PlainSystem → PlainGoalForms → Wanted → Type 0
 IsSatisfiedOnlyByRuns s g q =
     (a : List Bool) → length a ≡ (query_formula s g q).vars → IsTrue (satisfies a (query_formula s g q).clauses) → EncodesWantedRun s g q a
 
 -- Holds if each run for which a query asks has an assignment that satisfies the query's formula.
-abbrev pub IsSatisfiedByEachRun : PlainSystem → PlainGoal → Wanted → Type 0
+abbrev pub IsSatisfiedByEachRun : PlainSystem → PlainGoalForms → Wanted → Type 0
 IsSatisfiedByEachRun s g q =
     (first rules : List ℕ) → IsTrue (is_wanted_run s g q first rules) → IsSatisfiedBy (query_formula s g q) (run_assignment s g q first rules)
 
@@ -44,4 +44,4 @@ run_part s steps = and_then (run_copies s.ranges steps).part (steps_part s.rules
 
 -- For each step of a run of `steps` steps, the variables that say which rule it chooses.
 abbrev pub run_choice_variables : PlainSystem → ℕ → List Choice
-run_choice_variables s steps = step_choice_variables s.rules (run_copies s.ranges steps).tables (run_copies s.ranges steps).part.vars
+run_choice_variables s steps = choice_variables_per_step s.rules (run_copies s.ranges steps).tables (run_copies s.ranges steps).part.vars

@@ -4,8 +4,8 @@ use Rattle.std.specs.List.{list_all}
 use Rattle.ilk_base.specs.Option.{is_some_and}
 use Rattle.ilk_ir.specs.Tree.{tree_holds}
 use Rattle.ilk_ir.specs.System.{PlainSystem, in_ranges, after_rule_number}
-use Rattle.ilk_forms.specs.Gates.{bool_equals}
-use Rattle.ilk_unroll.specs.Goal.{PlainGoal, CopyDemand, step_count, demands_of}
+use Rattle.ilk_forms.specs.Gates.{bools_are_equal}
+use Rattle.ilk_unroll.specs.Goal.{PlainGoalForms, CopyDemand, step_count, demands_of}
 use Rattle.ilk_unroll.specs.declared.queries.Wanted.{Wanted}
 
 -- Returns the value lists of the run that begins with `values` and fires the rules with these
@@ -17,11 +17,11 @@ run_firing_rules s values (rule ∷ rules) =
 
 -- Returns whether the value lists of a run meet demand `d`.
 abbrev pub demand_is_met_by_run : List (List ℕ) → CopyDemand → Bool
-demand_is_met_by_run run d = is_some_and (slice_get run d.copy) (λ values. bool_equals d.holds (tree_holds values d.form))
+demand_is_met_by_run run d = is_some_and (slice_get run d.copy) (λ values. bools_are_equal d.holds (tree_holds values d.form))
 
 -- Returns whether the system has a run that begins with the values `first` and fires `rules`, and
 -- query `q` asks for it.
-abbrev pub is_wanted_run : PlainSystem → PlainGoal → Wanted → List ℕ → List ℕ → Bool
+abbrev pub is_wanted_run : PlainSystem → PlainGoalForms → Wanted → List ℕ → List ℕ → Bool
 is_wanted_run s g q first rules =
     in_ranges first s.ranges && length rules == step_count q
     && is_some_and (run_firing_rules s first rules) (λ run. list_all (demand_is_met_by_run run) (demands_of g q))

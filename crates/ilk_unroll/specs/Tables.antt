@@ -19,17 +19,17 @@ abbrev pub is_valid_in_each : List (List VarValueAndBoundLits) → Tree → Bool
 is_valid_in_each tables t = list_all (λ table. tree_valid (ranges_of table) t) tables
 
 -- Holds if the variables of each copy have these ranges.
-abbrev pub CopiesHaveRanges : List ℕ → List (List VarValueAndBoundLits) → Type 0
-CopiesHaveRanges ranges [] = Unit {0}
-CopiesHaveRanges ranges (table ∷ tables) = (ranges_of table ≡ ranges) × CopiesHaveRanges ranges tables
+abbrev pub EachCopyHasTheseRanges : List ℕ → List (List VarValueAndBoundLits) → Type 0
+EachCopyHasTheseRanges ranges [] = Unit {0}
+EachCopyHasTheseRanges ranges (table ∷ tables) = (ranges_of table ≡ ranges) × EachCopyHasTheseRanges ranges tables
 
 -- For each step between the copies, the variables after the first `n` that say which rule it
 -- chooses.
-abbrev pub step_choice_variables : List PlainRule → List (List VarValueAndBoundLits) → ℕ → List Choice
-step_choice_variables rules [] n = []
-step_choice_variables rules (now ∷ []) n = []
-step_choice_variables rules (now ∷ next ∷ tables) n =
-    (record { first = n + 1; rules = length rules }) ∷ step_choice_variables rules (next ∷ tables) (step_part rules now next n).vars
+abbrev pub choice_variables_per_step : List PlainRule → List (List VarValueAndBoundLits) → ℕ → List Choice
+choice_variables_per_step rules [] n = []
+choice_variables_per_step rules (now ∷ []) n = []
+choice_variables_per_step rules (now ∷ next ∷ tables) n =
+    (record { first = n + 1; rules = length rules }) ∷ choice_variables_per_step rules (next ∷ tables) (step_part rules now next n).vars
 
 -- Returns whether the variables of each choice begin at number `n` + 1 or lower.
 abbrev pub choices_begin_at_or_before : ℕ → List Choice → Bool

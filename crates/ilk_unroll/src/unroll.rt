@@ -6,7 +6,7 @@ ghost use Rattle.ilk_ir.specs.System.{plain_rule, plain_system, system_valid};
 ghost use Rattle.ilk_forms.specs.Copy.{copy_var_count};
 ghost use Rattle.ilk_unroll.specs.Query.{copies_part, steps_part};
 ghost use Rattle.ilk_unroll.specs.Represented.{run_choice_variables, run_copies, run_part};
-ghost use Rattle.ilk_unroll.specs.Tables.{are_copies_within_vars, CopiesHaveRanges, step_choice_variables, choices_begin_at_or_before};
+ghost use Rattle.ilk_unroll.specs.Tables.{are_copies_within_vars, EachCopyHasTheseRanges, choice_variables_per_step, choices_begin_at_or_before};
 
 use ilk_base::Row;
 use ilk_cnf::Cnf;
@@ -70,11 +70,11 @@ fn add_steps(
     tables: &RunLits,
 ) -> Result<StepRuleChoices, AllocError>
     requires within { IsTrue (are_copies_within_vars cnf.old.vars tables.now) }
-    requires ranges { CopiesHaveRanges system.now.ranges tables.now }
+    requires ranges { EachCopyHasTheseRanges system.now.ranges tables.now }
     requires valid { IsTrue (system_valid (plain_system system.now)) }
     ensures choices { IfOk result
         (λ choices. choices
-        ≡ step_choice_variables (map plain_rule system.now.rules) tables.now cnf.old.vars) }
+        ≡ choice_variables_per_step (map plain_rule system.now.rules) tables.now cnf.old.vars) }
     ensures made { OnOk result
         (cnf.new
         ≡ with_part cnf.old
@@ -118,7 +118,8 @@ pub(crate) fn unroll(
         (run_part (plain_system system.now) steps)) }
     ensures within { IfOk result
         (λ unrolled. IsTrue (are_copies_within_vars cnf.new.vars unrolled.tables)) }
-    ensures ranges { IfOk result (λ unrolled. CopiesHaveRanges system.now.ranges unrolled.tables) }
+    ensures ranges { IfOk result
+        (λ unrolled. EachCopyHasTheseRanges system.now.ranges unrolled.tables) }
     ensures numbered { IfOk result
         (λ unrolled. IsTrue (choices_begin_at_or_before (2 ^ 62) unrolled.choices)) }
     ensures bytes { OnOk result (IsTrue (list_all (λ range. nat_lt range 256) system.now.ranges)) }

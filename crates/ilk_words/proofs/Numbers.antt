@@ -14,7 +14,7 @@ use Rattle.clap.proofs.ValueTestLemmas.{Accepts-accepts, accepts-Accepts}
 use Rattle.ilk_base.specs.Option.{◌>>=◌, then_some}
 use Rattle.ilk_base.proofs.Options.{IfSome-from, bind_some}
 use Rattle.ilk_base.proofs.Tested.{find-at}
-use Rattle.ilk_words.specs.Commands.{CommandNameAndOptions, audit_command_spec, check_command_spec, column_rule_mode_of, commands, demo_command_spec, drive_command_spec, export_command_spec, make_command_spec, query_kind_of, replay_command_spec, rup_command_spec, table_command_spec, verify_command_spec}
+use Rattle.ilk_words.specs.Commands.{CommandSpec, audit_command_spec, check_command_spec, column_rule_mode_from_args, commands, demo_command_spec, drive_command_spec, export_command_spec, make_command_spec, query_kind_from_args, replay_command_spec, rup_command_spec, table_command_spec, verify_command_spec}
 use Rattle.ilk_words.specs.Limits.{within_option_limits, within_query_limits, within_search_limits, within_station_limits}
 use Rattle.ilk_words.specs.Options.{ParsedArgs, OptionSpec, cert_option, conflicts_option, depth_option, number_between, option_number_or_default, number_of_value, query_number_option, run_option, stations_option, option_value_or_default}
 use Rattle.ilk_words.specs.Queries.{query_exists}
@@ -52,12 +52,12 @@ option_within line o least most n same e =
 abbrev HasLimits : Command → Type 0
 HasLimits command = IsTrue (within_option_limits command)
 
-abbrev KeepsLimits : CommandNameAndOptions → Type 0
+abbrev KeepsLimits : CommandSpec → Type 0
 KeepsLimits c = (line : ParsedArgs) (command : Command) → c.command line ≡ Some command → HasLimits command
 
 check_keeps : KeepsLimits check_command_spec
 check_keeps line command e =
-    let columns = bind_some (column_rule_mode_of line) _ command e in
+    let columns = bind_some (column_rule_mode_from_args line) _ command e in
     subst HasLimits (same_Some (Conf columns.0 (Plain Check)) command columns.2) refl
 
 search_within : (line : ParsedArgs) (depth conflicts : ℕ) → option_number_or_default line depth_option ≡ Some depth → option_number_or_default line conflicts_option ≡ Some conflicts → within_search_limits depth conflicts ≡ true
@@ -78,7 +78,7 @@ query_within line query number e has =
 
 verify_keeps : KeepsLimits verify_command_spec
 verify_keeps line command e =
-    let columns = bind_some (column_rule_mode_of line) _ command e in
+    let columns = bind_some (column_rule_mode_from_args line) _ command e in
     let depth = bind_some (option_number_or_default line depth_option) _ command columns.2 in
     let conflicts = bind_some (option_number_or_default line conflicts_option) _ command depth.2 in
     let cert = bind_some (option_value_or_default line cert_option) _ command conflicts.2 in
@@ -87,13 +87,13 @@ verify_keeps line command e =
 
 audit_keeps : KeepsLimits audit_command_spec
 audit_keeps line command e =
-    let columns = bind_some (column_rule_mode_of line) _ command e in
+    let columns = bind_some (column_rule_mode_from_args line) _ command e in
     let cert = bind_some (option_value_or_default line cert_option) _ command columns.2 in
     subst HasLimits (same_Some (Conf columns.0 (WithExtra cert.0 Audit)) command cert.2) refl
 
 replay_keeps : KeepsLimits replay_command_spec
 replay_keeps line command e =
-    let columns = bind_some (column_rule_mode_of line) _ command e in
+    let columns = bind_some (column_rule_mode_from_args line) _ command e in
     let run = bind_some (option_value_or_default line run_option) _ command columns.2 in
     subst HasLimits (same_Some (Conf columns.0 (WithExtra run.0 Replay)) command run.2) refl
 
@@ -118,13 +118,13 @@ demo_keeps line command e =
 
 table_keeps : KeepsLimits table_command_spec
 table_keeps line command e =
-    let columns = bind_some (column_rule_mode_of line) _ command e in
+    let columns = bind_some (column_rule_mode_from_args line) _ command e in
     subst HasLimits (same_Some (Conf columns.0 (Plain Table)) command columns.2) refl
 
 export_keeps : KeepsLimits export_command_spec
 export_keeps line command e =
-    let columns = bind_some (column_rule_mode_of line) _ command e in
-    let query = bind_some (query_kind_of line) _ command columns.2 in
+    let columns = bind_some (column_rule_mode_from_args line) _ command e in
+    let query = bind_some (query_kind_from_args line) _ command columns.2 in
     let number = bind_some (option_number_or_default line query_number_option) _ command query.2 in
     let asked = cond_some _ _ command number.2 in
     let limits : HasLimits (Conf columns.0 (Plain (Export query.0 number.0))) = query_within line query.0 number.0 number.1 asked.0 in
@@ -132,8 +132,8 @@ export_keeps line command e =
 
 rup_keeps : KeepsLimits rup_command_spec
 rup_keeps line command e =
-    let columns = bind_some (column_rule_mode_of line) _ command e in
-    let query = bind_some (query_kind_of line) _ command columns.2 in
+    let columns = bind_some (column_rule_mode_from_args line) _ command e in
+    let query = bind_some (query_kind_from_args line) _ command columns.2 in
     let number = bind_some (option_number_or_default line query_number_option) _ command query.2 in
     let cert = bind_some (option_value_or_default line cert_option) _ command number.2 in
     let asked = cond_some _ _ command cert.2 in
@@ -142,11 +142,11 @@ rup_keeps line command e =
 
 drive_keeps : KeepsLimits drive_command_spec
 drive_keeps line command e =
-    let columns = bind_some (column_rule_mode_of line) _ command e in
+    let columns = bind_some (column_rule_mode_from_args line) _ command e in
     let run = bind_some (option_value_or_default line run_option) _ command columns.2 in
     subst HasLimits (same_Some (Conf columns.0 (WithExtra run.0 Drive)) command run.2) refl
 
-keeps_limits : (i : ℕ) (c : CommandNameAndOptions) → slice_get commands i ≡ Some c → KeepsLimits c
+keeps_limits : (i : ℕ) (c : CommandSpec) → slice_get commands i ≡ Some c → KeepsLimits c
 keeps_limits zero c e = subst KeepsLimits (same_Some _ _ e) check_keeps
 keeps_limits (suc zero) c e = subst KeepsLimits (same_Some _ _ e) verify_keeps
 keeps_limits (suc (suc zero)) c e = subst KeepsLimits (same_Some _ _ e) audit_keeps
@@ -161,9 +161,9 @@ keeps_limits (suc (suc (suc (suc (suc (suc (suc (suc (suc (suc i)))))))))) c e =
 
 pub line_limits : (line : ParsedArgs) → IfSome (command_from_args line) (λ (command : Command). IsTrue (within_option_limits command))
 line_limits line = IfSome-from (command_from_args line) (λ (command : Command). IsTrue (within_option_limits command)) (λ command e.
-    let name = bind_some (line (codes "command")) (λ name. find (λ (c : CommandNameAndOptions). bytes_eq name c.name) commands >>= command_if_only_own_options line) command e in
-    let chosen = bind_some (find (λ (c : CommandNameAndOptions). bytes_eq name.0 c.name) commands) (command_if_only_own_options line) command name.2 in
-    let place = find-at (λ (c : CommandNameAndOptions). bytes_eq name.0 c.name) commands chosen.0 chosen.1 in
+    let name = bind_some (line (codes "command")) (λ name. find (λ (c : CommandSpec). bytes_eq name c.name) commands >>= command_if_only_own_options line) command e in
+    let chosen = bind_some (find (λ (c : CommandSpec). bytes_eq name.0 c.name) commands) (command_if_only_own_options line) command name.2 in
+    let place = find-at (λ (c : CommandSpec). bytes_eq name.0 c.name) commands chosen.0 chosen.1 in
     let taken = bind_some (then_some (has_only_own_options line (λ option. list_any (λ (o : OptionSpec). bytes_eq option o.name) chosen.0.options)) chosen.0) (λ c. chosen.0.command line) command chosen.2 in
     keeps_limits place.0 chosen.0 place.1 line command taken.2)
 

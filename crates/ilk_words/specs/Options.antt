@@ -10,7 +10,7 @@ use Rattle.clap.specs.declared.builder.value_parser.ValueParser.{ValueParser}
 use Rattle.clap.specs.declared.builder.value_parser.ValueParser.TheVariants as parser
 use Rattle.ilk_base.specs.Option.{◌>>=◌, then_some}
 use Rattle.ilk_words.specs.Columns.{all_column_rule_modes, column_rule_mode_word}
-use Rattle.ilk_words.specs.Queries.{all_queries, query_word}
+use Rattle.ilk_words.specs.Queries.{all_query_kinds, query_word}
 use Rattle.ilk_words.specs.declared.command.ColumnRuleMode.TheVariants.{Strict}
 use Rattle.ilk_words.specs.declared.limits.TheConstants.{DEFAULT_TOTAL_CONFLICTS, DEFAULT_DEPTH, MAX_TOTAL_CONFLICTS, MAX_DEPTH, MAX_QUERY_EVENTS, MAX_STATIONS}
 
@@ -74,7 +74,7 @@ stations_option = record {
 abbrev pub query_option : OptionSpec
 query_option = record {
   name = codes "query";
-  values = parser_accepting_only (map query_word all_queries);
+  values = parser_accepting_only (map query_word all_query_kinds);
   default = None;
 }
 

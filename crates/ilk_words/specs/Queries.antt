@@ -9,12 +9,12 @@ query_word Hazard = codes "hazard"
 query_word Breach = codes "breach"
 query_word Step = codes "step"
 
-abbrev pub all_queries : List QueryKind
-all_queries = Hazard ∷ Breach ∷ Step ∷ []
+abbrev pub all_query_kinds : List QueryKind
+all_query_kinds = Hazard ∷ Breach ∷ Step ∷ []
 
 -- The kind of query with this word, or `None` if there is none.
 abbrev pub query_kind_of_word : List ℕ → Option QueryKind
-query_kind_of_word = first_value_with_word query_word all_queries
+query_kind_of_word = first_value_with_word query_word all_query_kinds
 
 -- Returns whether there is a query of this kind for this number of events; a step query has at
 -- least one.

@@ -4,7 +4,7 @@ use Rattle.std.specs.Str.{bytes_eq}
 use Rattle.clap.specs.Words.{Text, fault_of, first_of, matches_of}
 use Rattle.clap.specs.Walk.{is_empty}
 use Rattle.ilk_base.specs.Option.{◌>>=◌, then_some}
-use Rattle.ilk_words.specs.Commands.{CommandNameAndOptions, commands}
+use Rattle.ilk_words.specs.Commands.{CommandSpec, commands}
 use Rattle.ilk_words.specs.Line.{app}
 use Rattle.ilk_words.specs.Options.{ParsedArgs, options}
 use Rattle.ilk_words.specs.declared.command.Command.{Command}
@@ -15,7 +15,7 @@ has_only_own_options line is_own = list_all (λ o. is_none (line o.name) || is_o
 
 -- The command that the line gives as this one, or `None` if an option of another command is on the
 -- line or a required one is missing.
-abbrev pub command_if_only_own_options : ParsedArgs → CommandNameAndOptions → Option Command
+abbrev pub command_if_only_own_options : ParsedArgs → CommandSpec → Option Command
 command_if_only_own_options line c = do
   _ ← then_some (has_only_own_options line (λ name. list_any (λ o. bytes_eq name o.name) c.options)) c
   c.command line

@@ -3,7 +3,7 @@ ghost use Rattle.std.specs.Prelude.{◌≡◌, ◌||◌, is_none};
 ghost use Rattle.clap.specs.Words.{first_value, found_of};
 ghost use Rattle.std.specs.List.{list_all, list_any};
 ghost use Rattle.std.specs.Str.{bytes_eq};
-ghost use Rattle.ilk_words.specs.Commands.{column_rule_mode_of, query_kind_of};
+ghost use Rattle.ilk_words.specs.Commands.{column_rule_mode_from_args, query_kind_from_args};
 ghost use Rattle.ilk_words.specs.Options.{conflicts_option, depth_option, option_number_or_default};
 ghost use Rattle.ilk_words.specs.Options.{query_number_option, stations_option};
 ghost use Rattle.ilk_words.specs.Words.{has_only_own_options};
@@ -54,7 +54,7 @@ fn is_among(own: &[&str], option: &str) -> bool
 
 /// Returns the mode of the column rules; strict by default.
 pub(crate) fn columns(matches: &ArgMatches<'_>) -> Option<ColumnRuleMode>
-    ensures { result ≡ column_rule_mode_of (first_value (found_of matches.now)) }
+    ensures { result ≡ column_rule_mode_from_args (first_value (found_of matches.now)) }
 {
     let word = matches
         .get_str(COLUMNS)
@@ -94,7 +94,7 @@ pub(crate) fn stations(matches: &ArgMatches<'_>) -> Option<u32>
 
 /// Returns the kind of the query, or `None` if it isn't on the line.
 pub(crate) fn query(matches: &ArgMatches<'_>) -> Option<QueryKind>
-    ensures { result ≡ query_kind_of (first_value (found_of matches.now)) }
+    ensures { result ≡ query_kind_from_args (first_value (found_of matches.now)) }
 {
     QueryKind::of_word(matches.get_str(QUERY)?.as_bytes())
 }

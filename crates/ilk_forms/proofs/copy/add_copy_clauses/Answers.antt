@@ -4,7 +4,7 @@ use Rattle.ilk_cnf.specs.Part.{with_part}
 use Rattle.ilk_cnf.proofs.Extending.{extends-clauses_from_lists}
 use Rattle.ilk_forms.specs.Copy.{PartWithAllVarLits, copy_part, AreCopyBits}
 use Rattle.ilk_forms.proofs.CopyLaw.{copy-law, ranges_fit-small}
-use Rattle.ilk_forms.proofs.CopyWidth.{class-length, copy-most, no_var_lits-length}
+use Rattle.ilk_forms.proofs.CopyWidth.{class-length, copy-most, no_lits_for_each_var-length}
 use Rattle.ilk_forms.proofs.CopySays.{copy-say}
 use Rattle.ilk_forms.proofs.CopyMade.{class_there, below_step, copy-begins}
 use Rattle.ilk_forms.proofs.copy.add_copy_clauses.Goals as goal
@@ -16,7 +16,7 @@ loop-i-init c =
     let same = copy-begins 256 ranges c.in_ok-table.table c.args.before refl c.in_ok-table.ensures in
     record {
       vars = refl;
-      many = ap length c.in_ok-table.ensures ∙ no_var_lits-length ranges;
+      many = ap length c.in_ok-table.ensures ∙ no_lits_for_each_var-length ranges;
       table = ap (λ (p : PartWithAllVarLits). p.columns) same;
       made = ap (λ (p : PartWithAllVarLits). with_part f p.part) same;
     }

@@ -4,14 +4,14 @@ use Rattle.ilk_ir.specs.Tree.{Tree}
 use Rattle.ilk_plant.specs.Plant.{PlantLists}
 use Rattle.ilk_plant.specs.declared.state.Hold.TheVariants.{Locked as LockedLock}
 use Rattle.ilk_layout.specs.Conditions.{lock_is}
-use Rattle.ilk_invs.specs.Held.{route_holds_sections}
+use Rattle.ilk_invs.specs.Held.{mode_holds_sections}
 use Rattle.ilk_invs.specs.HoldFamilies.{path_lock_matches_seen}
 use Rattle.ilk_invs.specs.Parts.{conditions_of_each_path_index, implication}
 use Rattle.ilk_invs.proofs.Pushed.{three_pushed}
 use Rattle.ilk_invs.proofs.lock_family.push_locks_for.Goals as goal
 
 abbrev locked_if_holding : PlantLists → ℕ → ℕ → Tree
-locked_if_holding p r x = implication (route_holds_sections r) (lock_is p x LockedLock)
+locked_if_holding p r x = implication (mode_holds_sections r) (lock_is p x LockedLock)
 
 pub returns : goal.returns
 returns c =

@@ -7,7 +7,7 @@ use Rattle.ilk_ir.specs.System.{plain_rule}
 use Rattle.ilk_forms.proofs.Reading.{has_lits_within_vars-more}
 use Rattle.ilk_step.specs.Choice.{Chooses}
 use Rattle.ilk_forms.proofs.Few.{with_part-few}
-use Rattle.ilk_step.specs.Size.{total_guard_tree_size, settings_count, copy_literals_count}
+use Rattle.ilk_step.specs.Size.{total_guard_tree_size, settings_count, value_and_bound_lits_count}
 use Rattle.ilk_step.proofs.Few.{step-few}
 use Rattle.ilk_step.specs.Step.{step_part, step_bits, AreStepBits}
 use Rattle.ilk_step.proofs.RulesSteps.{step_made, choice_made, rules_made, frames_made, choice_room, rules_room}
@@ -140,7 +140,7 @@ returns-clause-clauses c =
     let p = step_part rs c.args.now.now c.args.next.now f.vars in
     let made : c.add_frame_axioms.new.cnf ≡ with_part f p = returns-clause-made c in
     let few = step-few rs c.args.now.now c.args.next.now f.vars in
-    let k = 4 * length rs + 1 + 2 * total_guard_tree_size rs + settings_count rs + 2 * copy_literals_count c.args.now.now in
+    let k = 4 * length rs + 1 + 2 * total_guard_tree_size rs + settings_count rs + 2 * value_and_bound_lits_count c.args.now.now in
     let bound : length (with_part f p).clauses ≤ length f.clauses + k = with_part-few f p k few.1 in
     let all = ap (λ (u : Formula). length u.clauses) made in
     let long = length-map c.args.rules.now plain_rule in

@@ -8,7 +8,7 @@ returns-in-C5 c = λ none j below.
 
 pub returns-in-C6 : goal.returns-in-C6
 returns-in-C6 c = λ none j below.
-    rw c.in-C6.is (none_unlisted c.args.plant.now c.args.listed.now c.args.i c.requires.listed c.requires.first (sym c.has_later_route_not_listed.ensures ∙ none) j below)
+    rw c.in-C6.is (none_unlisted c.args.plant.now c.args.listed.now c.args.i c.requires.listed c.requires.first (sym c.does_not_list_all_later_routes.ensures ∙ none) j below)
 
 pub returns-in-C8 : goal.returns-in-C8
 returns-in-C8 c = λ none j below.

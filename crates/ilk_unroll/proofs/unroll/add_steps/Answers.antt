@@ -9,7 +9,7 @@ use Rattle.ilk_forms.specs.declared.copy.VarValueAndBoundLits.{VarValueAndBoundL
 use Rattle.ilk_step.specs.declared.choice.Choice.{Choice}
 use Rattle.ilk_step.specs.Step.{step_part}
 use Rattle.ilk_unroll.specs.Query.{steps_part}
-use Rattle.ilk_unroll.specs.Tables.{are_copies_within_vars, step_choice_variables}
+use Rattle.ilk_unroll.specs.Tables.{are_copies_within_vars, choice_variables_per_step}
 use Rattle.ilk_unroll.proofs.CopiesLaw.{within-at, ranges-at, are_copies_within_vars-more}
 use Rattle.ilk_unroll.proofs.StepsLaw.{one-fits, steps-next, few-steps, few-left}
 use Rattle.ilk_unroll.proofs.DemandsLaw.{nothing-made}
@@ -56,7 +56,7 @@ loop-i-preserved c =
     let seen : next ∷ rest ≡ drop (i + 1 - 1) all = sym there ∙ ap (λ (k : ℕ). drop k all) (sym after) in
     let made = c.in_ok-choice.ensures.made in
     let long : length s.rules ≡ length rules = sym (length-map s.rules plain_rule) in
-    let step = steps-next g h rules c.loop-i.choices (step_choice_variables rules all f.vars) c.in_ok-choice.choice
+    let step = steps-next g h rules c.loop-i.choices (choice_variables_per_step rules all f.vars) c.in_ok-choice.choice
     (with_part f (steps_part rules all f.vars)) (drop (i - 1) all) now next rest (length s.rules) split
     long c.in_ok-choice.ensures.choice made c.loop-i.invariant.choices c.loop-i.invariant.made in
     let fits = one-fits now next s.ranges rules g.vars
@@ -68,8 +68,8 @@ loop-i-preserved c =
     let vars : h.vars ≡ (step_part rules now next g.vars).vars = ap (λ (u : Formula). u.vars) made in
     record {
       within = ap (λ (k : ℕ). are_copies_within_vars k all) vars ∙ are_copies_within_vars-more g.vars (step_part rules now next g.vars).vars all fits.low c.loop-i.invariant.within;
-      choices = ap (λ (cs : List Choice). cs ++ step_choice_variables rules (drop (i + 1 - 1) all) h.vars) c.in_ok-push.ensures.ok
-          ∙ ap (λ (ts : List (List VarValueAndBoundLits)). (c.loop-i.choices ++ c.in_ok-choice.choice ∷ []) ++ step_choice_variables rules ts h.vars) (sym seen)
+      choices = ap (λ (cs : List Choice). cs ++ choice_variables_per_step rules (drop (i + 1 - 1) all) h.vars) c.in_ok-push.ensures.ok
+          ∙ ap (λ (ts : List (List VarValueAndBoundLits)). (c.loop-i.choices ++ c.in_ok-choice.choice ∷ []) ++ choice_variables_per_step rules ts h.vars) (sym seen)
           ∙ step.0;
       made = ap (λ (ts : List (List VarValueAndBoundLits)). with_part h (steps_part rules ts h.vars)) (sym seen) ∙ step.1;
     }

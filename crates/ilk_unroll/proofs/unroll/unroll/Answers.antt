@@ -8,7 +8,7 @@ use Rattle.ilk_forms.specs.Copy.{copy_var_count}
 use Rattle.ilk_forms.proofs.ColumnLaw.{ranges_fit}
 use Rattle.ilk_unroll.proofs.ReadBack.{ranges_fit-bytes}
 use Rattle.ilk_unroll.specs.Query.{copies_part, steps_part}
-use Rattle.ilk_unroll.specs.Tables.{step_choice_variables, choices_begin_at_or_before, are_copies_within_vars, CopiesHaveRanges}
+use Rattle.ilk_unroll.specs.Tables.{choice_variables_per_step, choices_begin_at_or_before, are_copies_within_vars, EachCopyHasTheseRanges}
 use Rattle.ilk_unroll.proofs.StepsLaw.{choices-numbered}
 use Rattle.ilk_unroll.proofs.CopiesLaw.{one-more}
 use Rattle.ilk_unroll.proofs.QueryLaw.{rules-valid}
@@ -45,7 +45,7 @@ made c = copies_made c.args.system.now.ranges c.args.steps (c.args.steps + 1) c.
     c.in_ok-take_copies.ensures c.in_ok-reserve_copy_vars.ensures.taken (many c) c.in_ok-tables.ensures.made
 
 inside : (c : In_ok-tables) →
-    (are_copies_within_vars c.add_copies.new.cnf.vars c.in_ok-tables.tables ≡ true) × CopiesHaveRanges c.args.system.now.ranges c.in_ok-tables.tables
+    (are_copies_within_vars c.add_copies.new.cnf.vars c.in_ok-tables.tables ≡ true) × EachCopyHasTheseRanges c.args.system.now.ranges c.in_ok-tables.tables
 inside c = unrolled-inside c.args.system.now.ranges c.args.steps c.add_copies.new.cnf c.in_ok-tables.tables (fit c) (seen c) (made c)
 
 pub add_steps-requires-clause-within : goal.add_steps-requires-clause-within
@@ -63,8 +63,8 @@ returns-clause-choices c =
     let p = copies_part c.args.system.now.ranges (suc c.args.steps) 0 in
     let here = (goal.at.returns-clause-choices c).In_ok-tables in
     c.in_ok-choices.ensures.choices
-    ∙ ap (λ (ts : List (List VarValueAndBoundLits)). step_choice_variables rules ts c.add_copies.new.cnf.vars) (seen here)
-    ∙ ap (λ (f : Formula). step_choice_variables rules p.tables f.vars) (made here)
+    ∙ ap (λ (ts : List (List VarValueAndBoundLits)). choice_variables_per_step rules ts c.add_copies.new.cnf.vars) (seen here)
+    ∙ ap (λ (f : Formula). choice_variables_per_step rules p.tables f.vars) (made here)
 
 pub returns-clause-made : goal.returns-clause-made
 returns-clause-made c =

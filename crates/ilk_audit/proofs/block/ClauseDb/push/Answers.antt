@@ -12,33 +12,33 @@ pub invariant_of-self-2 : goal.invariant_of-self-2
 invariant_of-self-2 c =
     let b = c.self.inside in
     let ok : is_ok c.push.result ≡ true = rw c.unwrap.ensures refl in
-    let items : c.push.new.self.items ≡ b.bounds.items ++ length (codes_in c.push_lit_codes_within_capacity.new.self) ∷ [] =
+    let items : c.push.new.self.items ≡ b.bounds.items ++ length (codes_in c.append_lits_assume_capacity.new.self) ∷ [] =
     rw ok at c.push.ensures.items
     ∙ ap (λ (xs : List ℕ). xs ++ c.len.result ∷ []) c.in_ok-reserve-2.ensures.items
     ∙ ap (λ n. b.bounds.items ++ n ∷ []) c.len.ensures in
-    let codes : codes_in c.push_lit_codes_within_capacity.new.self ≡ codes_in b.codes ++ map code_of c.args.clause.now = c.push_lit_codes_within_capacity.ensures.codes ∙ ap (λ (xs : List ℕ). xs ++
+    let codes : codes_in c.append_lits_assume_capacity.new.self ≡ codes_in b.codes ++ map code_of c.args.clause.now = c.append_lits_assume_capacity.ensures.codes ∙ ap (λ (xs : List ℕ). xs ++
     map code_of c.args.clause.now) c.in_ok-reserve.ensures.same in
-    let pushed = block-push b.vars b.codes c.push_lit_codes_within_capacity.new.self b.bounds.items c.args.clause.now c.self.invariant
-    codes c.push_lit_codes_within_capacity.ensures.fit
+    let pushed = block-push b.vars b.codes c.append_lits_assume_capacity.new.self b.bounds.items c.args.clause.now c.self.invariant
+    codes c.append_lits_assume_capacity.ensures.fit
     (ap (λ (f : Formula). is_clause_over f.vars c.args.clause.now) c.self.view_is ∙ c.requires.within)
     c.requires.differ in
-    let P : List ℕ → Type 0 = λ xs. CodesSplitIntoValidClauses b.vars c.push_lit_codes_within_capacity.new.self xs in
+    let P : List ℕ → Type 0 = λ xs. CodesSplitIntoValidClauses b.vars c.append_lits_assume_capacity.new.self xs in
     subst P (sym items) pushed.0
 
 pub returns-clause-ok : goal.returns-clause-ok
 returns-clause-ok c =
     let b = c.self.inside in
     let ok : is_ok c.push.result ≡ true = rw c.unwrap.ensures refl in
-    let items : c.push.new.self.items ≡ b.bounds.items ++ length (codes_in c.push_lit_codes_within_capacity.new.self) ∷ [] =
+    let items : c.push.new.self.items ≡ b.bounds.items ++ length (codes_in c.append_lits_assume_capacity.new.self) ∷ [] =
     rw ok at c.push.ensures.items
     ∙ ap (λ (xs : List ℕ). xs ++ c.len.result ∷ []) c.in_ok-reserve-2.ensures.items
     ∙ ap (λ n. b.bounds.items ++ n ∷ []) c.len.ensures in
-    let codes : codes_in c.push_lit_codes_within_capacity.new.self ≡ codes_in b.codes ++ map code_of c.args.clause.now = c.push_lit_codes_within_capacity.ensures.codes ∙ ap (λ (xs : List ℕ). xs ++
+    let codes : codes_in c.append_lits_assume_capacity.new.self ≡ codes_in b.codes ++ map code_of c.args.clause.now = c.append_lits_assume_capacity.ensures.codes ∙ ap (λ (xs : List ℕ). xs ++
     map code_of c.args.clause.now) c.in_ok-reserve.ensures.same in
-    let pushed = block-push b.vars b.codes c.push_lit_codes_within_capacity.new.self b.bounds.items c.args.clause.now c.self.invariant
-    codes c.push_lit_codes_within_capacity.ensures.fit
+    let pushed = block-push b.vars b.codes c.append_lits_assume_capacity.new.self b.bounds.items c.args.clause.now c.self.invariant
+    codes c.append_lits_assume_capacity.ensures.fit
     (ap (λ (f : Formula). is_clause_over f.vars c.args.clause.now) c.self.view_is ∙ c.requires.within)
     c.requires.differ in
-    ap (λ (xs : List ℕ). let f : Formula = record { vars = b.vars; clauses = split_into_clauses xs (codes_in c.push_lit_codes_within_capacity.new.self) } in f) items
+    ap (λ (xs : List ℕ). let f : Formula = record { vars = b.vars; clauses = split_into_clauses xs (codes_in c.append_lits_assume_capacity.new.self) } in f) items
     ∙ ap (λ (cs : List (List Literal)). let f : Formula = record { vars = b.vars; clauses = cs } in f) pushed.1
     ∙ ap (λ (f : Formula). with_var_count_and_clauses f f.vars (c.args.clause.now ∷ [])) c.self.view_is

@@ -1,7 +1,7 @@
 use Rattle.std.proofs.Common.{◌++◌, ◌∷◌, [], sym, subst, Option, Some, None, IsTrue}
 use Rattle.std.specs.Prelude.{IfSome}
 use Rattle.ilk_ir.specs.System.{plain_system, PlainSystem}
-use Rattle.ilk_unroll.specs.Goal.{plain_goal, PlainGoal}
+use Rattle.ilk_unroll.specs.Goal.{plain_goal, PlainGoalForms}
 use Rattle.ilk_cert_audit.specs.Fed.{IsStageOrRefusalAfter}
 use Rattle.ilk_cert_audit.specs.Stages.{is_valid_stage, IsNextStage}
 use Rattle.ilk_cert_audit.specs.declared.stage.Stage.{Stage}
@@ -29,7 +29,7 @@ returns-in-Some c = λ s g lines h.
     let F : Stage → Type 0 = λ stage. IsNextStage (plain_system old.system) (plain_goal old.goal) stage line c.in_ok-next.next in
     let N : Option Stage → Type 0 = λ next. IsNextStage (plain_system old.system) (plain_goal old.goal) old.stage line next in
     let S : PlainSystem → Type 0 = λ x. IsNextStage x (plain_goal old.goal) old.stage line (Some c.in-Some.next) in
-    let G : PlainGoal → Type 0 = λ x. IsNextStage s x old.stage line (Some c.in-Some.next) in
+    let G : PlainGoalForms → Type 0 = λ x. IsNextStage s x old.stage line (Some c.in-Some.next) in
     let goes = subst G h.goal (subst S h.system (subst N c.in-Some.is (subst F c.replace-stage.ensures.value ok.next))) in
     let I : Option Stage → Type 0 = λ next. IfSome next (λ stage. IsTrue (is_valid_stage stage)) in
     let next_staged = subst I c.in-Some.is ok.stage in
@@ -49,7 +49,7 @@ returns-in_default-next c = λ s g lines h.
     let F : Stage → Type 0 = λ stage. IsNextStage (plain_system old.system) (plain_goal old.goal) stage line c.in_ok-next.next in
     let N : Option Stage → Type 0 = λ next. IsNextStage (plain_system old.system) (plain_goal old.goal) old.stage line next in
     let S : PlainSystem → Type 0 = λ x. IsNextStage x (plain_goal old.goal) old.stage line None in
-    let G : PlainGoal → Type 0 = λ x. IsNextStage s x old.stage line None in
+    let G : PlainGoalForms → Type 0 = λ x. IsNextStage s x old.stage line None in
     let goes = subst G h.goal (subst S h.system (subst N c.in_default-next.is (subst F c.replace-stage.ensures.value ok.next))) in
     let Q : Stage → Type 0 = λ stage. IsStageOrRefusalAfter s g stage (lines ++ line ∷ []) old.line in
     record {

@@ -10,7 +10,7 @@ use Rattle.ilk_watches.proofs.Added.{queue-with_clause_added}
 use Rattle.ilk_solver.specs.declared.word.TheConstants.{WEIGHT_LIMIT}
 use Rattle.ilk_solver.specs.Levels.{LowerLevelsAreSaturated}
 use Rattle.ilk_solver.specs.View.{weight_of}
-use Rattle.ilk_solver.specs.Search.{SearchLists}
+use Rattle.ilk_solver.specs.Search.{FormulaLogAndView}
 use Rattle.ilk_solver.specs.Held.{HoldsSearch}
 use Rattle.ilk_solver.proofs.Added.{held-added, weight-fits}
 use Rattle.ilk_solver.proofs.search.Search.add.Goals as goal
@@ -31,7 +31,7 @@ invariant_of-result c =
     let new = c.count-2.new.self in
     let b = c.add.new.self in
     let f = formula_of s.clauses in
-    let O : SearchLists → Type 0 = λ x. LowerLevelsAreSaturated (step.clause ∷ []) x.view.trail.entries in
+    let O : FormulaLogAndView → Type 0 = λ x. LowerLevelsAreSaturated (step.clause ∷ []) x.view.trail.entries in
     let added = held-added f s.given s.log s.view new step c.self.invariant.search
     (subst O (sym c.self.view_is) c.requires.closed) c.count-2.ensures.trail
     (λ v p. c.count-2.ensures.weights v p
@@ -40,7 +40,7 @@ invariant_of-result c =
     let clauses : formula_of b ≡ with_var_count_and_clauses f f.vars (step.clause ∷ []) = ap formula_of c.in_ok-add.ensures.ok.is ∙ ap (λ (ls : List Literal). with_var_count_and_clauses f f.vars (ls ∷ [])) c.as_slice.ensures in
     let L : List Step → Type 0 = λ log. HoldsSearch (with_var_count_and_clauses f f.vars (step.clause ∷ [])) s.given log new in
     let C : Formula → Type 0 = λ g. HoldsSearch g s.given c.push.new.self new in
-    let A : SearchLists → Type 0 = λ x. FirstTwoAreWatchable x.view.trail.entries step.clause in
+    let A : FormulaLogAndView → Type 0 = λ x. FirstTwoAreWatchable x.view.trail.entries step.clause in
     let B : List Literal → Type 0 = λ ls. FirstTwoAreWatchable s.view.trail.entries ls in
     let may = subst B (sym c.as_slice.ensures) (subst A (sym c.self.view_is) c.requires.addable) in
     let K : ArenaContent → Type 0 = λ x. AreValidNumberedClauses x in

@@ -6,7 +6,7 @@ use Rattle.ilk_watches.specs.declared.queue.PropagationProgress.{PropagationProg
 use Rattle.ilk_watches.specs.Watched.{IsPropagationInvariant}
 use Rattle.ilk_watches.proofs.Back.{queue-back}
 use Rattle.ilk_solver.specs.View.{TrailAndWeights}
-use Rattle.ilk_solver.specs.Search.{SearchLists}
+use Rattle.ilk_solver.specs.Search.{FormulaLogAndView}
 use Rattle.ilk_solver.specs.Held.{HoldsSearch}
 use Rattle.ilk_solver.proofs.Searches.{held-back, known-closed}
 use Rattle.ilk_solver.proofs.search.Search.back_to.Goals as goal
@@ -18,7 +18,7 @@ invariant_of-self c =
     let es = s.view.trail.entries in
     let h = s.queue.head in
     let P : TrailAndWeights → Type 0 = λ v. HoldsSearch (formula_of s.clauses) s.given s.log v in
-    let at = ap (λ (x : SearchLists). level_of x.view.trail.entries) c.self.view_is in
+    let at = ap (λ (x : FormulaLogAndView). level_of x.view.trail.entries) c.self.view_is in
     let le : m ≤ level_of es = omega (arith, c.requires, at) in
     let top : level_of (entries_up_to m es) ≡ m = ap (λ (v : TrailAndWeights). level_of v.trail.entries) (sym c.back_to.ensures.entries) ∙ c.back_to.ensures.level in
     let climb = c.vars.ensures.view.trail.climbing in

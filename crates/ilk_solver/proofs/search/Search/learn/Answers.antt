@@ -10,7 +10,7 @@ use Rattle.ilk_learn.specs.declared.analysis.Learned.{Learned}
 use Rattle.ilk_learn.specs.Asserting.{back_level, is_false_in_asserting_order}
 use Rattle.ilk_watches.specs.Chained.{formula_of}
 use Rattle.ilk_solver.specs.Learned.{IsLearnedAssertingStep}
-use Rattle.ilk_solver.specs.Search.{SearchLists}
+use Rattle.ilk_solver.specs.Search.{FormulaLogAndView}
 use Rattle.ilk_solver.proofs.Searches.{known-closed}
 use Rattle.ilk_solver.proofs.Learning.{if-ok, learned-here, none-below}
 use Rattle.ilk_solver.proofs.search.Search.learn.Goals as goal
@@ -19,7 +19,7 @@ pub learn-requires-clause-below : goal.learn-requires-clause-below
 learn-requires-clause-below c =
     let s = c.self.inside in
     let closed = known-closed (formula_of s.clauses) s.given s.log s.view c.self.invariant.search in
-    let high : 0 < level_of s.view.trail.entries = omega (arith, c.requires.level, ap (λ (x : SearchLists). level_of x.view.trail.entries) c.self.view_is) in
+    let high : 0 < level_of s.view.trail.entries = omega (arith, c.requires.level, ap (λ (x : FormulaLogAndView). level_of x.view.trail.entries) c.self.view_is) in
     let P : TrailList → Type 0 = λ t. is_conflict s.clauses.clauses (lits_of (entries_up_to (level_of t.entries - 1) t.entries)) c.args.conflict ≡ false in
     subst P (sym c.trail.ensures) (none-below s.clauses.clauses s.view.trail.entries c.args.conflict closed high)
 
@@ -35,5 +35,5 @@ returns c =
     let b = subst B trail (IfOk-at_ok (λ (x : Learned). x.level ≡ back_level c.trail.result.now.entries x.step.clause) e c.learn.ensures.level) in
     let F : TrailList → Type 0 = λ t. is_saturated s.clauses.clauses (lits_of (entries_up_to l.level t.entries)) ≡ true → IsEmpowering s.clauses.clauses l.step.clause in
     let f = subst F trail (IfOk-at_ok (λ (x : Learned). is_saturated s.clauses.clauses (lits_of (entries_up_to x.level c.trail.result.now.entries)) ≡ true → IsEmpowering s.clauses.clauses x.step.clause) e c.learn.ensures.fresh) in
-    let Q : SearchLists → Type 0 = λ x. IsLearnedAssertingStep x l.step l.level in
+    let Q : FormulaLogAndView → Type 0 = λ x. IsLearnedAssertingStep x l.step l.level in
     subst Q c.self.view_is (learned-here (formula_of s.clauses) s.given s.log s.view l.step l.level c.self.invariant.search d a b f)))

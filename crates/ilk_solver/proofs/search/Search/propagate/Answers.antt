@@ -9,7 +9,7 @@ use Rattle.ilk_watches.specs.Chained.{formula_of}
 use Rattle.ilk_watches.specs.Propagated.{ExtendsByPropagation}
 use Rattle.ilk_solver.specs.View.{TrailAndWeights}
 use Rattle.ilk_solver.specs.Held.{HoldsSearch, search_with_log_and_view}
-use Rattle.ilk_solver.specs.Search.{SearchLists, all_clauses, with_trail}
+use Rattle.ilk_solver.specs.Search.{FormulaLogAndView, all_clauses, with_trail}
 use Rattle.ilk_solver.proofs.Searches.{formula-same, held-propagated}
 use Rattle.ilk_solver.proofs.search.Search.propagate.Goals as goal
 
@@ -49,7 +49,7 @@ returns-clause-same c =
     let b = c.propagate.new.clauses in
     ap (λ (f : Formula). search_with_log_and_view f s.given s.log new) (formula-same s.clauses b c.propagate.ensures.same)
     ∙ ap (λ (v : TrailAndWeights). search_with_log_and_view (formula_of s.clauses) s.given s.log v) c.propagate.ensures.entries
-    ∙ ap (λ (x : SearchLists). with_trail x new.trail.entries) c.self.view_is
+    ∙ ap (λ (x : FormulaLogAndView). with_trail x new.trail.entries) c.self.view_is
 
 pub returns-clause-propagated : goal.returns-clause-propagated
 returns-clause-propagated c =
@@ -57,7 +57,7 @@ returns-clause-propagated c =
     let es = c.propagate.new.self.trail.entries in
     let e : s.clauses.clauses ≡ all_clauses c.args.self.now = c.self.invariant.search.laid ∙ ap all_clauses c.self.view_is in
     let P : List (List Literal) → Type 0 = λ cs. ExtendsByPropagation cs s.view.trail.entries es in
-    let Q : SearchLists → Type 0 = λ x. ExtendsByPropagation (all_clauses c.args.self.now) x.view.trail.entries es in
+    let Q : FormulaLogAndView → Type 0 = λ x. ExtendsByPropagation (all_clauses c.args.self.now) x.view.trail.entries es in
     subst Q c.self.view_is (subst P e c.propagate.ensures.propagated)
 
 pub propagate-requires-clause-vars : goal.propagate-requires-clause-vars

@@ -6,7 +6,7 @@ use Rattle.ilk_log.specs.Fresh.{IsEmpowering, CanLearnButNotRefute}
 use Rattle.ilk_trail.specs.Trail.{level_of}
 use Rattle.ilk_trail.proofs.Levels.{last_level_or-push}
 use Rattle.ilk_solver.specs.Answered.{IsEmpoweringLogWithinBudget, IsSpentLog, has_no_empty_step}
-use Rattle.ilk_solver.specs.Search.{SearchLists, IsSearch}
+use Rattle.ilk_solver.specs.Search.{FormulaLogAndView, IsSearch}
 use Rattle.ilk_solver.proofs.Learning.{stuck}
 use Rattle.ilk_solver.proofs.LogsGrow.{log-ended, log-more, moved, has_no_empty_step-more, refuted, spent}
 use Rattle.ilk_solver.proofs.Measure.{decided-less, learned-less, rounds_left}
@@ -19,11 +19,11 @@ rounds-smaller-in-None g c =
     let now = c.propagate.new.self in
     let next = c.decide.new.self in
     let n = old.formula.vars in
-    let same = ap (λ (x : SearchLists). x.formula.vars) c.in-None.ensures.same in
-    let vars : next.formula.vars ≡ n = ap (λ (x : SearchLists). x.formula.vars) c.decide.ensures ∙ same in
+    let same = ap (λ (x : FormulaLogAndView). x.formula.vars) c.in-None.ensures.same in
+    let vars : next.formula.vars ≡ n = ap (λ (x : FormulaLogAndView). x.formula.vars) c.decide.ensures ∙ same in
     let few = level-few now c.view.ensures.search c.view.ensures.lists in
     let level = c.in-None.ensures.propagated.level in
-    let up : level_of next.view.trail.entries ≡ level_of now.view.trail.entries + 1 = ap (λ (x : SearchLists). level_of x.view.trail.entries) c.decide.ensures ∙ last_level_or-push 0 now.view.trail.entries _ in
+    let up : level_of next.view.trail.entries ≡ level_of now.view.trail.entries + 1 = ap (λ (x : FormulaLogAndView). level_of x.view.trail.entries) c.decide.ensures ∙ last_level_or-push 0 now.view.trail.entries _ in
     let P : ℕ → Type 0 = λ m. rounds_left m c.args.budget c.rounds.steps (level_of next.view.trail.entries) < rounds_left n c.args.budget c.rounds.steps (level_of old.view.trail.entries) in
     subst P (sym vars) (decided-less n c.args.budget c.rounds.steps (level_of old.view.trail.entries) (level_of next.view.trail.entries) (omega (arith, few, level, same)) (omega (arith, up, level)))
 
@@ -33,7 +33,7 @@ rounds-smaller g c =
     let now = c.propagate.new.self in
     let next = c.in_ok-search-in-Some.search in
     let n = old.formula.vars in
-    let same = ap (λ (x : SearchLists). x.formula.vars) c.in-Some.ensures.same in
+    let same = ap (λ (x : FormulaLogAndView). x.formula.vars) c.in-Some.ensures.same in
     let vars : next.formula.vars ≡ n = ap (λ (f : Formula). f.vars) c.in_ok-search-in-Some.ensures.formula ∙ same in
     let level = c.in-Some.ensures.propagated.level in
     let P : ℕ → Type 0 = λ m. rounds_left m c.args.budget (c.rounds.steps + 1) (level_of next.view.trail.entries) < rounds_left n c.args.budget c.rounds.steps (level_of old.view.trail.entries) in
@@ -49,8 +49,8 @@ returns-then-level-eq0-clause-log g c =
     let old = c.rounds.search in
     let now = c.propagate.new.self in
     let last = c.in_ok-last-in-Some.last in
-    let formula : now.formula ≡ f = ap (λ (x : SearchLists). x.formula) c.in-Some.ensures.same ∙ c.rounds.invariant.formula in
-    let log : now.log ≡ old.log = ap (λ (x : SearchLists). x.log) c.in-Some.ensures.same in
+    let formula : now.formula ≡ f = ap (λ (x : FormulaLogAndView). x.formula) c.in-Some.ensures.same ∙ c.rounds.invariant.formula in
+    let log : now.log ≡ old.log = ap (λ (x : FormulaLogAndView). x.log) c.in-Some.ensures.same in
     let derived = moved (λ (h : Formula) (l : List Step). is_derived h.vars (h.clauses ++ step_clauses l) last ≡ true) now f old.log formula log c.in_ok-last-in-Some.ensures.derived in
     let longer : c.push.new.self ≡ old.log ++ last ∷ [] = c.in_ok-push-in-Some.ensures.ok ∙ ap (λ (l : List Step). l ++ last ∷ []) (c.into_log-log.ensures ∙ log) in
     let P : List Step → Type 0 = λ l. IsEmpoweringLogWithinBudget f c.args.budget l in
@@ -62,8 +62,8 @@ returns-then-level-eq0-clause-answer g c =
     let old = c.rounds.search in
     let now = c.propagate.new.self in
     let last = c.in_ok-last-in-Some.last in
-    let formula : now.formula ≡ f = ap (λ (x : SearchLists). x.formula) c.in-Some.ensures.same ∙ c.rounds.invariant.formula in
-    let log : now.log ≡ old.log = ap (λ (x : SearchLists). x.log) c.in-Some.ensures.same in
+    let formula : now.formula ≡ f = ap (λ (x : FormulaLogAndView). x.formula) c.in-Some.ensures.same ∙ c.rounds.invariant.formula in
+    let log : now.log ≡ old.log = ap (λ (x : FormulaLogAndView). x.log) c.in-Some.ensures.same in
     let derived = moved (λ (h : Formula) (l : List Step). is_derived h.vars (h.clauses ++ step_clauses l) last ≡ true) now f old.log formula log c.in_ok-last-in-Some.ensures.derived in
     let longer : c.push.new.self ≡ old.log ++ last ∷ [] = c.in_ok-push-in-Some.ensures.ok ∙ ap (λ (l : List Step). l ++ last ∷ []) (c.into_log-log.ensures ∙ log) in
     let P : List Step → Type 0 = λ l. is_refutation f l ≡ true in
@@ -75,8 +75,8 @@ returns-then-steps-budget-clause-answer g c =
     let old = c.rounds.search in
     let now = c.propagate.new.self in
     let learned = c.in_ok-learned-in-Some.learned in
-    let formula : now.formula ≡ f = ap (λ (x : SearchLists). x.formula) c.in-Some.ensures.same ∙ c.rounds.invariant.formula in
-    let log : now.log ≡ old.log = ap (λ (x : SearchLists). x.log) c.in-Some.ensures.same in
+    let formula : now.formula ≡ f = ap (λ (x : FormulaLogAndView). x.formula) c.in-Some.ensures.same ∙ c.rounds.invariant.formula in
+    let log : now.log ≡ old.log = ap (λ (x : FormulaLogAndView). x.log) c.in-Some.ensures.same in
     let search = subst IsSearch c.search-in-Some.view_is c.search-in-Some.invariant.search.search in
     let high : 0 < level_of now.view.trail.entries = omega (arith, c.level.ensures.level, c.if-level-eq0.false) in
     let none_left = moved CanLearnButNotRefute now f old.log formula log (stuck now learned.step learned.level search high c.in_ok-learned-in-Some.ensures) in
@@ -91,8 +91,8 @@ rounds-preserved g c =
     let next = c.in_ok-search-in-Some.search in
     let step = c.in_ok-learned-in-Some.learned.step in
     let learned = c.in_ok-learned-in-Some.ensures in
-    let formula : now.formula ≡ f = ap (λ (x : SearchLists). x.formula) c.in-Some.ensures.same ∙ c.rounds.invariant.formula in
-    let log : now.log ≡ old.log = ap (λ (x : SearchLists). x.log) c.in-Some.ensures.same in
+    let formula : now.formula ≡ f = ap (λ (x : FormulaLogAndView). x.formula) c.in-Some.ensures.same ∙ c.rounds.invariant.formula in
+    let log : now.log ≡ old.log = ap (λ (x : FormulaLogAndView). x.log) c.in-Some.ensures.same in
     let derived = moved (λ (h : Formula) (l : List Step). is_derived h.vars (h.clauses ++ step_clauses l) step ≡ true) now f old.log formula log learned.derived in
     let fresh = moved (λ (h : Formula) (l : List Step). IsEmpowering (h.clauses ++ step_clauses l) step.clause) now f old.log formula log learned.fresh in
     let longer : next.log ≡ old.log ++ step ∷ [] = c.in_ok-search-in-Some.ensures.log ∙ ap (λ (l : List Step). l ++ step ∷ []) log in

@@ -2,7 +2,7 @@ use Rattle.std.proofs.Common.{◌∙◌, IsTrue, sym}
 use Rattle.ilk_base.proofs.Options.{IfSome-from}
 use Rattle.ilk_cnf.specs.Formula.{is_lit_over}
 use Rattle.ilk_forms.proofs.BoundLaw.{bound-in}
-use Rattle.ilk_forms.proofs.bound.or_of_values_bound_lit.Goals as goal
+use Rattle.ilk_forms.proofs.bound.bound_lit_stated_by_or.Goals as goal
 
 pub returns-clause-within : goal.returns-clause-within
 returns-clause-within c =
