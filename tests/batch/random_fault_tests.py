@@ -10,11 +10,12 @@ import xml.etree.ElementTree
 from irvtools.calls.verdict import HAZARD_FOUND, RANKING
 from tests.batch.many_configurations import with_a_fault
 from tests.batch.workspace import batch_case, differs, plain
+from tests.support.harness import SETTINGS
 from tests.support.real_size_lines import NETWORKS, with_routes
 
-COUNT = 30
+COUNT = 30 if SETTINGS.is_long else 12
 QUESTIONS = ("--ask", "check", "--ask", "html --verify-seconds 2 --search-seconds 4")
-FEWEST_HAZARDS = 10             # fewer would show little about the order
+FEWEST_HAZARDS = COUNT // 3     # fewer would show little about the order
 FIRST_LINE = re.compile(r'<p class="verdict \w+" id="verdict" data-word="([^"]*)"><b>\1</b>')
 RUN = re.compile(r'<pre class="run">(.*?)</pre>', re.S)
 
@@ -61,7 +62,7 @@ def counts(words):
 
 
 def check_random_faults(room):
-    """With thirty random single faults each hazard comes first in the index. Index, CSV and JUnit
+    """With random single faults each hazard comes first in the index. Index, CSV and JUnit
     count the reports' first words."""
     fill(room)
     done = room.call(*QUESTIONS)

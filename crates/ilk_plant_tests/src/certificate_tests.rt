@@ -3,8 +3,7 @@ ghost use Rattle.std.specs.Prelude.{◌<◌};
 use crate::plants::plant_from_configuration;
 use crate::texts::line;
 use ilk_engine::{
-    CertAudit, Ended, Fed, Found, CertificateText, certificate, decide,
-    lazy_certificate_text,
+    CertAudit, CertificateText, Ended, Fed, Found, certificate, decide, lazy_certificate_text,
 };
 use ilk_plant::Plant;
 use std::alloc::{AllocError, Global};
