@@ -27,7 +27,7 @@ MANY = 10               # times as much under --long
 AT_ONCE = 4
 NETWORKS = 120          # random
 SMALL = (6000, 20000)   # most bytes of a tested configuration, in CI and under --long
-LEFT_BY = ("V4", "V7", "V8", "hazard")      # what the last state of `not inductive` breaks first
+LEFT_BY = ("V4", "V7", "V8", "hazard")      # what the last state of `not inductive` breaks
 LEAST_OF_EACH = 1
 STRICT = ("line", "station", "station-protected", "platforms", "terminus-throat", "line-with-boards",
           "stations 3")
@@ -130,14 +130,14 @@ def changed_tables(seed):
 
 def shown_faults(plant, answer, left):
     """Yields the faults in verify's run behind `not inductive`. `left` counts what its last state
-    breaks first."""
+    breaks."""
     state, run = run_of(plant, answer)
     reached = events.replayed(plant, run, state)
     if reached is None or [invariant.meets(plant, one) for one in reached] != [True] * len(run) + [False]:
         yield f"{answer.line}: the run that is shown doesn't leave the invariant with its last event alone"
     else:
         what = invariant.broken(plant, reached[-1])
-        left[what[0][0] if what else "hazard"] += 1
+        left.update({each[0] for each in what} or {"hazard"})
 
 
 def check_not_inductive(program, is_long):
