@@ -13,8 +13,6 @@
 - No public contract reaches a definition file that says that only private contracts or proofs cite
   it (`support/reached_definitions.py`).
 - Options, files, tools, tests and modules have no old name (`OLD_NAMES`).
-
-The self-check changes a copy; each change must fail for its own reason.
 """
 
 import functools

@@ -9,9 +9,8 @@ Counted for each crate, and for `tools/` and `tests/`:
 - `proofs`: files of proofs over 300 lines;
 - `files`: files of code over 300 lines.
 
-Imports and what `rt` writes by itself (`specs/declared/`) do not count. `line_limits.counts` has the counts that are
-allowed; what is not in it is 0. A higher count fails, and so does a lower one until `tests/update_lists` lowers the
-allowed count, so that it cannot rise again.
+Imports and what `rt` writes by itself (`specs/declared/`) do not count. `line_limits.counts` has the allowed counts,
+0 if not listed. Another count fails; `tests/update_lists` lowers the allowed counts.
 """
 
 import re

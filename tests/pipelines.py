@@ -8,8 +8,6 @@
   columns. `table` of its own output prints it again.
 - `drive` prints what `support/drive_model.py` finds, over those plants and their tables, for random
   scenarios. `replay` of the printed run shows its hazard, or none.
-
-Each run makes the same 60 networks, or 10,000 with `--long`.
 """
 
 import collections

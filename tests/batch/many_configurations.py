@@ -1,7 +1,6 @@
 """Benchmark with hundreds of configurations: plain calls one by one and four at once, then a batch.
 It compares their times. A second call may ask nothing, and after one change only one configuration
-may be asked about. It does not run in CI and needs an idle machine: otherwise four processes get
-less than four times its time. Then compare with four plain calls at once, by CPU seconds.
+may be asked about. It does not run in CI and needs an idle machine.
 
 Each run uses the same configurations: the examples, a station of tests/plants, generated stations,
 and lines of real size with and without random protection. Each also comes with a single fault. The

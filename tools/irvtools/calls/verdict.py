@@ -1,7 +1,6 @@
 """The verdict on one configuration's answers: a word and a sentence.
 
-The HTML report, the evidence package, a batch, the simulator and `--explain` take it from here. The
-words:
+The words:
 
 - HAZARD FOUND: `replay`, `verify` or `drive` answered with a run from the initial state to a
   hazard. It overrides all others.

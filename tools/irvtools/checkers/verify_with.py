@@ -5,17 +5,14 @@ K. `irv export` prints each formula, the solver writes a refutation, and `irv ru
 
 `safe k=K` depends here on four claims:
 
-- Proved, with the formula, in the contract of `run`: `irv rup` says `refuted` only if no such run
-  exists, regardless of the text's origin. Nothing depends on the solver.
+- Proved in the contract of `run`: `irv rup` says `refuted` only if no such run exists.
 
-- Proved as `induction_implies_safety` of ilk_forever: no run of any length ends in a hazard if these queries
-  have none.
+- Proved as `induction_implies_safety` of ilk_forever: then no run of any length ends in a hazard.
 
 - This script asks all of these queries, over the same bytes and columns, and reads the answers
-  rightly. No contract says so. `irv audit` takes all queries in one certificate, and needs no
-  script.
+  rightly. No contract says so.
 
-- The assumptions of docs/assurance/qualification.md hold, as for each answer.
+- The assumptions of docs/assurance/qualification.md hold.
 
 The first line of a refutation is left out if it begins with `%`; picosat writes such a line. Lines
 that begin with `d` are left out too: rup ignores items that only delete, and reads at most 64 MiB.

@@ -10,8 +10,7 @@ as in `b2Ls`:
 
 - `L`: a loop beside each track; 4 points, 8 sections in all.
 
-Sections of both open lines are before, between and behind the parts. The routes are those of the
-network (lib/tablegen.py).
+Open line is before, between and behind the parts. The routes are those of the network.
 """
 
 from __future__ import annotations

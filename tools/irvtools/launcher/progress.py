@@ -9,8 +9,7 @@ other crates. `out/seconds` notes the last proofs.
 
 `rt ci` prints when a crate is proved; the prover's process shows the start. The remaining time is
 the listed seconds, shared among the proofs that run at once, but at least those of the longest
-chain of dependent crates. The pace is that of the finished proofs. A crate proved by an earlier run
-counts as finished, but not for the pace.
+chain of dependent crates.
 """
 
 import argparse

@@ -4,8 +4,7 @@
 crates of tests. It caches proofs on this machine by the checksums of all that it read; CI shares
 the cache.
 
-Standard error shows the progress. If a crate is not proved, the output of `rt ci` about it is
-printed at once; proofs that run beside it go on to their ends.
+Standard error shows the progress, and the output of `rt ci` about a crate that is not proved.
 
 The exit status is 0 if all is proved and the program is in crates/irv/out, 1 if not, 2 if the
 arguments are wrong, 130 after a signal.

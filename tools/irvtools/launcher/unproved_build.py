@@ -12,8 +12,7 @@ it has no answer, and takes half the time. `build` removes the checks from the m
 and links it to DIRECTORY/irv.
 
 It removes the sanitizer and the calls of `rattle-llvm-checks`, which end the program before an
-undefined operation. A proved program needs neither. Here a fault may stay unseen, so the build's
-answers are no evidence.
+undefined operation. So the build's answers are no evidence.
 
 The exit status is 0 if it is made, 1 if the toolchain lacks an expected part, 2 if the arguments
 are wrong.

@@ -1,18 +1,9 @@
 """Measures verify over generated stations and other lines, beside other solvers on the same
 formulas.
 
-First it prints the machine, the program and the solvers. Then it prints for each plant:
-
-- sections, points and routes;
-
-- the verdict, user seconds and peak memory of verify;
-
-- the certificate's size;
-
-- for each query, variables, clauses and conflicts, and each installed solver's seconds and
-  conflicts;
-
-- the same of audit, and of rup on cadical's text for the last query.
+First it prints the machine, the program and the solvers. Then it prints each plant's size; the
+verdict, seconds and peak memory of verify, audit and rup; and for each query its size, and the
+seconds and conflicts of each installed solver.
 
 Items that only delete are left out if that text is longer than rup reads. The least seconds of
 three rounds of audit and rup count; a round of a minute or more is the last. Peaks below some 16

@@ -1,15 +1,11 @@
 """The places of a plant's sections in a track plan.
 
-It is hand-written because layout libraries draw general graphs: a track plan has rows of tracks, up
-trains from left to right, and slanting legs of points.
-
 A joint joins two sections, or is an end of the network. A section reaches from joint to joint,
 straight except for the minus leg of points, which leads aside to another row. There the section at
 its end goes on. So the sections fall into tracks: chains of sections joined straight.
 
 A descent over a cost chooses the rows: tracks on one row must not overlap; legs should be short and
-cross no track. Then the joints get places along the plan: each section has room for its texts, and
-the plan is as short as possible. A plant has one plan; nothing is random.
+cross no track. Then the joints get places along the plan. Nothing is random.
 
 A network that breaks rules gets a plan too. A joint that only one side names counts; one that would
 close a circle is left out.
