@@ -12,7 +12,7 @@ use Rattle.ilk_words.specs.declared.command.ConfCommand.{ConfCommand}
 use Rattle.ilk_words.specs.declared.command.ConfCommand.TheVariants.{Plain, WithExtra}
 use Rattle.ilk_words.specs.declared.command.ExtraCommand.{ExtraCommand}
 use Rattle.ilk_words.specs.declared.command.ConfCommandWithoutExtra.{ConfCommandWithoutExtra}
-use Rattle.ilk_answers.specs.Answer.{AnswersConfCommandWithoutExtra, AnswersExtraCommand, AnswersOnPlantOrRefuses, AnswersOrRefusesTooLong, refused, all_or_first_refusal_reply}
+use Rattle.ilk_answers.specs.Answer.{AnswersConfCommandWithoutExtra, AnswersExtraCommand, AnswersOnPlantOrRefuses, AnswersOrRefusesTooLong, refused, refused_conf_reply}
 use Rattle.ilk_answers.specs.Besides.{AnswersForSomeExtraInput}
 use Rattle.ilk_answers.specs.declared.refusals.Refusal.TheVariants.{Form as FormRefusal}
 use Rattle.ilk_answers.specs.declared.refusals.Refusals.{Refusals}
@@ -22,7 +22,7 @@ told_or_none : (extra : Option (List ℕ)) → IfSome extra (λ bytes. unwrap_or
 told_or_none None = tt
 told_or_none (Some bytes) = refl
 
-pub some-refused : (command : ConfCommand) (refusals : Refusals) (extra : Option (List ℕ)) (made : Reply) → made ≡ all_or_first_refusal_reply command refusals → AnswersForSomeExtraInput command (Err refusals) extra made
+pub some-refused : (command : ConfCommand) (refusals : Refusals) (extra : Option (List ℕ)) (made : Reply) → made ≡ refused_conf_reply command refusals → AnswersForSomeExtraInput command (Err refusals) extra made
 some-refused command refusals extra made is =
     record { text = unwrap_or extra []; whole = told_or_none extra; answer = is }
 

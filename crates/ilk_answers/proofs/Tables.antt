@@ -31,14 +31,14 @@ use Rattle.ilk_words.specs.declared.plan.CheckedRuleStages.TheVariants.{Network}
 use Rattle.ilk_answers.specs.Answer.{AnswersOnPlantOrRefuses, refusals_from_form_fault, plant_or_refusals_of_conf, plant_of_drafts, refusals_if_any_broken_rules}
 use Rattle.ilk_answers.specs.Stages.{borders_without_board_if_strict, first_broken_stage_rules}
 use Rattle.ilk_answers.specs.Strict.{ReplyHasTableOfConf}
-use Rattle.ilk_answers.specs.Tables.{ReplyHasValidNetworkTable, AnswersTableOrWhyNone, conf_v2_text_with_table, routes_or_refusal_reply}
+use Rattle.ilk_answers.specs.Tables.{ReplyHasValidNetworkTable, AnswersTableOrWhyNone, conf_v2_text_with_table, generated_routes_reply}
 use Rattle.ilk_answers.specs.declared.refusals.Refusals.{Refusals}
 use Rattle.ilk_answers.specs.declared.reply.Reply.{Reply}
 use Rattle.ilk_answers.specs.declared.status.Status.TheVariants.{Good, Refused as IsRefused}
 use Rattle.ilk_answers.proofs.Checked.{first-none, later-none, none-broken, not-refused}
 
-good-routes : (p : PlantLists) (made : Reply) (found : Walks) → generation_result p ≡ found → made ≡ routes_or_refusal_reply p found → made.status ≡ Good → (table : TableDraft) × (generation_result p ≡ Routes table) ×
-    (made ≡ routes_or_refusal_reply p (Routes table))
+good-routes : (p : PlantLists) (made : Reply) (found : Walks) → generation_result p ≡ found → made ≡ generated_routes_reply p found → made.status ≡ Good → (table : TableDraft) × (generation_result p ≡ Routes table) ×
+    (made ≡ generated_routes_reply p (Routes table))
 good-routes p made (Routes table) is same good = (table, is, same)
 good-routes p made (TooLong m) is same good =
     let refused : IsRefused ≡ Good = ap (λ (r : Reply). r.status) (sym same) ∙ good in absurd (cc)
@@ -51,7 +51,7 @@ network-table : (columns : ColumnRuleMode) (net : NetDraft) (made : Reply) → n
 network-table columns net made kept borders sound told good =
     let bare : PlantLists = plant_from_drafts net no_routes in
     let back : network_draft bare ≡ net = drafted-back net no_routes kept in
-    let found : (table : TableDraft) × (generation_result bare ≡ Routes table) × (made ≡ routes_or_refusal_reply bare (Routes table)) = good-routes bare made (generation_result bare) refl told.reply good in
+    let found : (table : TableDraft) × (generation_result bare ≡ Routes table) × (made ≡ generated_routes_reply bare (Routes table)) = good-routes bare made (generation_result bare) refl told.reply good in
     let is : KeepsRulesButC7 bare found.0 = found-sound bare sound.plant sound.walks sound.drafts found.0 found.1 in
     let drafts : AreSoundDrafts net found.0 = subst (λ n. AreSoundDrafts n found.0) back is.sound in
     let alone : column_rules_broken (plant_from_drafts net found.0) ≡ broken_for_column_rule bare C7 = subst (λ n. column_rules_broken (plant_from_drafts n found.0) ≡ broken_for_column_rule bare C7) back is.columns in

@@ -88,9 +88,9 @@ abbrev pub refusal_lines_of_broken_rules : List Broken → List ℕ
 refusal_lines_of_broken_rules found = flat_map (λ b. refusal_line (RuleRefusal b)) found
 
 -- The reply to a refused configuration: `check` lists all refusals, every other command the first.
-abbrev pub all_or_first_refusal_reply : ConfCommand → Refusals → Reply
-all_or_first_refusal_reply (Plain Check) refusals = reply IsRefused (refusal_line refusals.first ++ refusal_lines_of_broken_rules refusals.rest)
-all_or_first_refusal_reply _ refusals = refused refusals.first
+abbrev pub refused_conf_reply : ConfCommand → Refusals → Reply
+refused_conf_reply (Plain Check) refusals = reply IsRefused (refusal_line refusals.first ++ refusal_lines_of_broken_rules refusals.rest)
+refused_conf_reply _ refusals = refused refusals.first
 
 -- The reply to the outcome of a replay. Its status is `Good` only if the run ends in a hazard.
 abbrev pub replay_outcome_reply : PlantLists → Seen → Reply
@@ -138,7 +138,7 @@ AnswersOnPlantIfExtraExposed (WithExtra file command) p extra made =
 -- Holds if a reply answers a command on a plant and the extra input. If there are refusals instead
 -- of a plant, it has to refuse by them.
 abbrev pub AnswersOnPlantOrRefuses : ConfCommand → Result PlantLists Refusals → Option (List ℕ) → Reply → Type 0
-AnswersOnPlantOrRefuses command (Err refusals) extra made = made ≡ all_or_first_refusal_reply command refusals
+AnswersOnPlantOrRefuses command (Err refusals) extra made = made ≡ refused_conf_reply command refusals
 AnswersOnPlantOrRefuses command (Ok p) extra made = AnswersOnPlantIfExtraExposed command p extra made
 
 -- Holds if a reply answers these inputs: the command that the arguments give, the configuration and

@@ -2,7 +2,7 @@
 use Rattle.std.specs.Prelude.{ℕ, ◌≡◌, ◌⊎◌, List}
 use Rattle.ilk_plant.specs.Plant.{PlantLists}
 use Rattle.ilk_behave.specs.Behaviour.{system_of_plant}
-use Rattle.ilk_queries.specs.Goal.{goal_of_plant}
+use Rattle.ilk_queries.specs.Goal.{goal_forms_of_plant}
 use Rattle.ilk_certificate.specs.Certificate.{IsValidCertificate}
 use Rattle.ilk_cert_audit.specs.FirstBad.{FirstBadOrMissingLine}
 use Rattle.ilk_forever.specs.Forever.{AlwaysKeepsInvariant}
@@ -14,14 +14,14 @@ use Rattle.ilk_answers.specs.declared.status.Status.TheVariants.{Good, Rejected}
 -- then safe for runs of any length.
 pub record ReplyAcceptsCertificate (p : PlantLists) (bytes : List ℕ) (made : Reply) : Type 0 where
   pub k : ℕ
-  pub certificate : IsValidCertificate (system_of_plant p) (goal_of_plant p) k bytes
+  pub certificate : IsValidCertificate (system_of_plant p) (goal_forms_of_plant p) k bytes
   pub safe : AlwaysKeepsInvariant p
   pub reply : made ≡ reply Good (certificate_accepted_line k)
 
 -- Holds if the bytes are not a certificate, and a reply rejects them by their first bad line.
 pub record ReplyRejectsCertificate (p : PlantLists) (bytes : List ℕ) (made : Reply) : Type 0 where
   pub line : ℕ
-  pub first : FirstBadOrMissingLine (system_of_plant p) (goal_of_plant p) bytes line
+  pub first : FirstBadOrMissingLine (system_of_plant p) (goal_forms_of_plant p) bytes line
   pub reply : made ≡ reply Rejected (first_bad_line_message line)
 
 -- Holds if a reply accepts these bytes as a certificate of plant `p`, or rejects them, and is

@@ -4,7 +4,7 @@ use Rattle.ilk_cnf.specs.Formula.{Formula}
 use Rattle.ilk_plant.specs.Plant.{PlantLists}
 use Rattle.ilk_behave.specs.Behaviour.{system_of_plant}
 use Rattle.ilk_queries.specs.Asked.{HasQueriedRun}
-use Rattle.ilk_queries.specs.Goal.{goal_of_plant}
+use Rattle.ilk_queries.specs.Goal.{goal_forms_of_plant}
 use Rattle.ilk_rup.specs.Accepted.{IsAccepted, IsFirstBadItem}
 use Rattle.ilk_unroll.specs.Query.{query_formula}
 use Rattle.ilk_words.specs.declared.command.QueryKind.{QueryKind}
@@ -15,7 +15,7 @@ use Rattle.ilk_answers.specs.declared.status.Status.TheVariants.{Good, Rejected}
 
 -- The formula of the query of this kind for runs of n events.
 abbrev pub formula_of_query : PlantLists → QueryKind → ℕ → Formula
-formula_of_query p kind n = query_formula (system_of_plant p) (goal_of_plant p) (query_from_kind_and_length kind n)
+formula_of_query p kind n = query_formula (system_of_plant p) (goal_forms_of_plant p) (query_from_kind_and_length kind n)
 
 -- Holds if the text refutes the query's formula, and a reply accepts it. The plant then has no run
 -- that the query asks for.

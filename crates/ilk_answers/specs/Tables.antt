@@ -37,10 +37,10 @@ abbrev pub too_many_line : List ℕ
 too_many_line = refusal_line_for_rule (codes "G2") (codes "document")
 
 -- The reply with the configuration of the generated routes, or the reason why there are none.
-abbrev pub routes_or_refusal_reply : PlantLists → Walks → Reply
-routes_or_refusal_reply p (Routes table) = reply Good (conf_v2_text_with_table p table ++ 10 ∷ [])
-routes_or_refusal_reply p (TooLong m) = reply Refused (overlong_way_from_board_line m)
-routes_or_refusal_reply p TooMany = reply Refused too_many_line
+abbrev pub generated_routes_reply : PlantLists → Walks → Reply
+generated_routes_reply p (Routes table) = reply Good (conf_v2_text_with_table p table ++ 10 ∷ [])
+generated_routes_reply p (TooLong m) = reply Refused (overlong_way_from_board_line m)
+generated_routes_reply p TooMany = reply Refused too_many_line
 
 -- Holds if the configuration text of this table is read as the plant's network with the same table.
 abbrev pub IsReadBack : PlantLists → TableDraft → Type 0
@@ -49,7 +49,7 @@ IsReadBack p table = net_and_table_drafts_from_text (conf_v2_text_with_table p t
 -- Holds if a reply has the generated routes of the plant's network, or the reason why there are
 -- none. The printed configuration is read back as the same network and table.
 pub record AnswersTableOrWhyNone (p : PlantLists) (made : Reply) : Type 0 where
-  pub reply : made ≡ routes_or_refusal_reply p (generation_result p)
+  pub reply : made ≡ generated_routes_reply p (generation_result p)
   pub read : (table : TableDraft) → generation_result p ≡ Routes table → IsReadBack p table
 
 -- Holds if a reply is a text and a line feed, and the text is read as network `net` with the table

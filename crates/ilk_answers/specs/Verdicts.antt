@@ -8,7 +8,7 @@ use Rattle.ilk_unroll.specs.declared.queries.Wanted.{Wanted}
 use Rattle.ilk_unroll.specs.declared.queries.Wanted.TheVariants.{Hazard, Breach as BreachQuery, Step}
 use Rattle.ilk_behave.specs.Behaviour.{system_of_plant}
 use Rattle.ilk_queries.specs.Asked.{HasQueriedRun}
-use Rattle.ilk_queries.specs.Goal.{goal_of_plant}
+use Rattle.ilk_queries.specs.Goal.{goal_forms_of_plant}
 use Rattle.ilk_unroll.specs.Satisfied.{IsSatisfiable}
 use Rattle.ilk_engine.specs.CertificateOf.{IsCertificateTextOfVerdict}
 use Rattle.ilk_engine.specs.Forever.{SafeVerdictMeansAlwaysSafe}
@@ -67,6 +67,6 @@ query_from_kind_and_length kind.Step n = Step n
 -- if the plant has a run that the query asks for.
 pub record ReplyHasQueryFormulaText (p : PlantLists) (q : Wanted) (made : Reply) : Type 0 where
   pub status : made.status ≡ status.Good
-  pub report : made.report ≡ dimacs_text (query_formula (system_of_plant p) (goal_of_plant p) q)
-  pub satisfiable : IsSatisfiable (query_formula (system_of_plant p) (goal_of_plant p) q) ↔ HasQueriedRun p q
+  pub report : made.report ≡ dimacs_text (query_formula (system_of_plant p) (goal_forms_of_plant p) q)
+  pub satisfiable : IsSatisfiable (query_formula (system_of_plant p) (goal_forms_of_plant p) q) ↔ HasQueriedRun p q
   pub certificate : made.certificate ≡ []

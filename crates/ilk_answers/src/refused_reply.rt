@@ -1,5 +1,5 @@
 ghost use Rattle.std.specs.Prelude.{◌≡◌, ◌++◌, false, IfOk, string_bytes};
-ghost use Rattle.ilk_answers.specs.Answer.{refusal_lines_of_broken_rules, all_or_first_refusal_reply};
+ghost use Rattle.ilk_answers.specs.Answer.{refusal_lines_of_broken_rules, refused_conf_reply};
 ghost use Rattle.ilk_answers.specs.Refusal.{refusal_line};
 ghost use Rattle.ilk_answers.specs.Reply.{HasAllowedStatusAndCertificate};
 
@@ -29,7 +29,7 @@ pub fn refuse(
     refusals: &Refusals,
 ) -> Result<Reply, AllocError>
     ensures reply { IfOk result (λ made. made ≡
-        all_or_first_refusal_reply command.now refusals.now) }
+        refused_conf_reply command.now refusals.now) }
     ensures planned { IfOk result (HasAllowedStatusAndCertificate false) }
 {
     match command {

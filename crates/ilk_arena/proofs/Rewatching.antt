@@ -3,7 +3,7 @@ use Rattle.std.specs.List.{slice_get}
 use Rattle.std.proofs.lemmas.List.{length-set}
 use Rattle.ilk_cnf.specs.Literal.{Literal}
 use Rattle.ilk_cnf.specs.Formula.{is_lit_over}
-use Rattle.ilk_arena.specs.Arena.{ArenaContent, place, chain_of, contains_reference, literals_of, follows_or_heads_chain, without_reference, chains_with_first, chains_without, with_watch_moved}
+use Rattle.ilk_arena.specs.Arena.{ArenaContent, place, chain_of, contains_reference, literals_of, follows_or_heads_chain, without_reference, chains_with_first, chains_after_removal_from, with_watch_moved}
 use Rattle.ilk_arena.specs.Words.{IsItemOfList, FollowsOrHeadsChain, HasWatch, link_index, next_reference_in_chain, watch_moved, words_after_unlink, heads_after_unlink, chains_with_one_replaced}
 use Rattle.ilk_arena.specs.Linked.{lit_with_place_number, literal_places_at, chain_for_lit_place, references_in_block, lists_of, HasWatchChains, IsArenaInvariant}
 use Rattle.std.specs.Option.{option_map}
@@ -162,7 +162,7 @@ rewatch-law vars spare count ws hs a before c i p f h e r fi pe un =
     let F = chain_for_lit_place ws hs in
     let g1 = gives-set L.chains (length hs) F x (without_reference c (get_or L.chains x [])) (without_reference c (F x)) g0 r.from_in (ap (without_reference c) (chain-seen vars spare ws hs refs x r.from_in)) in
     let F1 = chains_with_one_replaced F x (without_reference c (F x)) in
-    let C1 = chains_without f c L.chains in
+    let C1 = chains_after_removal_from f c L.chains in
     let g2 = gives-set C1 (length hs) F1 p (c ∷ get_or C1 p []) (c ∷ F1 p) g1 pin (ap (λ ys. c ∷ ys) (g1.item p pin)) in
     let put : chains_with_first (lit_with_place_number p) c C1 ≡ set C1 p (c ∷ get_or C1 p []) = ap (λ (q : ℕ). set C1 q (c ∷ get_or C1 q [])) pl in
     let new0 = gives-seen vars spare us ks refs in

@@ -5,7 +5,7 @@ use Rattle.std.proofs.lemmas.Bool.Decides.{eqb_tells}
 use Rattle.std.proofs.lemmas.List.{get_or-set_other}
 use Rattle.std.proofs.lemmas.Map.Keys.{IsDistinct-head, IsDistinct-tail}
 use Rattle.ilk_cnf.specs.Literal.{Literal}
-use Rattle.ilk_arena.specs.Arena.{ArenaContent, place, chain_of, contains_reference, chains_with_first, chains_without, without_reference, with_clause_added, with_watch_moved}
+use Rattle.ilk_arena.specs.Arena.{ArenaContent, place, chain_of, contains_reference, chains_with_first, chains_after_removal_from, without_reference, with_clause_added, with_watch_moved}
 use Rattle.ilk_arena.specs.Linked.{lit_with_place_number}
 use Rattle.ilk_arena.proofs.Seen.{lit-at-place}
 
@@ -39,7 +39,7 @@ stands-put a t p c d h =
           ])
     ]
 
-pub stands-taken : (a : List (List ℕ)) (f p : Literal) (c d : ℕ) → contains_reference d (get_or (chains_without f c a) (place p) []) ≡ true → contains_reference d (get_or a (place p) []) ≡ true
+pub stands-taken : (a : List (List ℕ)) (f p : Literal) (c d : ℕ) → contains_reference d (get_or (chains_after_removal_from f c a) (place p) []) ≡ true → contains_reference d (get_or a (place p) []) ≡ true
 stands-taken a f p c d h =
     elim (set-cases a (place f) (place p) (without_reference c (get_or a (place f) []))) [
       | inl e ↦ ap (contains_reference d) (sym e) ∙ h
@@ -48,17 +48,17 @@ stands-taken a f p c d h =
 
 pub stands-with_watch_moved : (a : ArenaContent) (c : ℕ) (f t : Literal) (d : ℕ) (p : Literal) → contains_reference d (chain_of (with_watch_moved a c f t) p) ≡ true → (contains_reference d (chain_of a p) ≡ true) ⊎ ((d ≡ c) × (p ≡ t))
 stands-with_watch_moved a c f t d p h =
-    elim (stands-put (chains_without f c a.chains) t p c d h) [
+    elim (stands-put (chains_after_removal_from f c a.chains) t p c d h) [
       | inl s ↦ inl (stands-taken a.chains f p c d s)
       | inr e ↦ inr e
     ]
 
 pub chain-left : (a : ArenaContent) (c : ℕ) (f t : Literal) → f ≢ t → chain_of (with_watch_moved a c f t) f ≡ without_reference c (chain_of a f)
 chain-left a c f t n =
-    let other : get_or (chains_with_first t c (chains_without f c a.chains)) (place f) []
-    ≡ get_or (chains_without f c a.chains) (place f) [] =
-    get_or-set_other (chains_without f c a.chains) (place t) (place f)
-    (c ∷ get_or (chains_without f c a.chains) (place t) []) [] (λ e. n (place-one f t e)) in
+    let other : get_or (chains_with_first t c (chains_after_removal_from f c a.chains)) (place f) []
+    ≡ get_or (chains_after_removal_from f c a.chains) (place f) [] =
+    get_or-set_other (chains_after_removal_from f c a.chains) (place t) (place f)
+    (c ∷ get_or (chains_after_removal_from f c a.chains) (place t) []) [] (λ e. n (place-one f t e)) in
     other ∙ taken a.chains (place f)
   where
     taken : (xs : List (List ℕ)) (i : ℕ) → get_or (set xs i (without_reference c (get_or xs i []))) i [] ≡ without_reference c (get_or xs i [])

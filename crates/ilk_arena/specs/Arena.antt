@@ -76,8 +76,8 @@ abbrev pub without_reference : ℕ → List ℕ → List ℕ
 without_reference c cs = filter (λ x. not (x == c)) cs
 
 -- Returns the chains after reference `c` is removed from the chain of literal `l`.
-abbrev pub chains_without : Literal → ℕ → List (List ℕ) → List (List ℕ)
-chains_without l c chains = slice_set chains (place l) (without_reference c (slice_index_or chains (place l) []))
+abbrev pub chains_after_removal_from : Literal → ℕ → List (List ℕ) → List (List ℕ)
+chains_after_removal_from l c chains = slice_set chains (place l) (without_reference c (slice_index_or chains (place l) []))
 
 -- Returns the chains after reference `c` is put first in those of the first two literals of its
 -- clause, if it has two.
@@ -99,7 +99,7 @@ with_clause_added a ls c spare = record {
 
 -- Returns the arena after clause `c` watches literal `t` in place of `f`.
 abbrev pub with_watch_moved : ArenaContent → ℕ → Literal → Literal → ArenaContent
-with_watch_moved a c f t = record a { chains = chains_with_first t c (chains_without f c a.chains) }
+with_watch_moved a c f t = record a { chains = chains_with_first t c (chains_after_removal_from f c a.chains) }
 
 -- Returns the second list with `x` at the position of reference `c` in the first.
 abbrev pub set_for_reference : ℕ → List ℕ → List ℕ → ℕ → List ℕ

@@ -11,7 +11,7 @@ use Rattle.ilk_log.specs.declared.step.Step.{Step}
 use Rattle.ilk_log.specs.Propagation.{clause_numbered, is_false, is_falsified, only_lit_if_unset, unit_lit}
 use Rattle.ilk_log.specs.Derived.{hints_end_in_conflict, is_derived, is_empty_clause, negated_clause}
 use Rattle.ilk_audit.specs.Audited.{AuditState}
-use Rattle.ilk_audit.specs.Taken.{answer_from_fault, why_step_not_derived, why_hints_reach_no_conflict, is_taken, has_hint_left, step_answer}
+use Rattle.ilk_audit.specs.Taken.{step_answer_from_fault_if_any, why_step_not_derived, why_hints_reach_no_conflict, is_taken, has_hint_left, step_answer}
 use Rattle.ilk_audit.specs.declared.taken.Why.{Why}
 use Rattle.ilk_audit.specs.declared.taken.Why.TheVariants.{BadHint, NotUnit, NotFalse}
 
@@ -69,9 +69,9 @@ hints-derived clauses set (h ∷ (k ∷ hints)) = go (λ l. hints-derived clause
           | inr f ↦ rw f (by_unit next (unit_lit set c))
         ]
 
-answer_from_fault-taken : (s : Step) (o : Option Why) → is_taken (answer_from_fault s o) ≡ is_none o
-answer_from_fault-taken s (Some why) = refl
-answer_from_fault-taken s None = elim (cases_Bool (is_empty_clause s.clause)) [ inl t ↦ rw t refl | inr f ↦ rw f refl ]
+step_answer_from_fault_if_any-taken : (s : Step) (o : Option Why) → is_taken (step_answer_from_fault_if_any s o) ≡ is_none o
+step_answer_from_fault_if_any-taken s (Some why) = refl
+step_answer_from_fault_if_any-taken s None = elim (cases_Bool (is_empty_clause s.clause)) [ inl t ↦ rw t refl | inr f ↦ rw f refl ]
 
 pub fault-derived : (n : ℕ) (clauses : List (List Literal)) (s : Step) → is_none (why_step_not_derived n clauses s) ≡ is_derived n clauses s
 fault-derived n clauses s =
@@ -84,4 +84,4 @@ fault-derived n clauses s =
     ]
 
 pub taken_derived : (a : AuditState) (s : Step) → is_taken (step_answer a s) ≡ is_derived a.vars a.clauses s
-taken_derived a s = answer_from_fault-taken s (why_step_not_derived a.vars a.clauses s) ∙ fault-derived a.vars a.clauses s
+taken_derived a s = step_answer_from_fault_if_any-taken s (why_step_not_derived a.vars a.clauses s) ∙ fault-derived a.vars a.clauses s

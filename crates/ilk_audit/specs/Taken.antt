@@ -36,13 +36,13 @@ why_step_not_derived n clauses s =
     if is_clause_over n s.clause && has_distinct_vars s.clause then why_hints_reach_no_conflict clauses (negated_clause s.clause) s.hints else Some BadLiteral
 
 -- The checker's answer to a step, from the reason why it does not follow, if there is one.
-abbrev pub answer_from_fault : Step → Option Why → Taken
-answer_from_fault s (Some why) = Bad why
-answer_from_fault s None = if is_empty_clause s.clause then Closed else Good
+abbrev pub step_answer_from_fault_if_any : Step → Option Why → Taken
+step_answer_from_fault_if_any s (Some why) = Bad why
+step_answer_from_fault_if_any s None = if is_empty_clause s.clause then Closed else Good
 
 -- The checker's answer to a step in this state.
 abbrev pub step_answer : AuditState → Step → Taken
-step_answer a s = answer_from_fault s (why_step_not_derived a.vars a.clauses s)
+step_answer a s = step_answer_from_fault_if_any s (why_step_not_derived a.vars a.clauses s)
 
 -- Returns whether the answer says that the step is taken.
 abbrev pub is_taken : Taken → Bool

@@ -56,8 +56,7 @@ fn append_wide(codes: &mut Vec<u64>, vars: u64, clause: &[Lit])
 }
 
 impl LitCodes {
-    /// Creates an empty list. Its numbers have 32 bits if that suffices for the variables 1 to
-    /// `vars`.
+    /// Creates an empty list. Each literal takes 32 bits if `vars` variables fit, otherwise 64.
     pub fn new(alloc: Global, vars: u64) -> LitCodes
         ensures empty { codes_in result ≡ [] }
         ensures fit { IsTrue (lit_codes_fit_width vars result) }

@@ -13,3 +13,4 @@ pub mod Results
 pub mod ListTests
 pub mod Numbered
 pub mod Bits
+pub mod BitSets

@@ -6,3 +6,4 @@ pub mod Once
 pub mod Words
 pub mod Numbered
 pub mod Numbers
+pub mod BitSet

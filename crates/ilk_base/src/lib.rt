@@ -11,11 +11,13 @@
 //! lists of numbers (`Numbers`), lists without duplicates (`Once`), and words in texts (`Words`).
 #![tactic(auto)]
 
+mod bit_set;
 mod numbers;
 mod row;
 mod text;
 mod words;
 
+pub use bit_set::BitSet256;
 pub use numbers::has_number;
 pub use row::Row;
 pub use text::Text;

@@ -23,7 +23,7 @@ use Rattle.ilk_layout.specs.Laws.{IsWellFormedAndSafe}
 use Rattle.ilk_behave.specs.Behaviour.{events_of_plant, events_of_rules, rules_of_event, system_of_plant}
 use Rattle.ilk_behave.specs.Numbered.{IsEventOfPlant}
 use Rattle.ilk_behave.specs.Settings.{map_or_no_rules}
-use Rattle.ilk_behave.specs.Steps.{RulesAlwaysMatchEvent, SomeEventRuleIsEnabled, EventRuleGivesValues, SystemMatchesEvents, guard_holds_in_image}
+use Rattle.ilk_behave.specs.Steps.{RulesMatchEventInAllStates, SomeEventRuleIsEnabled, EventRuleGivesValues, SystemMatchesEvents, guard_holds_in_image}
 use Rattle.ilk_behave.specs.TrainRules.{head_rules_to_neighbour, tail_rule_to_neighbour}
 use Rattle.ilk_behave.proofs.AllocateSteps.{allocate-steps, lock-steps}
 use Rattle.ilk_behave.proofs.EnterSteps.{enter-steps, leave-steps}
@@ -38,7 +38,7 @@ use Rattle.ilk_behave.proofs.RouteSteps.{cancel-steps, mark-steps, sense-steps}
 use Rattle.ilk_behave.proofs.TailSteps.{tail-steps}
 use Rattle.ilk_motion.proofs.Shape.{inward_direction_if_border-known}
 
-event-steps : (p : PlantLists) → IsPlant p → IsAcyclic p → (event : Event) → RulesAlwaysMatchEvent p event
+event-steps : (p : PlantLists) → IsPlant p → IsAcyclic p → (event : Event) → RulesMatchEventInAllStates p event
 event-steps p plant never (Mark r) s shape calm = mark-steps p plant s shape calm r
 event-steps p plant never (Allocate r) s shape calm = allocate-steps p plant s shape calm r
 event-steps p plant never (Lock r) s shape calm = lock-steps p plant s shape calm r

@@ -35,9 +35,9 @@ use Rattle.ilk_layout.specs.Image.{image_of, occupancy_values}
 use Rattle.ilk_layout.specs.Variables.{board_var}
 use Rattle.ilk_layout.proofs.Writes.{board-written, image_with, mode-written}
 use Rattle.ilk_layout.specs.Conditions.{is_board_aspect, section_point_is_detected, is_listed_point_detected, mode_is}
-use Rattle.ilk_behave.specs.Guards.{free_and_vacant_at, not_alloc_or_locked}
+use Rattle.ilk_behave.specs.Guards.{free_and_vacant_at, neither_allocating_nor_locked}
 use Rattle.ilk_behave.specs.RouteRules.{routes_protected_by, rules_of_allocate, rules_of_lock}
-use Rattle.ilk_behave.specs.Settings.{set_board_aspect, command_listed_point, set_locks, set_mode, rule}
+use Rattle.ilk_behave.specs.Settings.{set_board_aspect, command_listed_point, set_lock_of_each_section, set_mode, rule}
 use Rattle.ilk_behave.specs.Steps.{RulesMatchEvent}
 use Rattle.ilk_behave.proofs.RouteSteps.{locked-known, state-of}
 use Rattle.ilk_base.proofs.ListTests.{all-at, filtered-none, list_all-alike, list_all-flat_map, list_all-not}
@@ -56,7 +56,7 @@ module _ (p : PlantLists) (plant : IsPlant p) (s : State) (shape : HasShape p s)
           let point = item_at s.points n below in
           rw (e, point.1) (at-holds p s shape n point.0 (lie_from_position at) point.1 ∙ lies-test point.0.at at)
 
-  claimed : (q : ℕ) → q < length p.routes → list_all (tree_holds (image_of p s)) (not_alloc_or_locked q) ≡ not (is_allocating_or_locked s q)
+  claimed : (q : ℕ) → q < length p.routes → list_all (tree_holds (image_of p s)) (neither_allocating_nor_locked q) ≡ not (is_allocating_or_locked s q)
   claimed q within =
       let allocating = has_mode-holds p s shape q Allocating within in
       let locked = has_mode-holds p s shape q Locked within in
@@ -76,27 +76,28 @@ module _ (p : PlantLists) (plant : IsPlant p) (s : State) (shape : HasShape p s)
   allocate-guard : (r : ℕ) (route : Route) (now : RouteState) → slice_get p.routes r ≡ Some route →
       slice_get s.routes r ≡ Some now →
       list_all (tree_holds (image_of p s))
-      (mode_is r Marked ∷ flat_map not_alloc_or_locked route.conflicts
+      (mode_is r Marked ∷ flat_map neither_allocating_nor_locked route.conflicts
       ++ flat_map (free_and_vacant_at p) (sections_locked_for route))
       ≡ (same_mode now.mode Marked && can_allocate_if_marked s route)
   allocate-guard r route now known here =
       let of = plant.routes_known r route known in
-      let conflicts : list_all (tree_holds (image_of p s)) (flat_map not_alloc_or_locked route.conflicts) ≡ not (list_any (is_allocating_or_locked s) route.conflicts) =
-      list_all-flat_map (tree_holds (image_of p s)) not_alloc_or_locked route.conflicts
-      ∙ list_all-alike (λ q. list_all (tree_holds (image_of p s)) (not_alloc_or_locked q)) (λ q. not (is_allocating_or_locked s q)) route.conflicts (λ i q at. claimed q (all-at (λ q. q < length p.routes) route.conflicts i q of.conflicts at))
+      let conflicts : list_all (tree_holds (image_of p s)) (flat_map neither_allocating_nor_locked route.conflicts) ≡ not (list_any (is_allocating_or_locked s) route.conflicts) =
+      list_all-flat_map (tree_holds (image_of p s)) neither_allocating_nor_locked route.conflicts
+      ∙ list_all-alike (λ q. list_all (tree_holds (image_of p s)) (neither_allocating_nor_locked q)) (λ q. not (is_allocating_or_locked s q)) route.conflicts
+      (λ i q at. claimed q (all-at (λ q. q < length p.routes) route.conflicts i q of.conflicts at))
       ∙ list_all-not (is_allocating_or_locked s) route.conflicts in
       let sections : list_all (tree_holds (image_of p s)) (flat_map (free_and_vacant_at p) (sections_locked_for route)) ≡ list_all (is_unlocked_and_vacant s) (sections_locked_for route) =
       list_all-flat_map (tree_holds (image_of p s)) (free_and_vacant_at p) (sections_locked_for route)
       ∙ list_all-alike (λ x. list_all (tree_holds (image_of p s)) (free_and_vacant_at p x)) (is_unlocked_and_vacant s) (sections_locked_for route) (λ i x at. cleared x (locked-known p route of i x at)) in
-      ap (λ b. b && list_all (tree_holds (image_of p s)) (flat_map not_alloc_or_locked route.conflicts ++ flat_map (free_and_vacant_at p) (sections_locked_for route))) (mode-holds p s shape r now Marked here)
-      ∙ ap (λ b. same_mode now.mode Marked && b) (list_all-append (tree_holds (image_of p s)) (flat_map not_alloc_or_locked route.conflicts) (flat_map (free_and_vacant_at p) (sections_locked_for route)))
+      ap (λ b. b && list_all (tree_holds (image_of p s)) (flat_map neither_allocating_nor_locked route.conflicts ++ flat_map (free_and_vacant_at p) (sections_locked_for route))) (mode-holds p s shape r now Marked here)
+      ∙ ap (λ b. same_mode now.mode Marked && b) (list_all-append (tree_holds (image_of p s)) (flat_map neither_allocating_nor_locked route.conflicts) (flat_map (free_and_vacant_at p) (sections_locked_for route)))
       ∙ ap (λ b. same_mode now.mode Marked && (b && list_all (tree_holds (image_of p s)) (flat_map (free_and_vacant_at p) (sections_locked_for route)))) conflicts
       ∙ ap (λ b. same_mode now.mode Marked && (not (list_any (is_allocating_or_locked s) route.conflicts) && b)) sections
 
   allocate-sets : (r : ℕ) (route : Route) (now : RouteState) → slice_get p.routes r ≡ Some route →
       slice_get s.routes r ≡ Some now →
       after_settings (image_with s (occupancy_values p s))
-      (set_mode r Allocating ∷ set_locks p (sections_locked_for route) LockedLock
+      (set_mode r Allocating ∷ set_lock_of_each_section p (sections_locked_for route) LockedLock
       ++ flat_map (command_listed_point p) (required_points route))
       ≡ image_with
       (record s {
@@ -121,8 +122,8 @@ module _ (p : PlantLists) (plant : IsPlant p) (s : State) (shape : HasShape p s)
       let s2 = record s1 { locks = locks } in
       let shape2 : HasShape p s2 = with_lists p s1 s.points s.boards locks shape1 refl refl (length-with_locks s.locks (sections_locked_for route) LockedLock) in
       let points = with_commands p s.points (required_points route) in
-      after_settings-append (image_with s e) (set_mode r Allocating ∷ set_locks p (sections_locked_for route) LockedLock) (flat_map (command_listed_point p) (required_points route))
-      ∙ ap (λ values. after_settings (after_settings values (set_locks p (sections_locked_for route) LockedLock)) (flat_map (command_listed_point p) (required_points route))) (mode-written p s e shape r now Allocating here)
+      after_settings-append (image_with s e) (set_mode r Allocating ∷ set_lock_of_each_section p (sections_locked_for route) LockedLock) (flat_map (command_listed_point p) (required_points route))
+      ∙ ap (λ values. after_settings (after_settings values (set_lock_of_each_section p (sections_locked_for route) LockedLock)) (flat_map (command_listed_point p) (required_points route))) (mode-written p s e shape r now Allocating here)
       ∙ ap (λ values. after_settings values (flat_map (command_listed_point p) (required_points route))) (locks-written p s1 e (sections_locked_for route) LockedLock shape1 (locked-known p route of))
       ∙ commands-written p s2 e (required_points route) shape2
       ∙ ap (image_with (record s2 { points = points })) (sym (same-occupancies p s (set s.routes r now1) points s.boards locks (command_listed_point-lies p s (required_points route))))
@@ -135,8 +136,8 @@ module _ (p : PlantLists) (plant : IsPlant p) (s : State) (shape : HasShape p s)
       by_route (Some route) e =
           let now = state-of p plant s shape calm r route e in
           let allocated = record s { routes = set s.routes r (record now.0 { mode = Allocating }); locks = with_locks s.locks (sections_locked_for route) LockedLock; points = with_commands p s.points (required_points route) } in
-          let conditions : List Tree = mode_is r Marked ∷ flat_map not_alloc_or_locked route.conflicts ++ flat_map (free_and_vacant_at p) (sections_locked_for route) in
-          let sets : List Setting = set_mode r Allocating ∷ set_locks p (sections_locked_for route) LockedLock ++ flat_map (command_listed_point p) (required_points route) in
+          let conditions : List Tree = mode_is r Marked ∷ flat_map neither_allocating_nor_locked route.conflicts ++ flat_map (free_and_vacant_at p) (sections_locked_for route) in
+          let sets : List Setting = set_mode r Allocating ∷ set_lock_of_each_section p (sections_locked_for route) LockedLock ++ flat_map (command_listed_point p) (required_points route) in
           rw (e, now.1) (rule_step p s allocated (same_mode now.0.mode Marked && can_allocate_if_marked s route) (rule conditions sets)
           (all_of-holds (image_of p s) conditions ∙ allocate-guard r route now.0 e now.1)
           (λ h. by_image p s allocated sets (allocate-sets r route now.0 e now.1)))

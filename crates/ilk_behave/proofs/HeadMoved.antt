@@ -42,7 +42,7 @@ use Rattle.ilk_layout.proofs.Changes.{image-board, image-two, occupied}
 use Rattle.ilk_layout.proofs.Made.{other-leg}
 use Rattle.ilk_layout.proofs.Plants.{body-known, body-once}
 use Rattle.ilk_layout.proofs.Trains.{has_x, with_trains, wrong-at, wrong-has}
-use Rattle.ilk_behave.specs.Settings.{set_board_aspect, close_board_if_any}
+use Rattle.ilk_behave.specs.Settings.{set_board_aspect, close_section_board_if_any}
 use Rattle.ilk_behave.specs.TrainRules.{head_move_settings}
 use Rattle.ilk_behave.proofs.Fired.{only-position}
 use Rattle.ilk_behave.proofs.Moved.{kept, now-at, now-there, occupancy-there, right-under, safe-from, some-wrong, still-safe}
@@ -287,7 +287,7 @@ module _ (p : PlantLists) (plant : IsPlant p) (never : IsAcyclic p) (s : State) 
     head-image tail there begins is =
         let after = with_trains s (set s.trains i (with_new_head y t)) in
         let here : occupancy_or_crash p after x ≡ Taken t.dir tail false = head-left ∙ ap (λ b. Taken t.dir b false) begins in
-        ap (λ o. after_settings (set (set (image_of p s) (occupancy_var p x) (occupancy_value o)) (occupancy_var p y) (occupancy_value there)) (close_board_if_any p x t.dir)) (sym here)
-        ∙ ap (λ o. after_settings (set (set (image_of p s) (occupancy_var p x) (occupied p after x)) (occupancy_var p y) (occupancy_value o)) (close_board_if_any p x t.dir)) (sym is)
-        ∙ ap (λ values. after_settings values (close_board_if_any p x t.dir)) (image-two p s shape (set s.trains i (with_new_head y t)) x y within-x within-y apart (λ z within not_x not_y. head-kept z within not_x not_y))
+        ap (λ o. after_settings (set (set (image_of p s) (occupancy_var p x) (occupancy_value o)) (occupancy_var p y) (occupancy_value there)) (close_section_board_if_any p x t.dir)) (sym here)
+        ∙ ap (λ o. after_settings (set (set (image_of p s) (occupancy_var p x) (occupied p after x)) (occupancy_var p y) (occupancy_value o)) (close_section_board_if_any p x t.dir)) (sym is)
+        ∙ ap (λ values. after_settings values (close_section_board_if_any p x t.dir)) (image-two p s shape (set s.trains i (with_new_head y t)) x y within-x within-y apart (λ z within not_x not_y. head-kept z within not_x not_y))
         ∙ closes (board_of p x t.dir) (λ m e. plant.boards_known x m t.dir e)

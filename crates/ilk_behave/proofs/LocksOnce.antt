@@ -21,7 +21,7 @@ use Rattle.ilk_plant.proofs.Rows.{contains_section-at}
 use Rattle.ilk_routes.specs.Claims.{sections_outside_path, required_points}
 use Rattle.ilk_layout.specs.Variables.{lock_var, commanded_var}
 use Rattle.ilk_layout.proofs.Valid.{lock_is-valid, is_point_commanded-valid}
-use Rattle.ilk_behave.specs.Settings.{command_listed_point, set_section_lock, set_locks, set_commanded}
+use Rattle.ilk_behave.specs.Settings.{command_listed_point, set_section_lock, set_lock_of_each_section, set_commanded}
 use Rattle.ilk_plant.proofs.PointNumbers.{number-once}
 use Rattle.ilk_behave.proofs.RulesValid.{all-flat_map, all-map, fits}
 use Rattle.ilk_behave.proofs.SetOnce.{SetElsewhere, SetOnce, elsewhere-flat_map, elsewhere-map, once-append, once-flat_map, once-map}
@@ -29,29 +29,29 @@ use Rattle.ilk_behave.proofs.Fired.{in-one}
 
 module _ (p : PlantLists) where
   abbrev locks : List ℕ → Hold → List Setting
-  locks xs hold = set_locks p xs hold
+  locks xs hold = set_lock_of_each_section p xs hold
 
   abbrev commands : List Listed → List Setting
   commands entries = flat_map (command_listed_point p) entries
 
-  pub locks-fit : (xs : List ℕ) (hold : Hold) → ((i x : ℕ) → slice_get xs i ≡ Some x → x < length p.sections) → list_all (fits p) (set_locks p xs hold) ≡ true
+  pub locks-fit : (xs : List ℕ) (hold : Hold) → ((i x : ℕ) → slice_get xs i ≡ Some x → x < length p.sections) → list_all (fits p) (set_lock_of_each_section p xs hold) ≡ true
   locks-fit xs hold within =
       all-map (fits p) (λ x. set_section_lock p x hold) xs (λ i x at. lock_is-valid p x hold (within i x at))
 
-  pub locks-elsewhere : (v : ℕ) (xs : List ℕ) (hold : Hold) → ((i x : ℕ) → slice_get xs i ≡ Some x → lock_var p x ≡ v → ⊥) → SetElsewhere v (set_locks p xs hold)
+  pub locks-elsewhere : (v : ℕ) (xs : List ℕ) (hold : Hold) → ((i x : ℕ) → slice_get xs i ≡ Some x → lock_var p x ≡ v → ⊥) → SetElsewhere v (set_lock_of_each_section p xs hold)
   locks-elsewhere v xs hold other = elsewhere-map v (λ x. set_section_lock p x hold) xs other
 
-  pub locks-once : (xs : List ℕ) (hold : Hold) → EachOnce xs → SetOnce (set_locks p xs hold)
+  pub locks-once : (xs : List ℕ) (hold : Hold) → EachOnce xs → SetOnce (set_lock_of_each_section p xs hold)
   locks-once xs hold once =
       once-map (λ x. set_section_lock p x hold) xs (λ i j x y at also same. (let one : x ≡ y = omega (arith, same) in once i j y (at ∙ ap Some one) also))
 
-  pub two_locks-once : (xs ys : List ℕ) (hold : Hold) → EachOnce xs → EachOnce ys → ((i j x : ℕ) → slice_get xs i ≡ Some x → slice_get ys j ≡ Some x → ⊥) → SetOnce (set_locks p (xs ++ ys) hold)
+  pub two_locks-once : (xs ys : List ℕ) (hold : Hold) → EachOnce xs → EachOnce ys → ((i j x : ℕ) → slice_get xs i ≡ Some x → slice_get ys j ≡ Some x → ⊥) → SetOnce (set_lock_of_each_section p (xs ++ ys) hold)
   two_locks-once xs ys hold once also apart =
       subst SetOnce (sym (map-append (λ x. set_section_lock p x hold) xs ys))
       (once-append (locks xs hold) (locks ys hold) (locks-once xs hold once) (locks-once ys hold also)
       (λ i s at. locks-elsewhere s.var ys hold (λ j y there same. cross i s at j y there same)))
     where
-      cross : (i : ℕ) (s : Setting) → slice_get (set_locks p xs hold) i ≡ Some s → (j y : ℕ) → slice_get ys j ≡ Some y → lock_var p y ≡ s.var → ⊥
+      cross : (i : ℕ) (s : Setting) → slice_get (set_lock_of_each_section p xs hold) i ≡ Some s → (j y : ℕ) → slice_get ys j ≡ Some y → lock_var p y ≡ s.var → ⊥
       cross i s at j y there same =
           let made = map-at (λ x. set_section_lock p x hold) xs i s at in
           let var : lock_var p made.0 ≡ s.var = ap (λ (z : Setting). z.var) made.2 in
@@ -120,7 +120,7 @@ module _ (p : PlantLists) where
         let there : contains_section x (route.path ++ route.overlap) ≡ true = contains_section-at (route.path ++ route.overlap) i x at in
         false≢true (sym away ∙ ap (λ y. contains_section y (route.path ++ route.overlap)) listed.2 ∙ there)
 
-    pub all_locks-once : (hold : Hold) → SetOnce (set_locks p (sections_locked_for route) hold)
+    pub all_locks-once : (hold : Hold) → SetOnce (set_lock_of_each_section p (sections_locked_for route) hold)
     all_locks-once hold =
         two_locks-once (route.path ++ route.overlap)
         (map (λ (listed : Listed). listed.point) route.protecting_points) hold
@@ -128,7 +128,7 @@ module _ (p : PlantLists) where
         (numbers_differ-places (map (λ (listed : Listed). listed.point) route.protecting_points)
         of.protecting_points_once) protecting-apart
 
-    pub last_locks-once : (hold : Hold) (k x : ℕ) → slice_get route.path k ≡ Some x → SetOnce (set_locks p (x ∷ sections_outside_path route) hold)
+    pub last_locks-once : (hold : Hold) (k x : ℕ) → slice_get route.path k ≡ Some x → SetOnce (set_lock_of_each_section p (x ∷ sections_outside_path route) hold)
     last_locks-once hold k x there = (
       other,
       two_locks-once route.overlap (map (λ (listed : Listed). listed.point) route.protecting_points)
@@ -144,7 +144,7 @@ module _ (p : PlantLists) where
             let places = numbers_differ-places (route.path ++ route.overlap) of.sections_once (length route.path + i) (length route.path + j) y (at-past route.path route.overlap i y at) (at-past route.path route.overlap j y also) in
             omega (arith, places)
 
-        other : SetElsewhere (lock_var p x) (set_locks p (sections_outside_path route) hold)
+        other : SetElsewhere (lock_var p x) (set_lock_of_each_section p (sections_outside_path route) hold)
         other =
             locks-elsewhere (lock_var p x) (sections_outside_path route) hold (λ i y at same. (
             let one : y ≡ x = omega (arith, same) in

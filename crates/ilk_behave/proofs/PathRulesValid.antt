@@ -22,7 +22,7 @@ use Rattle.ilk_layout.specs.Variables.{lock_var, ranges_of_plant}
 use Rattle.ilk_layout.specs.Conditions.{lock_is, mode_is, no_train_at, is_released_count, is_seen_count, train_at}
 use Rattle.ilk_layout.proofs.Valid.{is_board_aspect-valid, lock_is-valid, mode_is-valid, no_train_at-valid, is_released_count-valid, is_seen_count-valid, train_at-valid}
 use Rattle.ilk_behave.specs.RouteRules.{finish_rule, release_rule_at_index, rules_of_finish, rules_of_release, rules_of_sense, seen_at_least, sense_rule_at_index}
-use Rattle.ilk_behave.specs.Settings.{set_board_aspect, set_section_lock, set_locks, set_mode, set_released_count, map_or_no_rules, set_seen_count}
+use Rattle.ilk_behave.specs.Settings.{set_board_aspect, set_section_lock, set_lock_of_each_section, set_mode, set_released_count, map_or_no_rules, set_seen_count}
 use Rattle.ilk_behave.proofs.LocksOnce.{last_locks-once, locks-fit}
 use Rattle.ilk_behave.proofs.RulesValid.{all-append, all-cons, all-map, fits, is_valid, is_valid_rule, one_rule-valid, rule-valid}
 use Rattle.ilk_behave.proofs.SetOnce.{SetOnce, once-append}
@@ -136,7 +136,7 @@ module _ (p : PlantLists) (plant : IsPlant p) where
   finish_rule-valid r route k x known there =
       let within = slice_get_within p.routes r route known in
       let of = plant.routes_known r route known in
-      let locks : List Setting = set_locks p (x ∷ sections_outside_path route) FreeLock in
+      let locks : List Setting = set_lock_of_each_section p (x ∷ sections_outside_path route) FreeLock in
       let counts : List Setting = set_mode r Free ∷ set_seen_count r 0 ∷ set_released_count r 0 ∷ [] in
       let conditions : List Tree = mode_is r Occupied ∷ is_seen_count r (length route.path) ∷ is_released_count r (length route.path - 1) ∷ [] in
       rule-valid p conditions (locks ++ counts)

@@ -33,7 +33,7 @@ use Rattle.ilk_layout.specs.Variables.{mode_var, released_count_var, seen_count_
 use Rattle.ilk_layout.proofs.Writes.{image_with, lock-written, mode-written, rel-written, seen-written}
 use Rattle.ilk_layout.specs.Conditions.{mode_is, is_released_count, is_seen_count}
 use Rattle.ilk_behave.specs.RouteRules.{finish_rule, release_rule_at_index, rules_of_finish, rules_of_release, seen_at_least}
-use Rattle.ilk_behave.specs.Settings.{set_locks, set_mode, set_released_count, map_or_no_rules, set_seen_count}
+use Rattle.ilk_behave.specs.Settings.{set_lock_of_each_section, set_mode, set_released_count, map_or_no_rules, set_seen_count}
 use Rattle.ilk_behave.specs.Steps.{RulesMatchEvent, guard_holds_in_image}
 use Rattle.ilk_behave.proofs.RouteSteps.{state-of}
 use Rattle.ilk_base.proofs.ListTests.{all-at, counted-from, last-at, list_any-alike}
@@ -223,7 +223,7 @@ module _ (p : PlantLists) (plant : IsPlant p) (s : State) (shape : HasShape p s)
       let one = mode-written p s0 e shape0 r now Free here in
       let two = seen-written p s1 e shape1 r now1 0 (slice_get-set_same s.routes r now1 within) ∙ ap (λ routes. image_with (record s0 { routes = routes }) e) (set-set s.routes r now1 now2) in
       let three = rel-written p s2 e shape2 r now2 0 (slice_get-set_same s.routes r now2 within) ∙ ap (λ routes. image_with (record s0 { routes = routes }) e) (set-set s.routes r now2 now3) in
-      after_settings-append (image_with s e) (set_locks p (x ∷ sections_outside_path route) FreeLock) (set_mode r Free ∷ set_seen_count r 0 ∷ set_released_count r 0 ∷ [])
+      after_settings-append (image_with s e) (set_lock_of_each_section p (x ∷ sections_outside_path route) FreeLock) (set_mode r Free ∷ set_seen_count r 0 ∷ set_released_count r 0 ∷ [])
       ∙ ap (λ values. set (set (set values (mode_var r) 0) (seen_count_var r) 0) (released_count_var r) 0) (locks-written p s e (x ∷ sections_outside_path route) FreeLock shape (λ i y at. listed i y at))
       ∙ ap (λ values. set (set values (seen_count_var r) 0) (released_count_var r) 0) one
       ∙ ap (λ values. set values (released_count_var r) 0) two

@@ -18,9 +18,9 @@ use Rattle.ilk_routes.specs.Claims.{required_points}
 use Rattle.ilk_layout.specs.Variables.{lock_var, mode_var}
 use Rattle.ilk_layout.specs.Conditions.{is_board_aspect, is_listed_point_detected, lock_is, mode_is, no_train_at}
 use Rattle.ilk_layout.proofs.Valid.{is_board_aspect-valid, is_listed_point_detected-valid, lock_is-valid, mode_is-valid, no_train_at-valid}
-use Rattle.ilk_behave.specs.Guards.{free_and_vacant_at, not_alloc_or_locked}
+use Rattle.ilk_behave.specs.Guards.{free_and_vacant_at, neither_allocating_nor_locked}
 use Rattle.ilk_behave.specs.RouteRules.{routes_protected_by, rules_of_allocate, rules_of_cancel, rules_of_lock, rules_of_mark}
-use Rattle.ilk_behave.specs.Settings.{set_board_aspect, command_listed_point, set_section_lock, set_locks, set_mode, rule}
+use Rattle.ilk_behave.specs.Settings.{set_board_aspect, command_listed_point, set_section_lock, set_lock_of_each_section, set_mode, rule}
 use Rattle.ilk_behave.proofs.LocksOnce.{all_locks-once, commands-elsewhere, commands-fit, locks-elsewhere, locks-fit, wanted-once}
 use Rattle.ilk_behave.proofs.RouteSteps.{locked-known}
 use Rattle.ilk_behave.proofs.RulesValid.{all-append, all-cons, all-flat_map, all-map, fits, is_valid, is_valid_rule, one_rule-valid, rule-valid, two_rules-valid}
@@ -41,9 +41,9 @@ module _ (p : PlantLists) (plant : IsPlant p) where
           (all-cons (fits p) (set_mode r Marked) [] (mode_is-valid p r Marked within) refl)
           (tt, tt)))
 
-  freed-fit : (r : ℕ) (route : Route) → slice_get p.routes r ≡ Some route → list_all (fits p) (set_mode r Free ∷ set_locks p (sections_locked_for route) FreeLock) ≡ true
+  freed-fit : (r : ℕ) (route : Route) → slice_get p.routes r ≡ Some route → list_all (fits p) (set_mode r Free ∷ set_lock_of_each_section p (sections_locked_for route) FreeLock) ≡ true
   freed-fit r route e =
-      all-cons (fits p) (set_mode r Free) (set_locks p (sections_locked_for route) FreeLock)
+      all-cons (fits p) (set_mode r Free) (set_lock_of_each_section p (sections_locked_for route) FreeLock)
       (mode_is-valid p r Free (slice_get_within p.routes r route e))
       (locks-fit p (sections_locked_for route) FreeLock
       (locked-known p route (plant.routes_known r route e)))
@@ -59,7 +59,7 @@ module _ (p : PlantLists) (plant : IsPlant p) where
           let marked : List Tree = mode_is r Marked ∷ [] in
           let allocating : List Tree = mode_is r Allocating ∷ [] in
           let first : List Setting = set_mode r Free ∷ [] in
-          let second : List Setting = set_mode r Free ∷ set_locks p (sections_locked_for route) FreeLock in
+          let second : List Setting = set_mode r Free ∷ set_lock_of_each_section p (sections_locked_for route) FreeLock in
           rw e (two_rules-valid p (rule marked first) (rule allocating second)
           (rule-valid p marked first
           (all-cons (is_valid p) (mode_is r Marked) [] (mode_is-valid p r Marked within) refl)
@@ -79,14 +79,14 @@ module _ (p : PlantLists) (plant : IsPlant p) where
           let within = slice_get_within p.routes r route e in
           let of = plant.routes_known r route e in
           let known = locked-known p route of in
-          let locks : List Setting = set_locks p (sections_locked_for route) LockedLock in
+          let locks : List Setting = set_lock_of_each_section p (sections_locked_for route) LockedLock in
           let commands : List Setting = flat_map (command_listed_point p) (required_points route) in
-          let conditions : List Tree = mode_is r Marked ∷ flat_map not_alloc_or_locked route.conflicts ++ flat_map (free_and_vacant_at p) (sections_locked_for route) in
-          let sets : List Setting = set_mode r Allocating ∷ set_locks p (sections_locked_for route) LockedLock ++ flat_map (command_listed_point p) (required_points route) in
+          let conditions : List Tree = mode_is r Marked ∷ flat_map neither_allocating_nor_locked route.conflicts ++ flat_map (free_and_vacant_at p) (sections_locked_for route) in
+          let sets : List Setting = set_mode r Allocating ∷ set_lock_of_each_section p (sections_locked_for route) LockedLock ++ flat_map (command_listed_point p) (required_points route) in
           rw e (one_rule-valid p (rule conditions sets) (rule-valid p conditions sets
-          (all-append (is_valid p) (mode_is r Marked ∷ flat_map not_alloc_or_locked route.conflicts) (flat_map (free_and_vacant_at p) (sections_locked_for route))
-          (all-cons (is_valid p) (mode_is r Marked) (flat_map not_alloc_or_locked route.conflicts) (mode_is-valid p r Marked within)
-          (all-flat_map (is_valid p) not_alloc_or_locked route.conflicts (λ i q at. unclaimed-valid q (all-at (λ q. q < length p.routes) route.conflicts i q of.conflicts at))))
+          (all-append (is_valid p) (mode_is r Marked ∷ flat_map neither_allocating_nor_locked route.conflicts) (flat_map (free_and_vacant_at p) (sections_locked_for route))
+          (all-cons (is_valid p) (mode_is r Marked) (flat_map neither_allocating_nor_locked route.conflicts) (mode_is-valid p r Marked within)
+          (all-flat_map (is_valid p) neither_allocating_nor_locked route.conflicts (λ i q at. unclaimed-valid q (all-at (λ q. q < length p.routes) route.conflicts i q of.conflicts at))))
           (all-flat_map (is_valid p) (free_and_vacant_at p) (sections_locked_for route) (λ i x at. clear-valid x (known i x at))))
           (all-append (fits p) (set_mode r Allocating ∷ locks) commands
           (all-cons (fits p) (set_mode r Allocating) locks (mode_is-valid p r Allocating within) (locks-fit p (sections_locked_for route) LockedLock known))
@@ -96,7 +96,7 @@ module _ (p : PlantLists) (plant : IsPlant p) where
           (wanted-once p route of)
           (cross within route))))
         where
-          unclaimed-valid : (q : ℕ) → q < length p.routes → list_all (is_valid p) (not_alloc_or_locked q) ≡ true
+          unclaimed-valid : (q : ℕ) → q < length p.routes → list_all (is_valid p) (neither_allocating_nor_locked q) ≡ true
           unclaimed-valid q within =
               all-cons (is_valid p) (negation (mode_is q Allocating)) (negation (mode_is q Locked) ∷ []) (mode_is-valid p q Allocating within) (all-cons (is_valid p) (negation (mode_is q Locked)) [] (mode_is-valid p q Locked within) refl)
 
@@ -105,7 +105,7 @@ module _ (p : PlantLists) (plant : IsPlant p) where
               all-cons (is_valid p) (lock_is p x FreeLock) (no_train_at p x ∷ []) (lock_is-valid p x FreeLock inside) (all-cons (is_valid p) (no_train_at p x) [] (no_train_at-valid p x inside) refl)
 
           cross : r < length p.routes → (route : Route) → (i : ℕ) (s : Setting) →
-              slice_get (set_mode r Allocating ∷ set_locks p (sections_locked_for route) LockedLock) i
+              slice_get (set_mode r Allocating ∷ set_lock_of_each_section p (sections_locked_for route) LockedLock) i
               ≡ Some s →
               SetElsewhere s.var (flat_map (command_listed_point p) (required_points route))
           cross within route zero s at =

@@ -30,7 +30,7 @@ use Rattle.ilk_layout.proofs.Writes.{board-written, image_with, lock-written, mo
 use Rattle.ilk_layout.specs.Conditions.{mode_is}
 use Rattle.ilk_behave.specs.RouteRules.{rules_of_cancel, rules_of_mark, rules_of_sense, sense_rule_at_index}
 use Rattle.ilk_layout.specs.Variables.{mode_var, seen_count_var}
-use Rattle.ilk_behave.specs.Settings.{set_board_aspect, set_locks, set_mode, rule}
+use Rattle.ilk_behave.specs.Settings.{set_board_aspect, set_lock_of_each_section, set_mode, rule}
 use Rattle.ilk_behave.specs.Steps.{RulesMatchEvent, guard_holds_in_image}
 use Rattle.ilk_base.proofs.ListTests.{all-at}
 use Rattle.ilk_behave.proofs.Tools.{no_rules, place_steps, rule_step, two_rules_step}
@@ -93,15 +93,15 @@ module _ (p : PlantLists) (plant : IsPlant p) (s : State) (shape : HasShape p s)
           })
           (same_mode now.0.mode Marked) (same_mode now.0.mode Allocating)
           (same_mode now.0.mode Marked || same_mode now.0.mode Allocating)
-          (rule (mode_is r Marked ∷ []) (set_mode r Free ∷ [])) (rule (mode_is r Allocating ∷ []) (set_mode r Free ∷ set_locks p (sections_locked_for route) FreeLock))
+          (rule (mode_is r Marked ∷ []) (set_mode r Free ∷ [])) (rule (mode_is r Allocating ∷ []) (set_mode r Free ∷ set_lock_of_each_section p (sections_locked_for route) FreeLock))
           (and-true (tree_holds (image_of p s) (mode_is r Marked)) ∙ mode-holds p s shape r now.0 Marked now.1)
           (and-true (tree_holds (image_of p s) (mode_is r Allocating)) ∙ mode-holds p s shape r now.0 Allocating now.1)
           refl
           (λ h. by_image p s freed (set_mode r Free ∷ []) moded ∙ ap (λ b. image_of p (record freed { locks = cond b (with_locks s.locks (sections_locked_for route) FreeLock) s.locks })) (sym (not-both now.0.mode h)))
           (λ h.
           by_image p s unlocked_all
-          (set_mode r Free ∷ set_locks p (sections_locked_for route) FreeLock)
-          (ap (λ values. after_settings values (set_locks p (sections_locked_for route) FreeLock))
+          (set_mode r Free ∷ set_lock_of_each_section p (sections_locked_for route) FreeLock)
+          (ap (λ values. after_settings values (set_lock_of_each_section p (sections_locked_for route) FreeLock))
           moded ∙ unlocked)
           ∙ ap
           (λ b. image_of p

@@ -28,7 +28,7 @@ use Rattle.ilk_layout.specs.Conditions.{is_point_detected, is_board_aspect, sect
 use Rattle.ilk_layout.proofs.Valid.{is_point_detected-valid, is_board_aspect-valid, section_point_is_detected-valid, lock_is-valid, no_train_at-valid, occupancy_is-valid, is_point_commanded-valid, train_at-valid}
 use Rattle.ilk_behave.specs.Guards.{leg_set_if_facing, leg_position, board_open_if_any, not_wrong_on_point, not_wrong_from}
 use Rattle.ilk_behave.specs.PointRules.{rests_out_of_position, rules_of_settle, rules_of_throw}
-use Rattle.ilk_behave.specs.Settings.{set_detected, set_board_aspect, close_board_if_any, set_occupancy, rule}
+use Rattle.ilk_behave.specs.Settings.{set_detected, set_board_aspect, close_section_board_if_any, set_occupancy, rule}
 use Rattle.ilk_behave.specs.TrainRules.{all_directions, no_hazard_for_train, head_move_settings, head_rules_to_neighbour, leave_rule_in_direction, head_move_conditions, rules_of_enter, rules_of_head, rules_of_leave, rules_of_tail, tail_rule_to_neighbour}
 use Rattle.ilk_plant.proofs.PointNumbers.{numbered-section}
 use Rattle.ilk_behave.proofs.RulesValid.{all-append, all-cons, all-flat_map, all-map, fits, is_valid, is_valid_rule, one_rule-valid, rule-valid, two_rules-valid}
@@ -122,24 +122,24 @@ module _ (p : PlantLists) (plant : IsPlant p) where
       by_board None e = rw e refl
       by_board (Some m) e = rw e (all-cons (is_valid p) (is_board_aspect p m Open) [] (is_board_aspect-valid p m Open (plant.boards_known x m d e)) refl)
 
-  closes-fit : (x : ℕ) (d : Dir) → list_all (fits p) (close_board_if_any p x d) ≡ true
+  closes-fit : (x : ℕ) (d : Dir) → list_all (fits p) (close_section_board_if_any p x d) ≡ true
   closes-fit x d = by_board (board_of p x d) refl
     where
-      by_board : (o : Option ℕ) → board_of p x d ≡ o → list_all (fits p) (close_board_if_any p x d) ≡ true
+      by_board : (o : Option ℕ) → board_of p x d ≡ o → list_all (fits p) (close_section_board_if_any p x d) ≡ true
       by_board None e = rw e refl
       by_board (Some m) e = rw e (all-cons (fits p) (set_board_aspect p m Closed) [] (is_board_aspect-valid p m Closed (plant.boards_known x m d e)) refl)
 
-  closes-elsewhere : (x y : ℕ) (d : Dir) → SetElsewhere (occupancy_var p y) (close_board_if_any p x d)
+  closes-elsewhere : (x y : ℕ) (d : Dir) → SetElsewhere (occupancy_var p y) (close_section_board_if_any p x d)
   closes-elsewhere x y d = by_board (board_of p x d) refl
     where
-      by_board : (o : Option ℕ) → board_of p x d ≡ o → SetElsewhere (occupancy_var p y) (close_board_if_any p x d)
+      by_board : (o : Option ℕ) → board_of p x d ≡ o → SetElsewhere (occupancy_var p y) (close_section_board_if_any p x d)
       by_board None e = rw e tt
       by_board (Some m) e = let known = plant.boards_known x m d e in rw e ((λ same. omega (arith, known, same)), tt)
 
-  closes-once : (x : ℕ) (d : Dir) → SetOnce (close_board_if_any p x d)
+  closes-once : (x : ℕ) (d : Dir) → SetOnce (close_section_board_if_any p x d)
   closes-once x d = by_board (board_of p x d) refl
     where
-      by_board : (o : Option ℕ) → board_of p x d ≡ o → SetOnce (close_board_if_any p x d)
+      by_board : (o : Option ℕ) → board_of p x d ≡ o → SetOnce (close_section_board_if_any p x d)
       by_board None e = rw e tt
       by_board (Some m) e = rw e (tt, tt)
 
@@ -193,8 +193,8 @@ module _ (p : PlantLists) (plant : IsPlant p) where
 
   head_move_settings-fits : (x : ℕ) (d : Dir) (y : ℕ) (tail : Bool) (there : Occupancy) → AreNext x y → list_all (fits p) (head_move_settings p x d y tail there) ≡ true
   head_move_settings-fits x d y tail there next =
-      all-cons (fits p) (set_occupancy p x (Taken d tail false)) (set_occupancy p y there ∷ close_board_if_any p x d) (occupancy_is-valid p x (Taken d tail false) next.0)
-      (all-cons (fits p) (set_occupancy p y there) (close_board_if_any p x d) (occupancy_is-valid p y there next.1) (closes-fit x d))
+      all-cons (fits p) (set_occupancy p x (Taken d tail false)) (set_occupancy p y there ∷ close_section_board_if_any p x d) (occupancy_is-valid p x (Taken d tail false) next.0)
+      (all-cons (fits p) (set_occupancy p y there) (close_section_board_if_any p x d) (occupancy_is-valid p y there next.1) (closes-fit x d))
 
   head_move_settings-once : (x : ℕ) (d : Dir) (y : ℕ) (tail : Bool) (there : Occupancy) → AreNext x y → SetOnce (head_move_settings p x d y tail there)
   head_move_settings-once x d y tail there next =

@@ -29,7 +29,7 @@ use Rattle.ilk_layout.specs.Values.{occupancy_value}
 use Rattle.ilk_layout.proofs.Changes.{occupancy-kept}
 use Rattle.ilk_layout.proofs.Writes.{image_with, lock-written, to-written}
 use Rattle.ilk_layout.proofs.ConditionValues.{image-is}
-use Rattle.ilk_behave.specs.Settings.{command_listed_point, set_locks, set_commanded}
+use Rattle.ilk_behave.specs.Settings.{command_listed_point, set_lock_of_each_section, set_commanded}
 
 pub by_image : (p : PlantLists) (s t : State) (sets : List Setting) → after_settings (image_with s (occupancy_values p s)) sets ≡ image_with t (occupancy_values p t) → after_settings (image_of p s) sets ≡ image_of p t
 by_image p s t sets h = ap (λ values. after_settings values sets) (image-is p s) ∙ h ∙ sym (image-is p t)
@@ -66,7 +66,7 @@ with_route p s r mine now shape known within = record {
 
 pub locks-written : (p : PlantLists) (s : State) (occupancies : List ℕ) (xs : List ℕ) (hold : Hold) →
     HasShape p s → ((i x : ℕ) → slice_get xs i ≡ Some x → x < length p.sections) →
-    after_settings (image_with s occupancies) (set_locks p xs hold)
+    after_settings (image_with s occupancies) (set_lock_of_each_section p xs hold)
     ≡ image_with (record s { locks = with_locks s.locks xs hold }) occupancies
 locks-written p s occupancies [] hold shape within =
     ap (λ locks. image_with (record s { locks = locks }) occupancies) (sym (with_locks-none s.locks hold))
@@ -74,7 +74,7 @@ locks-written p s occupancies (x ∷ xs) hold shape within =
     let inside : x < length p.sections = within 0 x refl in
     let count = shape.locks in
     let lock = item_at s.locks x (omega arith) in
-    ap (λ values. after_settings values (set_locks p xs hold)) (lock-written p s occupancies shape x hold inside)
+    ap (λ values. after_settings values (set_lock_of_each_section p xs hold)) (lock-written p s occupancies shape x hold inside)
     ∙ locks-written p (record s { locks = set s.locks x hold }) occupancies xs hold (with_lists p s s.points s.boards (set s.locks x hold) shape refl refl (length-set s.locks x hold)) (λ i y at. within (suc i) y at)
     ∙ ap (λ locks. image_with (record s { locks = locks }) occupancies) (with_locks-first s.locks x xs hold lock.0 lock.1)
 

@@ -21,8 +21,8 @@ abbrev pub free_and_vacant_at : PlantLists → ℕ → List Tree
 free_and_vacant_at p x = lock_is p x FreeLock ∷ no_train_at p x ∷ []
 
 -- The conditions that route `r` is neither Allocating nor Locked.
-abbrev pub not_alloc_or_locked : ℕ → List Tree
-not_alloc_or_locked r = negation (mode_is r Allocating) ∷ negation (mode_is r Locked) ∷ []
+abbrev pub neither_allocating_nor_locked : ℕ → List Tree
+neither_allocating_nor_locked r = negation (mode_is r Allocating) ∷ negation (mode_is r Locked) ∷ []
 
 -- The position in which a point leads to its leg `y`; `plus` is its plus leg.
 abbrev pub leg_position : ℕ → ℕ → Position

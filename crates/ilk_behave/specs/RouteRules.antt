@@ -13,8 +13,8 @@ use Rattle.ilk_plant.specs.declared.table.Route.{Route}
 use Rattle.ilk_routes.specs.Boards.{is_protecting_board}
 use Rattle.ilk_routes.specs.Claims.{sections_outside_path, required_points}
 use Rattle.ilk_layout.specs.Conditions.{is_board_aspect, is_listed_point_detected, lock_is, mode_is, train_at, is_released_count, is_seen_count, no_train_at}
-use Rattle.ilk_behave.specs.Guards.{free_and_vacant_at, not_alloc_or_locked}
-use Rattle.ilk_behave.specs.Settings.{set_board_aspect, command_listed_point, set_section_lock, set_locks, set_mode, set_released_count, rule, map_or_no_rules, set_seen_count}
+use Rattle.ilk_behave.specs.Guards.{free_and_vacant_at, neither_allocating_nor_locked}
+use Rattle.ilk_behave.specs.Settings.{set_board_aspect, command_listed_point, set_section_lock, set_lock_of_each_section, set_mode, set_released_count, rule, map_or_no_rules, set_seen_count}
 use Rattle.ilk_plant.specs.Network.{last_of}
 
 -- The rule of `mark r`: if route `r` is Free, it becomes Marked.
@@ -28,9 +28,9 @@ rules_of_mark p r = map_or_no_rules (slice_get p.routes r) (λ route. rule (mode
 abbrev pub rules_of_allocate : PlantLists → ℕ → List PlainRule
 rules_of_allocate p r =
     map_or_no_rules (slice_get p.routes r) (λ route.
-    rule (mode_is r Marked ∷ flat_map not_alloc_or_locked route.conflicts ++ flat_map (free_and_vacant_at p) (sections_locked_for route))
+    rule (mode_is r Marked ∷ flat_map neither_allocating_nor_locked route.conflicts ++ flat_map (free_and_vacant_at p) (sections_locked_for route))
     (set_mode r Allocating
-    ∷ set_locks p (sections_locked_for route) LockedLock
+    ∷ set_lock_of_each_section p (sections_locked_for route) LockedLock
     ++ flat_map (command_listed_point p) (required_points route))
     ∷ [])
 
@@ -101,7 +101,7 @@ rules_of_release p r =
 abbrev pub finish_rule : PlantLists → ℕ → Route → ℕ → PlainRule
 finish_rule p r route x =
     rule (mode_is r Occupied ∷ is_seen_count r (length route.path) ∷ is_released_count r (length route.path - 1) ∷ [])
-    (set_locks p (x ∷ sections_outside_path route) FreeLock
+    (set_lock_of_each_section p (x ∷ sections_outside_path route) FreeLock
     ++ set_mode r Free
     ∷ set_seen_count r 0
     ∷ set_released_count r 0
@@ -117,5 +117,5 @@ abbrev pub rules_of_cancel : PlantLists → ℕ → List PlainRule
 rules_of_cancel p r =
     map_or_no_rules (slice_get p.routes r) (λ route.
     rule (mode_is r Marked ∷ []) (set_mode r Free ∷ [])
-    ∷ rule (mode_is r Allocating ∷ []) (set_mode r Free ∷ set_locks p (sections_locked_for route) FreeLock)
+    ∷ rule (mode_is r Allocating ∷ []) (set_mode r Free ∷ set_lock_of_each_section p (sections_locked_for route) FreeLock)
     ∷ [])

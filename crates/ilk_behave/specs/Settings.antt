@@ -62,13 +62,13 @@ abbrev pub set_occupancy : PlantLists → ℕ → Occupancy → Setting
 set_occupancy p x occupancy = set_var (occupancy_var p x) (occupancy_value occupancy)
 
 -- The settings that make `hold` the lock of each of `sections`.
-abbrev pub set_locks : PlantLists → List ℕ → Hold → List Setting
-set_locks p sections hold = map (λ x. set_section_lock p x hold) sections
+abbrev pub set_lock_of_each_section : PlantLists → List ℕ → Hold → List Setting
+set_lock_of_each_section p sections hold = map (λ x. set_section_lock p x hold) sections
 
 -- The setting that commands a listed point to its listed position.
 abbrev pub command_listed_point : PlantLists → Listed → List Setting
 command_listed_point p listed = map (λ n. set_commanded p n listed.at) (option_to_list (point_number p listed.point))
 
 -- The setting that closes the board of section `x` for direction `d`, if there is one.
-abbrev pub close_board_if_any : PlantLists → ℕ → Dir → List Setting
-close_board_if_any p x d = map (λ m. set_board_aspect p m Closed) (option_to_list (board_of p x d))
+abbrev pub close_section_board_if_any : PlantLists → ℕ → Dir → List Setting
+close_section_board_if_any p x d = map (λ m. set_board_aspect p m Closed) (option_to_list (board_of p x d))

@@ -25,8 +25,8 @@ pub record RulesMatchEvent (p : PlantLists) (s : State) (following : Option Stat
   pub after : (t : State) (i : ℕ) (rule : PlainRule) → following ≡ Some t → slice_get rules i ≡ Some rule → guard_holds_in_image p s rule ≡ true → after_settings (image_of p s) rule.sets ≡ image_of p t
 
 -- Holds if the rules of `event` make exactly its steps, from each well-formed state without hazard.
-abbrev pub RulesAlwaysMatchEvent : PlantLists → Event → Type 0
-RulesAlwaysMatchEvent p event = (s : State) → HasShape p s → hazard p s ≡ None → RulesMatchEvent p s (next p s event) (rules_of_event p event)
+abbrev pub RulesMatchEventInAllStates : PlantLists → Event → Type 0
+RulesMatchEventInAllStates p event = (s : State) → HasShape p s → hazard p s ≡ None → RulesMatchEvent p s (next p s event) (rules_of_event p event)
 
 -- Holds if rule number `i` is a rule of `event`, its guard holds in the image of state `s`, and its
 -- settings then give `values`.

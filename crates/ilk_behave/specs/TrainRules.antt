@@ -12,7 +12,7 @@ use Rattle.ilk_layout.specs.declared.values.Occupancy.{Occupancy}
 use Rattle.ilk_layout.specs.declared.values.Occupancy.TheVariants.{Vacant, Taken, Crash}
 use Rattle.ilk_layout.specs.Conditions.{lock_is, occupancy_is, no_train_at}
 use Rattle.ilk_behave.specs.Guards.{leg_set_if_facing, board_open_if_any, not_wrong_from}
-use Rattle.ilk_behave.specs.Settings.{close_board_if_any, set_occupancy, rule, map_or_no_rules}
+use Rattle.ilk_behave.specs.Settings.{close_section_board_if_any, set_occupancy, rule, map_or_no_rules}
 
 abbrev pub all_directions : List Dir
 all_directions = Up ∷ Down ∷ []
@@ -34,7 +34,7 @@ head_move_conditions p x d y tail = occupancy_is p x (Taken d tail true) ∷ boa
 -- and the board of `x` for direction `d`, if any, closes.
 abbrev pub head_move_settings : PlantLists → ℕ → Dir → ℕ → Bool → Occupancy → List Setting
 head_move_settings p x d y tail there =
-    set_occupancy p x (Taken d tail false) ∷ set_occupancy p y there ∷ close_board_if_any p x d
+    set_occupancy p x (Taken d tail false) ∷ set_occupancy p y there ∷ close_section_board_if_any p x d
 
 -- The conditions that a train from `x` in direction `d` causes no hazard on `y`: it is vacant and,
 -- if it is a point, the train would cause no derailment risk on it.

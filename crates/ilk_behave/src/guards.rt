@@ -141,7 +141,7 @@ pub(crate) fn push_none_alloc_or_locked(
     requires { All (λ r. r < length plant.now.routes) routes.now }
     ensures { OnOk result
         (map tree_of forms.new.items
-        ≡ map tree_of forms.old.items ++ flat_map guards.not_alloc_or_locked routes.now) }
+        ≡ map tree_of forms.old.items ++ flat_map guards.neither_allocating_nor_locked routes.now) }
 {
     for r in routes.as_slice() {
         forms.push(negated(alloc, mode_is(plant, *r, Mode::Allocating))?)?;

@@ -2,7 +2,7 @@
 //! holds if and only if the event is enabled, and the settings give the image of the next state.
 
 ghost use Rattle.std.specs.Prelude.{ℕ};
-ghost use Rattle.ilk_behave.specs.Steps.{RulesAlwaysMatchEvent, SystemMatchesEvents};
+ghost use Rattle.ilk_behave.specs.Steps.{RulesMatchEventInAllStates, SystemMatchesEvents};
 ghost use Rattle.ilk_model.specs.declared.event.Event.TheVariants as event;
 
 use ilk_plant::Plant;
@@ -10,7 +10,7 @@ use ilk_plant::Plant;
 /// The rules of `mark` do exactly what the event does, from each well-formed state without hazard.
 /// Proof only; no run-time effect.
 pub fn mark_rules_match_event(plant: &Plant)
-    ensures { (r : ℕ) → RulesAlwaysMatchEvent plant.now (event.Mark r) }
+    ensures { (r : ℕ) → RulesMatchEventInAllStates plant.now (event.Mark r) }
 {
     plant.prove_is_plant();
 }
@@ -18,7 +18,7 @@ pub fn mark_rules_match_event(plant: &Plant)
 /// The rules of `cancel` do exactly what the event does, from each well-formed state without
 /// hazard. Proof only; no run-time effect.
 pub fn cancel_rules_match_event(plant: &Plant)
-    ensures { (r : ℕ) → RulesAlwaysMatchEvent plant.now (event.Cancel r) }
+    ensures { (r : ℕ) → RulesMatchEventInAllStates plant.now (event.Cancel r) }
 {
     plant.prove_is_plant();
 }
@@ -26,7 +26,7 @@ pub fn cancel_rules_match_event(plant: &Plant)
 /// The rules of `sense` do exactly what the event does, from each well-formed state without hazard.
 /// Proof only; no run-time effect.
 pub fn sense_rules_match_event(plant: &Plant)
-    ensures { (r : ℕ) → RulesAlwaysMatchEvent plant.now (event.Sense r) }
+    ensures { (r : ℕ) → RulesMatchEventInAllStates plant.now (event.Sense r) }
 {
     plant.prove_is_plant();
 }
@@ -34,7 +34,7 @@ pub fn sense_rules_match_event(plant: &Plant)
 /// The rules of `release` do exactly what the event does, from each well-formed state without
 /// hazard. Proof only; no run-time effect.
 pub fn release_rules_match_event(plant: &Plant)
-    ensures { (r : ℕ) → RulesAlwaysMatchEvent plant.now (event.Release r) }
+    ensures { (r : ℕ) → RulesMatchEventInAllStates plant.now (event.Release r) }
 {
     plant.prove_is_plant();
 }
@@ -42,7 +42,7 @@ pub fn release_rules_match_event(plant: &Plant)
 /// The rules of `finish` do exactly what the event does, from each well-formed state without
 /// hazard. Proof only; no run-time effect.
 pub fn finish_rules_match_event(plant: &Plant)
-    ensures { (r : ℕ) → RulesAlwaysMatchEvent plant.now (event.Finish r) }
+    ensures { (r : ℕ) → RulesMatchEventInAllStates plant.now (event.Finish r) }
 {
     plant.prove_is_plant();
 }
@@ -50,7 +50,7 @@ pub fn finish_rules_match_event(plant: &Plant)
 /// The rules of `allocate` do exactly what the event does, from each well-formed state without
 /// hazard. Proof only; no run-time effect.
 pub fn allocate_rules_match_event(plant: &Plant)
-    ensures { (r : ℕ) → RulesAlwaysMatchEvent plant.now (event.Allocate r) }
+    ensures { (r : ℕ) → RulesMatchEventInAllStates plant.now (event.Allocate r) }
 {
     plant.prove_is_plant();
 }
@@ -58,7 +58,7 @@ pub fn allocate_rules_match_event(plant: &Plant)
 /// The rules of `lock` do exactly what the event does, from each well-formed state without hazard.
 /// Proof only; no run-time effect.
 pub fn lock_rules_match_event(plant: &Plant)
-    ensures { (r : ℕ) → RulesAlwaysMatchEvent plant.now (event.Lock r) }
+    ensures { (r : ℕ) → RulesMatchEventInAllStates plant.now (event.Lock r) }
 {
     plant.prove_is_plant();
 }
@@ -66,7 +66,7 @@ pub fn lock_rules_match_event(plant: &Plant)
 /// The rules of `throw` do exactly what the event does, from each well-formed state without hazard.
 /// Proof only; no run-time effect.
 pub fn throw_rules_match_event(plant: &Plant)
-    ensures { (x : ℕ) → RulesAlwaysMatchEvent plant.now (event.Throw x) }
+    ensures { (x : ℕ) → RulesMatchEventInAllStates plant.now (event.Throw x) }
 {
     plant.prove_is_plant();
 }
@@ -74,7 +74,7 @@ pub fn throw_rules_match_event(plant: &Plant)
 /// The rules of `settle` do exactly what the event does, from each well-formed state without
 /// hazard. Proof only; no run-time effect.
 pub fn settle_rules_match_event(plant: &Plant)
-    ensures { (x : ℕ) → RulesAlwaysMatchEvent plant.now (event.Settle x) }
+    ensures { (x : ℕ) → RulesMatchEventInAllStates plant.now (event.Settle x) }
 {
     plant.prove_is_plant();
 }
@@ -82,7 +82,7 @@ pub fn settle_rules_match_event(plant: &Plant)
 /// The rules of `enter` do exactly what the event does, from each well-formed state without hazard.
 /// Proof only; no run-time effect.
 pub fn enter_rules_match_event(plant: &Plant)
-    ensures { (x : ℕ) → RulesAlwaysMatchEvent plant.now (event.Enter x) }
+    ensures { (x : ℕ) → RulesMatchEventInAllStates plant.now (event.Enter x) }
 {
     plant.prove_is_plant();
     plant.prove_sound_acyclic_drafts();
@@ -91,7 +91,7 @@ pub fn enter_rules_match_event(plant: &Plant)
 /// The rules of `head` do exactly what the event does, from each well-formed state without hazard.
 /// Proof only; no run-time effect.
 pub fn head_rules_match_event(plant: &Plant)
-    ensures { (x : ℕ) → RulesAlwaysMatchEvent plant.now (event.Head x) }
+    ensures { (x : ℕ) → RulesMatchEventInAllStates plant.now (event.Head x) }
 {
     plant.prove_is_plant();
     plant.prove_sound_acyclic_drafts();
@@ -100,7 +100,7 @@ pub fn head_rules_match_event(plant: &Plant)
 /// The rules of `tail` do exactly what the event does, from each well-formed state without hazard.
 /// Proof only; no run-time effect.
 pub fn tail_rules_match_event(plant: &Plant)
-    ensures { (x : ℕ) → RulesAlwaysMatchEvent plant.now (event.Tail x) }
+    ensures { (x : ℕ) → RulesMatchEventInAllStates plant.now (event.Tail x) }
 {
     plant.prove_is_plant();
     plant.prove_sound_acyclic_drafts();
@@ -109,7 +109,7 @@ pub fn tail_rules_match_event(plant: &Plant)
 /// The rules of `leave` do exactly what the event does, from each well-formed state without hazard.
 /// Proof only; no run-time effect.
 pub fn leave_rules_match_event(plant: &Plant)
-    ensures { (x : ℕ) → RulesAlwaysMatchEvent plant.now (event.Leave x) }
+    ensures { (x : ℕ) → RulesMatchEventInAllStates plant.now (event.Leave x) }
 {
     plant.prove_is_plant();
     plant.prove_sound_acyclic_drafts();

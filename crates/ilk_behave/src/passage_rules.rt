@@ -210,7 +210,7 @@ fn finish_sets(
     requires route { IsValidRouteOf plant.now route.now }
     requires section { x < length plant.now.sections }
     ensures { IfOk result (λ sets. sets
-        ≡ settings.set_locks plant.now (x ∷ sections_outside_path route.now) FreeLock
+        ≡ settings.set_lock_of_each_section plant.now (x ∷ sections_outside_path route.now) FreeLock
         ++ settings.set_mode r Free
         ∷ settings.set_seen_count r 0
         ∷ settings.set_released_count r 0

@@ -57,7 +57,8 @@ fn allocate_forms(
     requires route { IsValidRouteOf plant.now route.now }
     ensures { IfOk result
         (λ forms. map tree_of forms.items
-        ≡ conditions.mode_is r Marked ∷ flat_map guards.not_alloc_or_locked route.now.conflicts
+        ≡ conditions.mode_is r Marked
+        ∷ flat_map guards.neither_allocating_nor_locked route.now.conflicts
         ++ flat_map (guards.free_and_vacant_at plant.now) (sections_locked_for route.now)) }
 {
     let mut forms = Vec::new(alloc);
@@ -78,7 +79,8 @@ fn push_all_locks(
     requires { IsValidRouteOf plant.now route.now }
     ensures { OnOk result
         (sets.new
-        ≡ sets.old ++ settings.set_locks plant.now (sections_locked_for route.now) hold) }
+        ≡ sets.old ++ settings.set_lock_of_each_section plant.now
+        (sections_locked_for route.now) hold) }
 {
     push_set_locks(sets, plant, &route.path, hold)?;
     push_set_locks(sets, plant, &route.overlap, hold)?;
@@ -91,7 +93,7 @@ fn allocate_sets(alloc: Global, plant: &Plant, r: u32, route: &Route) -> Result<
     ensures { IfOk result
         (λ sets. sets
         ≡ settings.set_mode r Allocating
-        ∷ settings.set_locks plant.now (sections_locked_for route.now) LockedLock
+        ∷ settings.set_lock_of_each_section plant.now (sections_locked_for route.now) LockedLock
         ++ flat_map (settings.command_listed_point plant.now) (required_points route.now)) }
 {
     let mut sets = Row::new(alloc);
@@ -242,7 +244,7 @@ fn push_cancel_allocating(
         ≡ map plain_rule rules.old
         ++ settings.rule (conditions.mode_is r Allocating ∷ [])
         (settings.set_mode r Free
-        ∷ settings.set_locks plant.now (sections_locked_for route.now)
+        ∷ settings.set_lock_of_each_section plant.now (sections_locked_for route.now)
         FreeLock) ∷ []) }
 {
     let mut forms = Vec::new(alloc);

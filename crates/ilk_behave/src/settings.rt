@@ -123,7 +123,7 @@ pub(crate) fn push_set_locks(
 ) -> Result<(), AllocError>
     requires { All (λ x. x < length plant.now.sections) sections.now }
     ensures { OnOk result
-        (sets.new ≡ sets.old ++ settings.set_locks plant.now sections.now hold) }
+        (sets.new ≡ sets.old ++ settings.set_lock_of_each_section plant.now sections.now hold) }
 {
     for x in sections.as_slice() {
         sets.push(set_section_lock(plant, *x, hold))?;
@@ -142,7 +142,8 @@ pub(crate) fn push_set_point_locks(
     ensures { OnOk result
         (sets.new
         ≡ sets.old
-        ++ settings.set_locks plant.now (map (λ listed. listed.point) points.now) hold) }
+        ++ settings.set_lock_of_each_section plant.now
+        (map (λ listed. listed.point) points.now) hold) }
 {
     for listed in points.as_slice() {
         sets.push(set_section_lock(plant, listed.point, hold))?;
@@ -184,7 +185,8 @@ pub(crate) fn push_close_board_if_any(
     d: Dir,
 ) -> Result<(), AllocError>
     requires { x < length plant.now.sections }
-    ensures { OnOk result (sets.new ≡ sets.old ++ settings.close_board_if_any plant.now x d) }
+    ensures { OnOk result
+        (sets.new ≡ sets.old ++ settings.close_section_board_if_any plant.now x d) }
 {
     if let Some(m) = plant.board_of(x, d) {
         sets.push(set_board_aspect(plant, m, Aspect::Closed))?;

@@ -2,7 +2,7 @@
 use Rattle.std.proofs.Common.{◌≡◌, ◌<◌, ◌≤◌, ◌^◌, inl, inr, true, false, length, refl, sym, ap, ◌∙◌, Option, Some, None}
 use Rattle.std.proofs.lemmas.Bool.{cases_Bool, true≢false}
 use Rattle.ilk_audit.specs.Audited.{AuditState}
-use Rattle.ilk_audit.specs.Taken.{after_step, answer_from_fault, why_step_not_derived, is_taken, step_answer}
+use Rattle.ilk_audit.specs.Taken.{after_step, step_answer_from_fault_if_any, why_step_not_derived, is_taken, step_answer}
 use Rattle.ilk_audit.specs.declared.taken.Taken.TheVariants.{Good, Closed, Bad}
 use Rattle.ilk_audit.specs.declared.taken.Why.{Why}
 use Rattle.ilk_audit.proofs.Derived.{taken_derived}
@@ -18,14 +18,14 @@ pub record IsFew (a : AuditState) : Type 0 where
   pub vars : a.vars ≤ 2 ^ 62
   pub clauses : length a.clauses < 2 ^ 64
 
-good-open : (s : LogStep) (o : Option Why) → answer_from_fault s o ≡ Good → is_empty_clause s.clause ≡ false
+good-open : (s : LogStep) (o : Option Why) → step_answer_from_fault_if_any s o ≡ Good → is_empty_clause s.clause ≡ false
 good-open s (Some why) e = absurd (cc)
 good-open s None e = elim (cases_Bool (is_empty_clause s.clause)) [
   | inl t ↦ absurd (let z : Closed ≡ Good = rw t at e in cc)
   | inr f ↦ f
 ]
 
-closed-empty : (s : LogStep) (o : Option Why) → answer_from_fault s o ≡ Closed → is_empty_clause s.clause ≡ true
+closed-empty : (s : LogStep) (o : Option Why) → step_answer_from_fault_if_any s o ≡ Closed → is_empty_clause s.clause ≡ true
 closed-empty s (Some why) e = absurd (cc)
 closed-empty s None e = elim (cases_Bool (is_empty_clause s.clause)) [
   | inl t ↦ t

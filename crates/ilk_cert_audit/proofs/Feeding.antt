@@ -6,9 +6,9 @@ use Rattle.ilk_ir.specs.System.{PlainSystem}
 use Rattle.ilk_lines.specs.Lines.{unterminated_tail, Bytes, lines_of}
 use Rattle.ilk_lines.specs.Written.{LacksByte}
 use Rattle.ilk_unroll.specs.Goal.{PlainGoalForms}
-use Rattle.ilk_cert_audit.specs.Fed.{HasTakenLines, HasTakenLinesAndRest, IsUnfinishedLineBuffer, IsStageOrRefusalAfter, Keeps}
+use Rattle.ilk_cert_audit.specs.Fed.{AuditHasTakenLines, AuditHasTakenLinesAndRest, IsUnfinishedLineBuffer, IsStageAfterLines, Keeps}
 use Rattle.ilk_cert_audit.specs.FirstBad.{BeginsCertificate, IsFirstBadOfLines}
-use Rattle.ilk_cert_audit.specs.Stages.{IsNextStage, is_bad_line_prefix, is_refused}
+use Rattle.ilk_cert_audit.specs.Stages.{IsNextStage, begins_bad_line, is_refused}
 use Rattle.ilk_cert_audit.specs.declared.lines.LineAudit.{LineAudit}
 use Rattle.ilk_cert_audit.specs.declared.stage.Stage.{Stage}
 use Rattle.ilk_cert_audit.specs.declared.stage.Stage.TheVariants.{Head, Told, Between, Within, Ended, Refused}
@@ -43,13 +43,13 @@ keeps-is (Refused n) u b h k = absurd (cc)
 kept-whole : (stage : Stage) (kept line : Bytes) → line ≡ kept → IsUnfinishedLineBuffer stage kept line
 kept-whole stage kept line same = record { rest = []; whole = same ∙ sym (append-nil kept); none_left = λ h. refl }
 
-kept-is : (stage : Stage) (kept line : Bytes) → is_bad_line_prefix stage kept ≡ false → IsUnfinishedLineBuffer stage kept line → line ≡ kept
+kept-is : (stage : Stage) (kept line : Bytes) → begins_bad_line stage kept ≡ false → IsUnfinishedLineBuffer stage kept line → line ≡ kept
 kept-is stage kept line hope k = k.whole ∙ ap (λ (r : Bytes). kept ++ r) (k.none_left hope) ∙ append-nil kept
 
 pub kept-none : (stage : Stage) (line : Bytes) → IsUnfinishedLineBuffer stage [] line → line ≡ []
 kept-none stage line k = kept-is stage [] line (no-bytes stage) k
   where
-    no-bytes : (stage : Stage) → is_bad_line_prefix stage [] ≡ false
+    no-bytes : (stage : Stage) → begins_bad_line stage [] ≡ false
     no-bytes Head = refl
     no-bytes Told = refl
     no-bytes (Between k next) = refl
@@ -61,37 +61,37 @@ pub kept-all : (stage : Stage) (kept line : Bytes) → IsUnfinishedLineBuffer st
 kept-all stage [] line k none = refl
 kept-all stage (x ∷ kept) line k none = (let h : [] ≡ x ∷ (kept ++ k.rest) = sym none ∙ k.whole in cc)
 
-pub waits : (s : PlainSystem) (g : PlainGoalForms) (audit : LineAudit) (unfinished bytes : Bytes) → is_refused audit.stage ≡ false → HasTakenLinesAndRest s g audit unfinished bytes
+pub waits : (s : PlainSystem) (g : PlainGoalForms) (audit : LineAudit) (unfinished bytes : Bytes) → is_refused audit.stage ≡ false → AuditHasTakenLinesAndRest s g audit unfinished bytes
     → IsUnfinishedLineBuffer audit.stage unfinished (unterminated_tail bytes)
 waits s g audit unfinished bytes open_ fed = keeps-is audit.stage unfinished bytes open_ fed.kept
 
 line-ended : (s : PlainSystem) (g : PlainGoalForms) (old new : LineAudit) (unfinished kept bytes rest : Bytes)
-    → LacksByte 10 rest → HasTakenLinesAndRest s g old unfinished bytes
-    → ((lines : List Bytes) → HasTakenLines s g old lines → HasTakenLines s g new (lines ++ (unterminated_tail bytes ++ rest) ∷ []))
-    → Keeps new.stage kept (bytes ++ (rest ++ 10 ∷ [])) → HasTakenLinesAndRest s g new kept (bytes ++ (rest ++ 10 ∷ []))
+    → LacksByte 10 rest → AuditHasTakenLinesAndRest s g old unfinished bytes
+    → ((lines : List Bytes) → AuditHasTakenLines s g old lines → AuditHasTakenLines s g new (lines ++ (unterminated_tail bytes ++ rest) ∷ []))
+    → Keeps new.stage kept (bytes ++ (rest ++ 10 ∷ [])) → AuditHasTakenLinesAndRest s g new kept (bytes ++ (rest ++ 10 ∷ []))
 line-ended s g old new unfinished kept bytes rest lacks fed takes keeps =
-    let P : List Bytes → Type 0 = λ ls. HasTakenLines s g new ls in
+    let P : List Bytes → Type 0 = λ ls. AuditHasTakenLines s g new ls in
     record {
       taken = subst P (sym (line-added bytes rest lacks).0) (takes (lines_of bytes) fed.taken);
       kept = keeps;
     }
 
 pub line-fed : (s : PlainSystem) (g : PlainGoalForms) (old new : LineAudit) (unfinished bytes rest : Bytes)
-    → is_refused old.stage ≡ false → is_bad_line_prefix old.stage unfinished ≡ false → LacksByte 10 rest
-    → HasTakenLinesAndRest s g old unfinished bytes
-    → ((lines : List Bytes) → HasTakenLines s g old lines → HasTakenLines s g new (lines ++ (unfinished ++ rest) ∷ []))
-    → HasTakenLinesAndRest s g new [] (bytes ++ (rest ++ 10 ∷ []))
+    → is_refused old.stage ≡ false → begins_bad_line old.stage unfinished ≡ false → LacksByte 10 rest
+    → AuditHasTakenLinesAndRest s g old unfinished bytes
+    → ((lines : List Bytes) → AuditHasTakenLines s g old lines → AuditHasTakenLines s g new (lines ++ (unfinished ++ rest) ∷ []))
+    → AuditHasTakenLinesAndRest s g new [] (bytes ++ (rest ++ 10 ∷ []))
 line-fed s g old new unfinished bytes rest open_ hope lacks fed takes =
     let same = kept-is old.stage unfinished (unterminated_tail bytes) hope (waits s g old unfinished bytes open_ fed) in
-    let P : Bytes → Type 0 = λ u. (lines : List Bytes) → HasTakenLines s g old lines → HasTakenLines s g new (lines ++ (u ++ rest) ∷ []) in
+    let P : Bytes → Type 0 = λ u. (lines : List Bytes) → AuditHasTakenLines s g old lines → AuditHasTakenLines s g new (lines ++ (u ++ rest) ∷ []) in
     line-ended s g old new unfinished [] bytes rest lacks fed (subst P (sym same) takes)
     (keeps-from new.stage [] (bytes ++ (rest ++ 10 ∷ [])) (kept-whole new.stage [] (unterminated_tail (bytes ++ (rest ++ 10 ∷ []))) (line-added bytes rest lacks).1))
 
 pub hopeless-fed : (s : PlainSystem) (g : PlainGoalForms) (old new : LineAudit) (unfinished bytes rest : Bytes)
-    → is_refused old.stage ≡ false → is_bad_line_prefix old.stage unfinished ≡ true → is_refused new.stage ≡ true
-    → LacksByte 10 rest → HasTakenLinesAndRest s g old unfinished bytes
-    → ((lines : List Bytes) (line : Bytes) → HasTakenLines s g old lines → IsNextStage s g old.stage line None → HasTakenLines s g new (lines ++ line ∷ []))
-    → HasTakenLinesAndRest s g new unfinished (bytes ++ (rest ++ 10 ∷ []))
+    → is_refused old.stage ≡ false → begins_bad_line old.stage unfinished ≡ true → is_refused new.stage ≡ true
+    → LacksByte 10 rest → AuditHasTakenLinesAndRest s g old unfinished bytes
+    → ((lines : List Bytes) (line : Bytes) → AuditHasTakenLines s g old lines → IsNextStage s g old.stage line None → AuditHasTakenLines s g new (lines ++ line ∷ []))
+    → AuditHasTakenLinesAndRest s g new unfinished (bytes ++ (rest ++ 10 ∷ []))
 hopeless-fed s g old new unfinished bytes rest open_ hopeless refused lacks fed takes =
     let kept = waits s g old unfinished bytes open_ fed in
     let whole : unterminated_tail bytes ++ rest ≡ unfinished ++ (kept.rest ++ rest) = ap (λ (l : Bytes). l ++ rest) kept.whole ∙ append_assoc unfinished kept.rest rest in
@@ -101,24 +101,24 @@ hopeless-fed s g old new unfinished bytes rest open_ hopeless refused lacks fed 
     (keeps-any new.stage unfinished (bytes ++ (rest ++ 10 ∷ [])) refused)
 
 pub rest-fed : (s : PlainSystem) (g : PlainGoalForms) (audit : LineAudit) (unfinished bytes rest : Bytes)
-    → is_refused audit.stage ≡ false → is_bad_line_prefix audit.stage unfinished ≡ false → LacksByte 10 rest
-    → HasTakenLinesAndRest s g audit unfinished bytes → HasTakenLinesAndRest s g audit (unfinished ++ rest) (bytes ++ rest)
+    → is_refused audit.stage ≡ false → begins_bad_line audit.stage unfinished ≡ false → LacksByte 10 rest
+    → AuditHasTakenLinesAndRest s g audit unfinished bytes → AuditHasTakenLinesAndRest s g audit (unfinished ++ rest) (bytes ++ rest)
 rest-fed s g audit unfinished bytes rest open_ hope lacks fed =
     let same = kept-is audit.stage unfinished (unterminated_tail bytes) hope (waits s g audit unfinished bytes open_ fed) in
     let added = bytes-added bytes rest lacks in
-    let P : List Bytes → Type 0 = λ ls. HasTakenLines s g audit ls in
+    let P : List Bytes → Type 0 = λ ls. AuditHasTakenLines s g audit ls in
     record {
       taken = subst P (sym added.0) fed.taken;
       kept = keeps-from audit.stage (unfinished ++ rest) (bytes ++ rest) (kept-whole audit.stage (unfinished ++ rest) (unterminated_tail (bytes ++ rest)) (added.1 ∙ ap (λ (u : Bytes). u ++ rest) same));
     }
 
 pub rest-dropped : (s : PlainSystem) (g : PlainGoalForms) (audit : LineAudit) (unfinished bytes rest : Bytes)
-    → is_refused audit.stage ≡ false → is_bad_line_prefix audit.stage unfinished ≡ true → LacksByte 10 rest
-    → HasTakenLinesAndRest s g audit unfinished bytes → HasTakenLinesAndRest s g audit unfinished (bytes ++ rest)
+    → is_refused audit.stage ≡ false → begins_bad_line audit.stage unfinished ≡ true → LacksByte 10 rest
+    → AuditHasTakenLinesAndRest s g audit unfinished bytes → AuditHasTakenLinesAndRest s g audit unfinished (bytes ++ rest)
 rest-dropped s g audit unfinished bytes rest open_ hopeless lacks fed =
     let kept = waits s g audit unfinished bytes open_ fed in
     let added = bytes-added bytes rest lacks in
-    let P : List Bytes → Type 0 = λ ls. HasTakenLines s g audit ls in
+    let P : List Bytes → Type 0 = λ ls. AuditHasTakenLines s g audit ls in
     record {
       taken = subst P (sym added.0) fed.taken;
       kept = keeps-from audit.stage unfinished (bytes ++ rest) (record {
@@ -141,7 +141,8 @@ bad-longer s g lines more m b =
       bad = λ h. b.bad (subst P here h);
     }
 
-pub refused-fed : (s : PlainSystem) (g : PlainGoalForms) (audit : LineAudit) (unfinished bytes rest : Bytes) → is_refused audit.stage ≡ true → HasTakenLinesAndRest s g audit unfinished bytes → HasTakenLinesAndRest s g audit unfinished (bytes ++ rest)
+pub refused-fed : (s : PlainSystem) (g : PlainGoalForms) (audit : LineAudit) (unfinished bytes rest : Bytes) → is_refused audit.stage ≡ true → AuditHasTakenLinesAndRest s g audit unfinished bytes
+    → AuditHasTakenLinesAndRest s g audit unfinished (bytes ++ rest)
 refused-fed s g audit unfinished bytes rest refused fed =
     record {
       taken = record {
@@ -152,7 +153,7 @@ refused-fed s g audit unfinished bytes rest refused fed =
       kept = keeps-any audit.stage unfinished (bytes ++ rest) refused;
     }
   where
-    by_stage : (stage : Stage) → is_refused stage ≡ true → IsStageOrRefusalAfter s g stage (lines_of bytes) audit.line → IsStageOrRefusalAfter s g stage (lines_of (bytes ++ rest)) audit.line
+    by_stage : (stage : Stage) → is_refused stage ≡ true → IsStageAfterLines s g stage (lines_of bytes) audit.line → IsStageAfterLines s g stage (lines_of (bytes ++ rest)) audit.line
     by_stage Head h r = absurd (cc)
     by_stage Told h r = absurd (cc)
     by_stage (Between k next) h r = absurd (cc)

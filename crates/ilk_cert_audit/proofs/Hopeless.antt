@@ -14,12 +14,12 @@ use Rattle.ilk_lines.specs.Written.{join_words_with_spaces}
 use Rattle.ilk_log.specs.declared.step.Step.{Step}
 use Rattle.ilk_log.specs.StepText.{lit_word, step_text}
 use Rattle.std.specs.Prelude.{map}
-use Rattle.ilk_unroll.specs.Goal.{PlainGoalForms, step_count, step_count_is_allowed}
+use Rattle.ilk_unroll.specs.Goal.{PlainGoalForms, query_step_count, step_count_is_allowed}
 use Rattle.ilk_unroll.specs.declared.queries.Wanted.{Wanted}
 use Rattle.ilk_unroll.specs.declared.queries.Wanted.TheVariants.{Hazard, Breach, Step as StepOf}
 use Rattle.ilk_certificate.specs.CertificateText.{query_header_line}
 use Rattle.ilk_cert_audit.specs.Grammar.{safe_line}
-use Rattle.ilk_cert_audit.specs.Stages.{IsNextStage, begins_no_step, is_bad_line_prefix, is_valid_k, is_valid_stage, is_valid_query_within_k}
+use Rattle.ilk_cert_audit.specs.Stages.{IsNextStage, begins_no_step, begins_bad_line, is_valid_k, is_valid_stage, is_valid_query_within_k}
 use Rattle.ilk_cert_audit.specs.declared.stage.Stage.{Stage}
 use Rattle.ilk_cert_audit.specs.declared.stage.Stage.TheVariants.{Head, Told, Between, Within, Ended, Refused}
 
@@ -53,13 +53,13 @@ no-step begun rest s h same =
     let never : false ≡ true = ap not (sym equal) ∙ parts.1 in
     cc
 
-pub hopeless-bad : (s : PlainSystem) (g : PlainGoalForms) (stage : Stage) (begun rest : Bytes) → is_valid_stage stage ≡ true → is_bad_line_prefix stage begun ≡ true → IsNextStage s g stage (begun ++ rest) None
+pub hopeless-bad : (s : PlainSystem) (g : PlainGoalForms) (stage : Stage) (begun rest : Bytes) → is_valid_stage stage ≡ true → begins_bad_line stage begun ≡ true → IsNextStage s g stage (begun ++ rest) None
 hopeless-bad s g Head begun rest staged h may k lines f = too-long begun rest (codes "irv certificate 3") h f.0 (omega arith)
 hopeless-bad s g Told begun rest staged h may k lines f = too-long begun rest (safe_line k) h f.0 (safe-short k f.2)
 hopeless-bad s g (Between m None) begun rest staged h may k lines f = too-long begun rest (codes "end") h f.1.0 (omega arith)
 hopeless-bad s g (Between m (Some q)) begun rest staged h may k lines f =
     let asked = and_parts (is_valid_k m) (is_valid_query_within_k m q) staged in
-    let valid = and_parts (nat_le (step_count q) m) (step_count_is_allowed q) asked.1 in
+    let valid = and_parts (nat_le (query_step_count q) m) (step_count_is_allowed q) asked.1 in
     too-long begun rest (query_header_line q) h f.1.0 (query-short q valid.1)
 hopeless-bad s g (Within m q auditor) begun rest staged h may k lines f = no-step begun rest f.1.0 h f.1.1
 hopeless-bad s g (Ended m) begun rest staged h may k lines f = let none = f.1 in cc

@@ -6,14 +6,14 @@ use Rattle.ilk_ir.specs.System.{PlainSystem}
 use Rattle.ilk_lines.specs.Lines.{Bytes}
 use Rattle.ilk_unroll.specs.Goal.{PlainGoalForms}
 use Rattle.ilk_cert_audit.specs.Answers.{saturated_to_64_bits}
-use Rattle.ilk_cert_audit.specs.Fed.{IsStageAndNumberAfter, IsStageOrRefusalAfter}
+use Rattle.ilk_cert_audit.specs.Fed.{IsStageAndNumberAfter, IsStageAfterLines}
 use Rattle.ilk_cert_audit.specs.FirstBad.{BeginsCertificate, IsFirstBadOfLines}
 use Rattle.ilk_cert_audit.specs.Grammar.{CertificateLines}
 use Rattle.ilk_cert_audit.specs.Stages.{FollowingLines, is_refused, is_valid_stage, IsNextStage}
 use Rattle.ilk_cert_audit.specs.declared.stage.Stage.{Stage}
 use Rattle.ilk_cert_audit.specs.declared.stage.Stage.TheVariants.{Head, Told, Between, Within, Ended, Refused}
 
-pub reached-at : (s : PlainSystem) (g : PlainGoalForms) (stage : Stage) (lines : List Bytes) (n : ℕ) → is_valid_stage stage ≡ true → IsStageOrRefusalAfter s g stage lines n → IsStageAndNumberAfter s g stage lines n
+pub reached-at : (s : PlainSystem) (g : PlainGoalForms) (stage : Stage) (lines : List Bytes) (n : ℕ) → is_valid_stage stage ≡ true → IsStageAfterLines s g stage lines n → IsStageAndNumberAfter s g stage lines n
 reached-at s g Head lines n h r = r
 reached-at s g Told lines n h r = r
 reached-at s g (Between k next) lines n h r = r
@@ -21,7 +21,7 @@ reached-at s g (Within k q a) lines n h r = r
 reached-at s g (Ended k) lines n h r = r
 reached-at s g (Refused m) lines n h r = absurd (cc)
 
-pub at-reached : (s : PlainSystem) (g : PlainGoalForms) (stage : Stage) (lines : List Bytes) (n : ℕ) → is_valid_stage stage ≡ true → IsStageAndNumberAfter s g stage lines n → IsStageOrRefusalAfter s g stage lines n
+pub at-reached : (s : PlainSystem) (g : PlainGoalForms) (stage : Stage) (lines : List Bytes) (n : ℕ) → is_valid_stage stage ≡ true → IsStageAndNumberAfter s g stage lines n → IsStageAfterLines s g stage lines n
 at-reached s g Head lines n h r = r
 at-reached s g Told lines n h r = r
 at-reached s g (Between k next) lines n h r = r
@@ -58,7 +58,7 @@ at-next s g stage next lines n m line at goes staged counted =
     one_more : (k : ℕ) → saturated_to_64_bits (saturated_to_64_bits (k + 1) + 1) ≡ saturated_to_64_bits (k + 1 + 1)
     one_more k = omega arith
 
-pub bad-next : (s : PlainSystem) (g : PlainGoalForms) (stage : Stage) (lines : List Bytes) (n : ℕ) (line : Bytes) → IsStageAndNumberAfter s g stage lines n → IsNextStage s g stage line None → IsStageOrRefusalAfter s g (Refused n) (lines ++
+pub bad-next : (s : PlainSystem) (g : PlainGoalForms) (stage : Stage) (lines : List Bytes) (n : ℕ) (line : Bytes) → IsStageAndNumberAfter s g stage lines n → IsNextStage s g stage line None → IsStageAfterLines s g (Refused n) (lines ++
     line ∷ []) n
 bad-next s g stage lines n line at bad =
     let long : length (lines ++ line ∷ []) ≡ length lines + 1 = length-append lines (line ∷ []) in

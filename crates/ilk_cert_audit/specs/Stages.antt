@@ -5,7 +5,7 @@ use Rattle.ilk_ir.specs.System.{PlainSystem}
 use Rattle.ilk_lines.specs.Lines.{Bytes}
 use Rattle.ilk_unroll.specs.declared.queries.Wanted.{Wanted}
 use Rattle.ilk_unroll.specs.declared.queries.Wanted.TheVariants as wanted
-use Rattle.ilk_unroll.specs.Goal.{PlainGoalForms, step_count, step_count_is_allowed}
+use Rattle.ilk_unroll.specs.Goal.{PlainGoalForms, query_step_count, step_count_is_allowed}
 use Rattle.ilk_audit.specs.Audited.{AuditState, with_step}
 use Rattle.ilk_log.specs.declared.step.Step.{Step as LogStep}
 use Rattle.ilk_log.specs.Derived.{is_derived, is_empty_clause}
@@ -31,7 +31,7 @@ certified_queries_from_next k (Some q) = q ∷ certified_queries_after_query k q
 
 -- Returns whether the query is valid and has at most `k` steps.
 abbrev pub is_valid_query_within_k : ℕ → Wanted → Bool
-is_valid_query_within_k k q = nat_le (step_count q) k && step_count_is_allowed q
+is_valid_query_within_k k q = nat_le (query_step_count q) k && step_count_is_allowed q
 
 -- Holds if the lines may follow at a stage of a certificate for `k`, up to its last line. If
 -- `may_stop` is true, they may stop earlier.
@@ -74,13 +74,13 @@ begins_no_step begun = nat_le 5 (length begun) && not (bytes_eq (take 5 begun) (
 
 -- Returns whether these bytes already show that a line that starts with them may not follow at a
 -- stage: among steps it is not a step, elsewhere it is too long.
-abbrev pub is_bad_line_prefix : Stage → Bytes → Bool
-is_bad_line_prefix Head begun = nat_lt MAX_NON_STEP_LINE (length begun)
-is_bad_line_prefix Told begun = nat_lt MAX_NON_STEP_LINE (length begun)
-is_bad_line_prefix (Between k next) begun = nat_lt MAX_NON_STEP_LINE (length begun)
-is_bad_line_prefix (Within k q auditor) begun = begins_no_step begun
-is_bad_line_prefix (Ended k) begun = nat_lt MAX_NON_STEP_LINE (length begun)
-is_bad_line_prefix (Refused n) begun = nat_lt MAX_NON_STEP_LINE (length begun)
+abbrev pub begins_bad_line : Stage → Bytes → Bool
+begins_bad_line Head begun = nat_lt MAX_NON_STEP_LINE (length begun)
+begins_bad_line Told begun = nat_lt MAX_NON_STEP_LINE (length begun)
+begins_bad_line (Between k next) begun = nat_lt MAX_NON_STEP_LINE (length begun)
+begins_bad_line (Within k q auditor) begun = begins_no_step begun
+begins_bad_line (Ended k) begun = nat_lt MAX_NON_STEP_LINE (length begun)
+begins_bad_line (Refused n) begun = nat_lt MAX_NON_STEP_LINE (length begun)
 
 -- Holds if `next` is the stage after this line, or `None` if the line may not follow.
 abbrev pub IsNextStage : PlainSystem → PlainGoalForms → Stage → Bytes → Option Stage → Type 0

@@ -39,14 +39,14 @@ impl SystemCertAudit {
     ghost use Rattle.ilk_lines.specs.Written.{LacksByte};
     ghost use Rattle.ilk_unroll.specs.Goal.{PlainGoalForms, plain_goal, goal_valid};
     ghost use Rattle.ilk_cert_audit.specs.Answers.{IsFinalAnswer, IsAnswerAfterBytes};
-    ghost use Rattle.ilk_cert_audit.specs.Fed.{HasTakenBytes};
+    ghost use Rattle.ilk_cert_audit.specs.Fed.{AuditHasTakenBytes};
 
     /// Creates a check that has taken no byte. The system has to be valid, and the goal's forms
     /// valid over its ranges.
     pub fn new(alloc: Global, system: System, goal: Goal) -> SystemCertAudit
         requires system { IsTrue (system_valid (plain_system system)) }
         requires goal { IsTrue (goal_valid system.ranges (plain_goal goal)) }
-        ensures { HasTakenBytes (plain_system system) (plain_goal goal) result [] }
+        ensures { AuditHasTakenBytes (plain_system system) (plain_goal goal) result [] }
     {
         SystemCertAudit {
             lines: LineAudit::new(alloc, system, goal),
@@ -58,13 +58,13 @@ impl SystemCertAudit {
         requires { LacksByte 10 rest.now }
         ensures { OnOk result
             ((s : PlainSystem) (g : PlainGoalForms) (bytes : List ℕ) →
-            HasTakenBytes s g self.old bytes →
-            HasTakenBytes s g self.new (bytes ++ (rest.now ++ 10 ∷ []))) }
+            AuditHasTakenBytes s g self.old bytes →
+            AuditHasTakenBytes s g self.new (bytes ++ (rest.now ++ 10 ∷ []))) }
     {
         if self.lines.is_refused() {
             return Ok(());
         }
-        if self.lines.is_bad_line_prefix(self.unfinished.as_slice()) {
+        if self.lines.begins_bad_line(self.unfinished.as_slice()) {
             self.lines.refuse();
             return Ok(());
         }
@@ -82,13 +82,13 @@ impl SystemCertAudit {
         requires { LacksByte 10 rest.now }
         ensures { OnOk result
             ((s : PlainSystem) (g : PlainGoalForms) (bytes : List ℕ) →
-            HasTakenBytes s g self.old bytes →
-            HasTakenBytes s g self.new (bytes ++ rest.now)) }
+            AuditHasTakenBytes s g self.old bytes →
+            AuditHasTakenBytes s g self.new (bytes ++ rest.now)) }
     {
         if self.lines.is_refused() {
             return Ok(());
         }
-        if self.lines.is_bad_line_prefix(self.unfinished.as_slice()) {
+        if self.lines.begins_bad_line(self.unfinished.as_slice()) {
             return Ok(());
         }
         self.unfinished.extend_from_slice(rest)?;
@@ -98,8 +98,8 @@ impl SystemCertAudit {
     fn split(&mut self, piece: &[u8]) -> Result<(), AllocError>
         ensures { OnOk result
             ((s : PlainSystem) (g : PlainGoalForms) (bytes : List ℕ) →
-            HasTakenBytes s g self.old bytes →
-            HasTakenBytes s g self.new (bytes ++ piece.now)) }
+            AuditHasTakenBytes s g self.old bytes →
+            AuditHasTakenBytes s g self.new (bytes ++ piece.now)) }
     {
         let mut left = piece;
         while let Some((line, rest)) = cut_line(left) {
@@ -114,21 +114,21 @@ impl SystemCertAudit {
     pub fn feed(&mut self, piece: &[u8]) -> Result<Fed, AllocError>
         ensures fed { OnOk result
             ((s : PlainSystem) (g : PlainGoalForms) (bytes : List ℕ) →
-            HasTakenBytes s g self.old bytes →
-            HasTakenBytes s g self.new (bytes ++ piece.now)) }
+            AuditHasTakenBytes s g self.old bytes →
+            AuditHasTakenBytes s g self.new (bytes ++ piece.now)) }
         ensures answer { IfOk result
             (λ fed. (s : PlainSystem) (g : PlainGoalForms) (bytes : List ℕ) →
-            HasTakenBytes s g self.old bytes → IsAnswerAfterBytes s g (bytes ++ piece.now) fed) }
+            AuditHasTakenBytes s g self.old bytes →
+            IsAnswerAfterBytes s g (bytes ++ piece.now) fed) }
     {
         self.split(piece)?;
         Ok(self.lines.first_bad_line_so_far())
     }
 
-    /// Returns whether all bytes taken are a certificate, and for which number, or the first bad
-    /// line.
+    /// Returns the `k` of the certificate that all bytes taken form, or the first bad line.
     pub fn end(self) -> Ended
         ensures { (s : PlainSystem) (g : PlainGoalForms) (bytes : List ℕ) →
-            HasTakenBytes s g self bytes →
+            AuditHasTakenBytes s g self bytes →
             IsFinalAnswer s g bytes result }
     {
         self.lines.end(self.unfinished.is_empty())

@@ -40,15 +40,15 @@ impl LineAudit {
     ghost use Rattle.ilk_lines.specs.Lines.{Bytes, unterminated_tail, lines_of};
     ghost use Rattle.ilk_unroll.specs.Goal.{PlainGoalForms};
     ghost use Rattle.ilk_cert_audit.specs.Answers.{IsFinalAnswer, ReportsFirstBad};
-    ghost use Rattle.ilk_cert_audit.specs.Fed.{HasTakenLines};
-    ghost use Rattle.ilk_cert_audit.specs.Stages.{IsNextStage, is_bad_line_prefix};
+    ghost use Rattle.ilk_cert_audit.specs.Fed.{AuditHasTakenLines};
+    ghost use Rattle.ilk_cert_audit.specs.Stages.{IsNextStage, begins_bad_line};
 
     /// Creates a check that has taken no line. The system has to be valid, and the goal's forms
     /// valid over its ranges.
     pub fn new(alloc: Global, system: System, goal: Goal) -> LineAudit
         requires system { IsTrue (system_valid (plain_system system)) }
         requires goal { IsTrue (goal_valid system.ranges (plain_goal goal)) }
-        ensures { HasTakenLines (plain_system system) (plain_goal goal) result [] }
+        ensures { AuditHasTakenLines (plain_system system) (plain_goal goal) result [] }
     {
         LineAudit {
             system,
@@ -68,8 +68,8 @@ impl LineAudit {
 
     /// Returns whether the bytes `begun` already show that the next line, which starts with them,
     /// is bad.
-    pub fn is_bad_line_prefix(&self, begun: &[u8]) -> bool
-        ensures { result ≡ is_bad_line_prefix self.now.stage begun.now }
+    pub fn begins_bad_line(&self, begun: &[u8]) -> bool
+        ensures { result ≡ begins_bad_line self.now.stage begun.now }
     {
         match self.stage {
             Stage::Within { .. } => begins_no_step(begun),
@@ -80,9 +80,9 @@ impl LineAudit {
     /// Takes the next line, known to be bad, without its bytes.
     pub fn refuse(&mut self)
         ensures bad { (s : PlainSystem) (g : PlainGoalForms) (lines : List Bytes) (line : Bytes)
-            → HasTakenLines s g self.old lines → is_refused self.old.stage ≡ false
+            → AuditHasTakenLines s g self.old lines → is_refused self.old.stage ≡ false
             → IsNextStage s g self.old.stage line None
-            → HasTakenLines s g self.new (lines ++ line ∷ []) }
+            → AuditHasTakenLines s g self.new (lines ++ line ∷ []) }
         ensures refused { is_refused self.new.stage ≡ true }
     {
         let line = self.line;
@@ -94,9 +94,9 @@ impl LineAudit {
     pub fn take(&mut self, line: &[u8]) -> Result<(), AllocError>
         ensures { OnOk result
             ((s : PlainSystem) (g : PlainGoalForms) (lines : List Bytes) →
-            HasTakenLines s g self.old lines
+            AuditHasTakenLines s g self.old lines
             →
-            HasTakenLines s g self.new (lines ++ line.now ∷ [])) }
+            AuditHasTakenLines s g self.new (lines ++ line.now ∷ [])) }
     {
         if let Stage::Refused { .. } = self.stage {
             return Ok(());
@@ -114,7 +114,7 @@ impl LineAudit {
     /// Returns the number of the first bad line among those taken, or `More` if none was bad.
     pub fn first_bad_line_so_far(&self) -> Fed
         ensures { (s : PlainSystem) (g : PlainGoalForms) (lines : List Bytes) →
-            HasTakenLines s g self.now lines → ReportsFirstBad s g lines result }
+            AuditHasTakenLines s g self.now lines → ReportsFirstBad s g lines result }
     {
         match self.stage {
             Stage::Refused { line } => Fed::Bad { line },
@@ -122,11 +122,11 @@ impl LineAudit {
         }
     }
 
-    /// Returns the answer at the end of the text. `is_whole` says whether nothing follows the last
-    /// line feed; otherwise the text is not a certificate.
+    /// Returns the answer at the end of the text. `is_whole`: nothing follows the last line feed;
+    /// otherwise the text is not a certificate.
     pub fn end(&self, is_whole: bool) -> Ended
         ensures { (s : PlainSystem) (g : PlainGoalForms) (bytes : List ℕ) →
-            HasTakenLines s g self.now (lines_of bytes) →
+            AuditHasTakenLines s g self.now (lines_of bytes) →
             (is_refused self.now.stage ≡ false →
             (is_whole ≡ true) ↔ (unterminated_tail bytes ≡ [])) →
             IsFinalAnswer s g bytes result }

@@ -23,7 +23,7 @@ use Rattle.ilk_plant.specs.declared.draft.TableDraft.{TableDraft}
 use Rattle.ilk_plant.specs.declared.limits.TheConstants.{MAX_ROUTES, MAX_SECTIONS}
 use Rattle.ilk_plant.proofs.WordsBack.{direction_back, position_back}
 use Rattle.ilk_net_read.specs.Document.{VersionedDocument, has_allowed_section_route_counts}
-use Rattle.ilk_net_read.specs.Member.{as_optional_text, all_entries_as, items_as_list}
+use Rattle.ilk_net_read.specs.Member.{as_optional_text, all_entries_as, items_to_list}
 use Rattle.ilk_net_read.specs.Network.{document_from_value, network_from_conf_value, section_from_value}
 use Rattle.ilk_net_read.specs.Section.{as_section}
 use Rattle.ilk_net_read.specs.declared.version.Version.{Version}
@@ -86,7 +86,7 @@ points-read : (points : List ListedDraft) → all_entries_as as_listed_point (it
 points-read [] = refl
 points-read (point ∷ points) = rw (listed-read point, points-read points) refl
 
-entries : (ds : List Data) → items_as_list (items_of ds) ≡ ds
+entries : (ds : List Data) → items_to_list (items_of ds) ≡ ds
 entries [] = refl
 entries (d ∷ ds) = ap (λ rest. d ∷ rest) (entries ds)
 

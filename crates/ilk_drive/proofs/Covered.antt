@@ -14,7 +14,7 @@ use Rattle.ilk_model.specs.declared.event.Event.{Event}
 use Rattle.ilk_drive.specs.Awakening.{may_enable_automatic}
 use Rattle.ilk_drive.specs.Commands.{is_command}
 use Rattle.ilk_drive.specs.Drive.{automatic_events, first_automatic}
-use Rattle.ilk_drive.specs.Places.{ContainsIndicesEventMayEnable, ContainsEnabledAutomaticIndices, ContainsEnabledAutomaticIndicesExcept, IsLowerBoundOf, ListsIndicesEachEventMayEnable}
+use Rattle.ilk_drive.specs.Places.{ContainsIndicesEventMayEnable, ContainsEnabledAutomaticIndices, ContainsEnabledAutomaticIndicesExcept, IsLowerBoundOfList, ListsIndicesEachEventMayEnable}
 use Rattle.ilk_drive.proofs.Awakes.{awakes}
 use Rattle.ilk_drive.proofs.Changes.{true-false}
 use Rattle.ilk_drive.proofs.Found.{NoneBefore, first-none, left-alone}
@@ -31,7 +31,7 @@ covers-on p plant s t shape event e held covers woken new wakes keeps adds j oth
   | inr not_ ↦ keeps j (covers j other at (awakes p plant s t shape event e other (list_any-none is_command (automatic_events p) j other (automatic-own p) at) not_ enabled))
 ]
 
-pub none-before : (p : PlantLists) (s : State) (place : ℕ) (places : List ℕ) → ContainsEnabledAutomaticIndicesExcept p s place places → IsLowerBoundOf place places → NoneBefore p s place
+pub none-before : (p : PlantLists) (s : State) (place : ℕ) (places : List ℕ) → ContainsEnabledAutomaticIndicesExcept p s place places → IsLowerBoundOfList place places → NoneBefore p s place
 none-before p s place places covers least j event before at =
     false_from_ne_true (is_some (next p s event)) (λ enabled. elim (either (place == j) (has_number j places) (covers j event at enabled)) [
       | inl here ↦ (let same : place ≡ j = eqb-true place j here in absurd (omega (arith, same, before)))

@@ -21,7 +21,7 @@ use Rattle.ilk_replay.proofs.OfPlant.{written-run_from_lines}
 use Rattle.ilk_replay.specs.RunText.{run_text}
 use Rattle.ilk_replay.specs.Seen.{replay_result}
 use Rattle.ilk_replay.specs.Told.{run_from_text, run_from_start}
-use Rattle.ilk_replay.specs.Writable.{IsRunOfPlant}
+use Rattle.ilk_replay.specs.Writable.{IsWritableRunOfPlant}
 use Rattle.ilk_replay.specs.declared.seen.Seen.TheVariants.{NoHazard, Hazard as SeenHazard}
 use Rattle.ilk_replay.specs.declared.told.Tale.TheVariants.{Told as IsTold}
 use Rattle.ilk_strict.proofs.Invariant.{forever-safe}
@@ -148,7 +148,7 @@ drive-safe p plant strict scene driven drives at e =
     let rests : driven.rest ≡ (if is_done_empty_and_free end.last then IsDriven else Stuck end.last.number) = end.rests ∙ rest-calm p end.last meets.no_hazard in
     calm-rests (is_done_empty_and_free end.last) end.last.number at (sym rests ∙ e)
 
-pub drive-writable : (p : PlantLists) (scene : List Event) (driven : Driven) → IsDriveOf p scene driven → IsRunOfPlant p (run_from_start p driven.events)
+pub drive-writable : (p : PlantLists) (scene : List Event) (driven : Driven) → IsDriveOf p scene driven → IsWritableRunOfPlant p (run_from_start p driven.events)
 drive-writable p scene driven drives =
     let ran = drive-run p scene driven drives in
     record { shape = start-shape p; start = λ e. refl; events = run-about p (start p) ran.0 driven.events ran.1 }

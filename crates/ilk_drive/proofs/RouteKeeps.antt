@@ -34,7 +34,7 @@ use Rattle.ilk_model.specs.Holding.{is_locked_or_occupied}
 use Rattle.ilk_model.specs.declared.event.Event.{Event}
 use Rattle.ilk_model.specs.declared.event.Event.TheVariants.{Mark, Allocate, Lock, Sense, Release, Finish, Throw, Settle, Enter, Head, Tail, Leave, Cancel}
 use Rattle.ilk_strict.proofs.Points.{lie-kept, lists-named}
-use Rattle.ilk_drive.specs.Awakening.{has_source_on_section, may_enable_automatic, is_board_on_section, requires_point}
+use Rattle.ilk_drive.specs.Awakening.{is_source_board_on_section, may_enable_automatic, is_board_on_section, requires_point}
 use Rattle.ilk_drive.specs.Commands.{is_command}
 use Rattle.ilk_drive.proofs.Back.{allocate-back, allocating, finish-back, in_occupation, lock-back, marked, release-back, sense-back, settle-back, throw-back}
 use Rattle.ilk_drive.proofs.Changes.{apart, claims-back, claims-other, clear-back, lock-back as other-lock-back, lock-same, locks-set, locks-with, neither, states-back, states-other, true-false}
@@ -157,9 +157,9 @@ allocate-keeps p plant s t shape r it (Tail x) own out h = tail-stays p s t x it
 allocate-keeps p plant s t shape r it (Leave x) own out h = leave-stays p s t x it.trains h
 allocate-keeps p plant s t shape r it (Cancel q) own out h = cc
 
-begins-not : (p : PlantLists) (r x : ℕ) (route : Route) → slice_get p.routes r ≡ Some route → has_source_on_section p r x ≡ false → is_board_on_section p x route.source ≡ false
+begins-not : (p : PlantLists) (r x : ℕ) (route : Route) → slice_get p.routes r ≡ Some route → is_source_board_on_section p r x ≡ false → is_board_on_section p x route.source ≡ false
 begins-not p r x route known out =
-    let same : has_source_on_section p r x ≡ is_board_on_section p x route.source = rw known refl in
+    let same : is_source_board_on_section p r x ≡ is_board_on_section p x route.source = rw known refl in
     sym same ∙ out
 
 pub lock-keeps : (p : PlantLists) → IsPlant p → (s t : State) → HasShape p s → (r : ℕ) → IsLocked p s t r → Keeps p s t (Lock r)

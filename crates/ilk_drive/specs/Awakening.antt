@@ -52,8 +52,8 @@ abbrev pub requires_point : PlantLists → ℕ → ℕ → Bool
 requires_point p r x = is_some_and (slice_get p.routes r) (λ route. list_any (λ listed. listed.point == x) (required_points route))
 
 -- Returns whether the source board of route `r` is on section `x`.
-abbrev pub has_source_on_section : PlantLists → ℕ → ℕ → Bool
-has_source_on_section p r x = is_some_and (slice_get p.routes r) (λ route. is_board_on_section p x route.source)
+abbrev pub is_source_board_on_section : PlantLists → ℕ → ℕ → Bool
+is_source_board_on_section p r x = is_some_and (slice_get p.routes r) (λ route. is_board_on_section p x route.source)
 
 -- Returns the sections next to section `x`, in both directions.
 abbrev pub neighbours_of : PlantLists → ℕ → List ℕ
@@ -65,7 +65,7 @@ may_enable_automatic p (Mark r) (Allocate q) = q == r
 may_enable_automatic p (Allocate r) (Lock q) = q == r
 may_enable_automatic p (Allocate r) (Throw x) = requires_point p r x
 may_enable_automatic p (Lock r) (Sense q) = q == r
-may_enable_automatic p (Lock r) (Head x) = has_source_on_section p r x
+may_enable_automatic p (Lock r) (Head x) = is_source_board_on_section p r x
 may_enable_automatic p (Sense r) (Allocate q) = route_may_affect_by_number p r q
 may_enable_automatic p (Sense r) (Lock q) = route_may_affect_by_number p r q
 may_enable_automatic p (Sense r) (Sense q) = q == r

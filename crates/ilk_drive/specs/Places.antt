@@ -40,8 +40,8 @@ abbrev pub ContainsEnabledAutomaticIndicesExcept : PlantLists → State → ℕ 
 ContainsEnabledAutomaticIndicesExcept p s place places = (j : ℕ) (event : Event) → slice_get (automatic_events p) j ≡ Some event → is_some (next p s event) ≡ true → (place == j || has_number j places) ≡ true
 
 -- Holds if no index in the list is less than `place`.
-abbrev pub IsLowerBoundOf : ℕ → List ℕ → Type 0
-IsLowerBoundOf place places = (j : ℕ) → has_number j places ≡ true → place ≤ j
+abbrev pub IsLowerBoundOfList : ℕ → List ℕ → Type 0
+IsLowerBoundOfList place places = (j : ℕ) → has_number j places ≡ true → place ≤ j
 
 -- Holds if there is no event, or it is the first automatic event that is enabled in state `s`.
 abbrev pub IsFirstAutomaticIfAny : PlantLists → State → Option Event → Type 0

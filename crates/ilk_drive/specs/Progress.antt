@@ -8,8 +8,8 @@ use Rattle.ilk_model.specs.declared.event.Event.{Event}
 use Rattle.ilk_drive.specs.Drive.{StateAndCommandsLeft, DriveStep, first_automatic}
 
 -- Returns the moment with state `s` at which `given` commands of the scenario have occurred.
-abbrev pub state_and_commands_left_after : List Event → State → ℕ → StateAndCommandsLeft
-state_and_commands_left_after scene s given = record { state = s; commands = drop given scene; number = given + 1 }
+abbrev pub state_and_commands_after_first_n : List Event → State → ℕ → StateAndCommandsLeft
+state_and_commands_after_first_n scene s given = record { state = s; commands = drop given scene; number = given + 1 }
 
 -- Returns the state after the first enabled automatic event, or `s` if none is enabled.
 abbrev pub state_after_first_automatic : PlantLists → State → State

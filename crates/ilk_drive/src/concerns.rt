@@ -5,7 +5,7 @@ ghost use Rattle.ilk_base.specs.Option.{is_some_and};
 ghost use Rattle.ilk_plant.specs.Network.{contains_section};
 ghost use Rattle.ilk_plant.specs.TableRules.{sections_locked_for, path_and_overlap_of};
 ghost use Rattle.ilk_routes.specs.Claims.{required_points};
-ghost use Rattle.ilk_drive.specs.Awakening.{neighbours_of, route_affects_allocation_or_locking, has_source_on_section, numbered_route_has_element_on, source_is_protecting_board_of, route_may_affect_by_number, routes_lock_common_section, is_board_on_section, requires_point};
+ghost use Rattle.ilk_drive.specs.Awakening.{neighbours_of, route_affects_allocation_or_locking, is_source_board_on_section, numbered_route_has_element_on, source_is_protecting_board_of, route_may_affect_by_number, routes_lock_common_section, is_board_on_section, requires_point};
 
 use ilk_base::has_number;
 use ilk_plant::{Dir, Listed, Plant, Route, Row, Section, contains_section};
@@ -135,8 +135,8 @@ pub(crate) fn requires_point(plant: &Plant, r: u32, x: u32) -> bool
     r < plant.routes() && wants(plant.route(r), x)
 }
 
-pub(crate) fn has_source_on_section(plant: &Plant, r: u32, x: u32) -> bool
-    ensures { result ≡ has_source_on_section plant.now r x }
+pub(crate) fn is_source_board_on_section(plant: &Plant, r: u32, x: u32) -> bool
+    ensures { result ≡ is_source_board_on_section plant.now r x }
 {
     r < plant.routes() && stands_at(plant, x, plant.route(r).source)
 }

@@ -5,12 +5,12 @@ ghost use Rattle.ilk_plant.specs.Shape.{HasShape};
 ghost use Rattle.ilk_plant.specs.declared.state.Mode.TheVariants.{Free};
 ghost use Rattle.ilk_routes.specs.Modes.{same_mode};
 ghost use Rattle.ilk_model.specs.Hazard.{hazard};
-ghost use Rattle.ilk_replay.specs.Writable.{IsRunOfPlant};
+ghost use Rattle.ilk_replay.specs.Writable.{IsWritableRunOfPlant};
 ghost use Rattle.ilk_replay.specs.Told.{run_from_start};
 ghost use Rattle.ilk_strict.specs.IsStrict.{IsStrict};
 ghost use Rattle.ilk_drive.specs.Drive.{IsDriveOf, command_step, first_automatic, is_done_empty_and_free, final_state_outcome, next_step_unless_hazard};
-ghost use Rattle.ilk_drive.specs.Progress.{IsStepOrUnchanged, state_after_first_automatic, state_and_commands_left_after};
-ghost use Rattle.ilk_drive.specs.Places.{ContainsEnabledAutomaticIndices, ContainsEnabledAutomaticIndicesExcept, IsAutomaticEnablingGraphOf, IsStateAfterOptionalEvent, IsFirstAutomaticIfAny, IsLowerBoundOf};
+ghost use Rattle.ilk_drive.specs.Progress.{IsStepOrUnchanged, state_after_first_automatic, state_and_commands_after_first_n};
+ghost use Rattle.ilk_drive.specs.Places.{ContainsEnabledAutomaticIndices, ContainsEnabledAutomaticIndicesExcept, IsAutomaticEnablingGraphOf, IsStateAfterOptionalEvent, IsFirstAutomaticIfAny, IsLowerBoundOfList};
 ghost use Rattle.ilk_drive.specs.Told.{IsRunFromStart, IsOutcomeWithoutHazard};
 ghost use Rattle.ilk_drive.specs.declared.limits.TheConstants.{MAX_EVENTS_PER_COMMAND};
 ghost use Rattle.ilk_base.specs.Numbers.{has_number};
@@ -60,7 +60,7 @@ fn try_place(
     requires shape { HasShape plant.now s.old }
     requires all { IsAutomaticEnablingGraphOf plant.now automatic.now }
     requires covers { ContainsEnabledAutomaticIndicesExcept plant.now s.old place candidates.old }
-    requires least { IsLowerBoundOf place candidates.old }
+    requires least { IsLowerBoundOfList place candidates.old }
     ensures first { IfOk result (IsFirstAutomaticIfAny plant.now s.old) }
     ensures next { IfOk result (IsStateAfterOptionalEvent plant.now s.old s.new) }
     ensures covers { OnOk result (ContainsEnabledAutomaticIndices plant.now s.new candidates.new) }
@@ -121,9 +121,9 @@ fn give_command(
     ensures hazard { now.new.hazard ≡ now.old.hazard }
     ensures given { IfOk result
         (IsStepOrUnchanged (command_step plant.now
-        (state_and_commands_left_after scene.now now.old.state now.old.given))
-        (state_and_commands_left_after scene.now now.old.state now.old.given)
-        (state_and_commands_left_after scene.now now.new.state now.new.given)) }
+        (state_and_commands_after_first_n scene.now now.old.state now.old.given))
+        (state_and_commands_after_first_n scene.now now.old.state now.old.given)
+        (state_and_commands_after_first_n scene.now now.new.state now.new.given)) }
     ensures shape { HasShape plant.now now.new.state }
     ensures within { now.old.given ≤ length scene.now → now.new.given ≤ length scene.now }
 {
@@ -158,9 +158,9 @@ fn go_on(
     ensures hazard { now.new.hazard ≡ now.old.hazard }
     ensures turn { IfOk result
         (IsStepOrUnchanged (next_step_unless_hazard plant.now
-        (state_and_commands_left_after scene.now now.old.state now.old.given))
-        (state_and_commands_left_after scene.now now.old.state now.old.given)
-        (state_and_commands_left_after scene.now now.new.state now.new.given)) }
+        (state_and_commands_after_first_n scene.now now.old.state now.old.given))
+        (state_and_commands_after_first_n scene.now now.old.state now.old.given)
+        (state_and_commands_after_first_n scene.now now.new.state now.new.given)) }
     ensures shape { HasShape plant.now now.new.state }
     ensures within { now.old.given ≤ length scene.now → now.new.given ≤ length scene.now }
 {
@@ -192,9 +192,9 @@ fn take_turn(
     ensures hazard { OnOk result (now.new.hazard ≡ hazard plant.now now.new.state) }
     ensures turn { IfOk result
         (IsStepOrUnchanged (next_step_unless_hazard plant.now
-        (state_and_commands_left_after scene.now now.old.state now.old.given))
-        (state_and_commands_left_after scene.now now.old.state now.old.given)
-        (state_and_commands_left_after scene.now now.new.state now.new.given)) }
+        (state_and_commands_after_first_n scene.now now.old.state now.old.given))
+        (state_and_commands_after_first_n scene.now now.old.state now.old.given)
+        (state_and_commands_after_first_n scene.now now.new.state now.new.given)) }
     ensures shape { HasShape plant.now now.new.state }
     ensures within { now.old.given ≤ length scene.now → now.new.given ≤ length scene.now }
 {
@@ -219,7 +219,7 @@ fn all_free(s: &State) -> bool
 
 fn is_done_empty_and_free(scene: &Row<Event>, now: &Standing) -> bool
     ensures { result ≡ is_done_empty_and_free
-        (state_and_commands_left_after scene.now now.now.state now.now.given) }
+        (state_and_commands_after_first_n scene.now now.now.state now.now.given) }
 {
     now.given >= scene.len() && now.state.trains.len() == 0 && all_free(&now.state)
 }
@@ -228,7 +228,7 @@ fn rest_at(scene: &Row<Event>, now: &Standing) -> Rest
     requires within { now.now.given ≤ length scene.now }
     ensures { (p : PlantLists) → now.now.hazard ≡ hazard p now.now.state →
         result ≡ final_state_outcome p
-        (state_and_commands_left_after scene.now now.now.state now.now.given) }
+        (state_and_commands_after_first_n scene.now now.now.state now.now.given) }
 {
     if let Some(at) = now.hazard {
         return Rest::Hazard(at);
@@ -250,7 +250,7 @@ fn rest_at(scene: &Row<Event>, now: &Standing) -> Rest
 pub fn drive(alloc: Global, plant: &Plant, scene: &Row<Event>) -> Result<Driven, AllocError>
     ensures drive { IfOk result (IsDriveOf plant.now scene.now) }
     ensures run { IfOk result (λ driven. IsRunFromStart plant.now driven.events) }
-    ensures told { IfOk result (λ driven. IsRunOfPlant plant.now
+    ensures told { IfOk result (λ driven. IsWritableRunOfPlant plant.now
         (run_from_start plant.now driven.events)) }
     ensures few { IfOk result
         (λ driven. length driven.events ≤ MAX_EVENTS_PER_COMMAND * length scene.now) }

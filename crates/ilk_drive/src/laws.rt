@@ -4,7 +4,7 @@ ghost use Rattle.ilk_model.specs.declared.event.Event.{Event};
 ghost use Rattle.ilk_replay.specs.RunText.{run_text};
 ghost use Rattle.ilk_replay.specs.Seen.{replay_result};
 ghost use Rattle.ilk_replay.specs.Told.{run_from_text, run_from_start};
-ghost use Rattle.ilk_replay.specs.Writable.{IsRunOfPlant};
+ghost use Rattle.ilk_replay.specs.Writable.{IsWritableRunOfPlant};
 ghost use Rattle.ilk_replay.specs.declared.told.Tale.TheVariants.{Told as IsTold};
 ghost use Rattle.ilk_strict.specs.IsStrict.{IsStrict};
 ghost use Rattle.ilk_drive.specs.Drive.{IsDriveOf};
@@ -38,7 +38,7 @@ pub fn drives_are_unique_bounded_runs(plant: &Plant)
 /// result: the hazard in which the drive ends, or no hazard. Proof only; no run-time effect.
 pub fn drive_texts_replay_same_outcome(plant: &Plant)
     ensures writable { (scene : List Event) (driven : Driven) → IsDriveOf plant.now scene driven →
-        IsRunOfPlant plant.now (run_from_start plant.now driven.events) }
+        IsWritableRunOfPlant plant.now (run_from_start plant.now driven.events) }
     ensures read { (scene : List Event) (driven : Driven) → IsDriveOf plant.now scene driven →
         run_from_text plant.now (run_text plant.now (run_from_start plant.now driven.events))
         ≡ IsTold (run_from_start plant.now driven.events) }

@@ -3,10 +3,10 @@ ghost use Rattle.std.specs.Prelude.{◌≡◌, IfOk};
 ghost use Rattle.ilk_model.specs.declared.event.Event.TheVariants.{Mark, Allocate, Lock, Sense, Release, Finish, Throw, Settle, Enter, Head, Tail, Leave, Cancel};
 ghost use Rattle.ilk_drive.specs.Drive.{automatic_events};
 ghost use Rattle.ilk_drive.specs.Places.{ContainsIndicesEventMayEnable};
-ghost use Rattle.ilk_drive.specs.Awakening.{has_source_on_section, numbered_route_has_element_on, route_may_affect_by_number, may_enable_automatic, requires_point};
+ghost use Rattle.ilk_drive.specs.Awakening.{is_source_board_on_section, numbered_route_has_element_on, route_may_affect_by_number, may_enable_automatic, requires_point};
 
 use crate::concerns::{
-    depends_on_neighbour, has_source_on_section, is_neighbour, numbered_route_has_element_on,
+    depends_on_neighbour, is_neighbour, is_source_board_on_section, numbered_route_has_element_on,
     requires_point, route_may_affect_by_number,
 };
 use ilk_model::Event;
@@ -28,7 +28,7 @@ fn lock_may_enable(plant: &Plant, r: u32, other: Event) -> bool
 {
     match other {
         Event::Sense(q) => q == r,
-        Event::Head(x) => has_source_on_section(plant, r, x),
+        Event::Head(x) => is_source_board_on_section(plant, r, x),
         _ => false,
     }
 }

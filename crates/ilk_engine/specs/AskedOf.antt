@@ -4,7 +4,7 @@ use Rattle.ilk_plant.specs.Plant.{PlantLists}
 use Rattle.ilk_layout.specs.Image.{image_of}
 use Rattle.ilk_behave.specs.Behaviour.{system_of_plant}
 use Rattle.ilk_unroll.specs.declared.reading.Trace.{Trace}
-use Rattle.ilk_queries.specs.Goal.{goal_of_plant}
+use Rattle.ilk_queries.specs.Goal.{goal_forms_of_plant}
 use Rattle.ilk_queries.specs.Lifting.{events_of_rule_numbers_or_none}
 use Rattle.ilk_induct.specs.Asked.{AreQueriesOfVerdict}
 use Rattle.ilk_certificate.specs.declared.asked.Asked.{Asked}
@@ -16,7 +16,7 @@ use Rattle.ilk_engine.specs.declared.verdict.Verdict.TheVariants.{Safe, Unsafe, 
 -- Holds if `asked` are the queries that lead to this verdict on the plant's system, in order, each
 -- with its log. The numbers are the depth and the conflict budget.
 abbrev pub AreSystemVerdictQueries : PlantLists → ℕ → ℕ → SystemVerdict → List Asked → Type 0
-AreSystemVerdictQueries p depth conflicts verdict asked = AreQueriesOfVerdict (system_of_plant p) (goal_of_plant p) depth conflicts verdict asked
+AreSystemVerdictQueries p depth conflicts verdict asked = AreQueriesOfVerdict (system_of_plant p) (goal_forms_of_plant p) depth conflicts verdict asked
 
 -- Holds if `asked` are the queries that lead to this verdict on the plant, in order, each with its
 -- log. The numbers are the depth and the conflict budget.

@@ -3,7 +3,7 @@ use Rattle.std.specs.Prelude.{ℕ, ◌≡◌, List, []}
 use Rattle.ilk_lines.specs.Lines.{Bytes}
 use Rattle.ilk_plant.specs.Plant.{PlantLists}
 use Rattle.ilk_behave.specs.Behaviour.{system_of_plant}
-use Rattle.ilk_queries.specs.Goal.{goal_of_plant}
+use Rattle.ilk_queries.specs.Goal.{goal_forms_of_plant}
 use Rattle.ilk_certificate.specs.declared.asked.Asked.{Asked}
 use Rattle.ilk_certificate.specs.Certificate.{IsValidCertificate}
 use Rattle.ilk_certificate.specs.CertificateText.{total_conflicts, safe_text, spent_text}
@@ -27,10 +27,10 @@ certificate_text_of Spent asked = spent_text (total_conflicts asked) asked
 abbrev pub IsCertificateTextOfVerdict : PlantLists → ℕ → ℕ → Verdict → Bytes → Type 0
 -- A refutation of each hazard query and each breach query for up to k events, and of the step query
 -- for k.
-IsCertificateTextOfVerdict p depth conflicts (Safe k) bytes = IsValidCertificate (system_of_plant p) (goal_of_plant p) k bytes
+IsCertificateTextOfVerdict p depth conflicts (Safe k) bytes = IsValidCertificate (system_of_plant p) (goal_forms_of_plant p) k bytes
 -- A run shows its verdict itself: no bytes.
 IsCertificateTextOfVerdict p depth conflicts (Unsafe events at) bytes = bytes ≡ []
 IsCertificateTextOfVerdict p depth conflicts (Breach events family) bytes = bytes ≡ []
 IsCertificateTextOfVerdict p depth conflicts (NotInductive first events) bytes = bytes ≡ []
 -- The queries in order up to the one that was given up, with exactly `conflicts` conflicts.
-IsCertificateTextOfVerdict p depth conflicts Spent bytes = IsSpentText (system_of_plant p) (goal_of_plant p) depth conflicts bytes
+IsCertificateTextOfVerdict p depth conflicts Spent bytes = IsSpentText (system_of_plant p) (goal_forms_of_plant p) depth conflicts bytes

@@ -3,7 +3,7 @@ ghost use Rattle.ilk_behave.specs.Behaviour.{system_of_plant};
 ghost use Rattle.ilk_behave.specs.Steps.{SystemMatchesEvents};
 ghost use Rattle.ilk_induct.specs.Right.{IsExactSystemVerdict, SystemVerdictHoldsAtAnyLength};
 ghost use Rattle.ilk_induct.specs.declared.verdict.Verdict.TheVariants as system;
-ghost use Rattle.ilk_queries.specs.Goal.{goal_of_plant};
+ghost use Rattle.ilk_queries.specs.Goal.{goal_forms_of_plant};
 ghost use Rattle.ilk_queries.specs.Lifting.{GoalFormsMatchPlant};
 ghost use Rattle.ilk_engine.specs.Lifted.{IsRightVerdictLiftedFrom};
 
@@ -24,10 +24,10 @@ fn lift_unsafe(
     trace: &Trace,
 ) -> Result<Verdict, AllocError>
     requires steps { SystemMatchesEvents plant.now }
-    requires goal { GoalFormsMatchPlant plant.now (goal_of_plant plant.now) }
+    requires goal { GoalFormsMatchPlant plant.now (goal_forms_of_plant plant.now) }
     requires depth { depth ≤ 16 }
     requires right { IsExactSystemVerdict (system_of_plant plant.now)
-        (goal_of_plant plant.now) depth
+        (goal_forms_of_plant plant.now) depth
         (system.Unsafe trace.now) }
     ensures { IfOk result (IsRightVerdictLiftedFrom plant.now depth (system.Unsafe trace.now)) }
 {
@@ -44,10 +44,10 @@ fn lift_breach(
     trace: &Trace,
 ) -> Result<Verdict, AllocError>
     requires steps { SystemMatchesEvents plant.now }
-    requires goal { GoalFormsMatchPlant plant.now (goal_of_plant plant.now) }
+    requires goal { GoalFormsMatchPlant plant.now (goal_forms_of_plant plant.now) }
     requires depth { depth ≤ 16 }
     requires right { IsExactSystemVerdict (system_of_plant plant.now)
-        (goal_of_plant plant.now) depth
+        (goal_forms_of_plant plant.now) depth
         (system.Breach trace.now) }
     ensures { IfOk result (IsRightVerdictLiftedFrom plant.now depth (system.Breach trace.now)) }
 {
@@ -64,11 +64,11 @@ fn lift_not_inductive(
     trace: &Trace,
 ) -> Result<Verdict, AllocError>
     requires steps { SystemMatchesEvents plant.now }
-    requires goal { GoalFormsMatchPlant plant.now (goal_of_plant plant.now) }
+    requires goal { GoalFormsMatchPlant plant.now (goal_forms_of_plant plant.now) }
     requires some_depth { 0 < depth }
     requires depth { depth ≤ 16 }
     requires right { IsExactSystemVerdict (system_of_plant plant.now)
-        (goal_of_plant plant.now) depth
+        (goal_forms_of_plant plant.now) depth
         (system.NotInductive trace.now) }
     ensures { IfOk result (IsRightVerdictLiftedFrom plant.now depth
         (system.NotInductive trace.now)) }
@@ -88,15 +88,15 @@ pub(crate) fn lift(
     verdict: &SystemVerdict,
 ) -> Result<Verdict, AllocError>
     requires steps { SystemMatchesEvents plant.now }
-    requires goal { GoalFormsMatchPlant plant.now (goal_of_plant plant.now) }
+    requires goal { GoalFormsMatchPlant plant.now (goal_forms_of_plant plant.now) }
     requires some_depth { 0 < depth }
     requires depth { depth ≤ 16 }
     requires right { IsExactSystemVerdict (system_of_plant plant.now)
-        (goal_of_plant plant.now) depth
+        (goal_forms_of_plant plant.now) depth
         verdict.now
         ⊎ (verdict.now ≡ system.Spent) }
     requires lasts { SystemVerdictHoldsAtAnyLength (system_of_plant plant.now)
-        (goal_of_plant plant.now) verdict.now }
+        (goal_forms_of_plant plant.now) verdict.now }
     ensures { IfOk result (IsRightVerdictLiftedFrom plant.now depth verdict.now) }
 {
     plant.prove_is_plant();

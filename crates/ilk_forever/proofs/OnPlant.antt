@@ -9,7 +9,7 @@ use Rattle.ilk_unroll.specs.Goal.{PlainGoalForms, step_count_is_allowed}
 use Rattle.ilk_unroll.specs.declared.queries.Wanted.{Wanted}
 use Rattle.ilk_unroll.specs.declared.queries.Wanted.TheVariants.{Hazard, Breach, Step}
 use Rattle.ilk_queries.specs.Asked.{HasQueriedRun}
-use Rattle.ilk_queries.specs.Goal.{goal_of_plant}
+use Rattle.ilk_queries.specs.Goal.{goal_forms_of_plant}
 use Rattle.ilk_queries.specs.Lifting.{GoalFormsMatchPlant, RulesStepLikeEvents}
 use Rattle.ilk_queries.proofs.Answered.{to-wanted}
 use Rattle.ilk_queries.proofs.Lifted.{has-events}
@@ -29,19 +29,19 @@ module _ (p : PlantLists) (steps : RulesStepLikeEvents p) (g : PlainGoalForms) (
   pub safe-forever : NoHazardOrBreachEver (HasRun (system_of_plant p) g) → AlwaysKeepsInvariant p
   safe-forever never = forever-safe p steps g goal (carried-forever (HasRun (system_of_plant p) g) (HasQueriedRun p) has-run never)
 
-pub lifts : (p : PlantLists) → IsPlant p → SystemMatchesEvents p → GoalFormsMatchPlant p (goal_of_plant p) → (q : Wanted) → step_count_is_allowed q ≡ true → HasRun (system_of_plant p) (goal_of_plant p) q ↔ HasQueriedRun p q
+pub lifts : (p : PlantLists) → IsPlant p → SystemMatchesEvents p → GoalFormsMatchPlant p (goal_forms_of_plant p) → (q : Wanted) → step_count_is_allowed q ≡ true → HasRun (system_of_plant p) (goal_forms_of_plant p) q ↔ HasQueriedRun p q
 lifts p plant steps goal q valid =
     let lead = rules-step p plant steps in
-    (has-lifted p lead (goal_of_plant p) goal q valid, has-run p lead (goal_of_plant p) goal q)
+    (has-lifted p lead (goal_forms_of_plant p) goal q valid, has-run p lead (goal_forms_of_plant p) goal q)
 
-pub lasting : (p : PlantLists) → IsPlant p → SystemMatchesEvents p → GoalFormsMatchPlant p (goal_of_plant p) → (k : ℕ) → 0 < k → k ≤ 16
-    → (HoldsForNoneUpTo k (ReachesHazard (HasRun (system_of_plant p) (goal_of_plant p))) → HoldsForNoneUpTo k (ReachesBreach (HasRun (system_of_plant p) (goal_of_plant p))) → ¬ HasRun (system_of_plant p) (goal_of_plant p) (Step k) →
-    NoHazardOrBreachEver (HasRun (system_of_plant p) (goal_of_plant p)))
+pub lasting : (p : PlantLists) → IsPlant p → SystemMatchesEvents p → GoalFormsMatchPlant p (goal_forms_of_plant p) → (k : ℕ) → 0 < k → k ≤ 16
+    → (HoldsForNoneUpTo k (ReachesHazard (HasRun (system_of_plant p) (goal_forms_of_plant p))) → HoldsForNoneUpTo k (ReachesBreach (HasRun (system_of_plant p) (goal_forms_of_plant p))) → ¬ HasRun (system_of_plant p) (goal_forms_of_plant p) (Step k) →
+    NoHazardOrBreachEver (HasRun (system_of_plant p) (goal_forms_of_plant p)))
     → HoldsForNoneUpTo k (ReachesHazard (HasQueriedRun p)) → HoldsForNoneUpTo k (ReachesBreach (HasQueriedRun p)) → ¬ HasQueriedRun p (Step k) → AlwaysKeepsInvariant p
 lasting p plant steps goal k some few law hazards breaches step =
     let lead = rules-step p plant steps in
-    let down = has-lifted p lead (goal_of_plant p) goal in
-    safe-forever p lead (goal_of_plant p) goal (law
+    let down = has-lifted p lead (goal_forms_of_plant p) goal in
+    safe-forever p lead (goal_forms_of_plant p) goal (law
     (λ n le has. hazards n le (down (Hazard n) (le-leb n 16 (omega arith)) has))
     (λ n le has. breaches n le (down (Breach n) (le-leb n 16 (omega arith)) has))
     (λ has. step (down (Step k) (step-valid k some few) has)))

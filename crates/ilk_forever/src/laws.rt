@@ -8,7 +8,7 @@ ghost use Rattle.ilk_unroll.specs.declared.queries.Wanted.TheVariants.{Step};
 ghost use Rattle.ilk_certificate.specs.Certificate.{IsValidCertificate};
 ghost use Rattle.ilk_unroll.specs.Evidence.{ReachesBreach, ReachesHazard, HasRun, HoldsForNoneUpTo};
 ghost use Rattle.ilk_queries.specs.Asked.{HasQueriedRun};
-ghost use Rattle.ilk_queries.specs.Goal.{goal_of_plant};
+ghost use Rattle.ilk_queries.specs.Goal.{goal_forms_of_plant};
 ghost use Rattle.ilk_queries.specs.Lifting.{GoalFormsMatchPlant};
 ghost use Rattle.ilk_forever.specs.Forever.{AlwaysKeepsInvariant};
 
@@ -22,8 +22,9 @@ use ilk_unroll::{k_induction_is_sound, satisfiable_iff_run_exists};
 /// well-formed, has a hazard, or keeps the invariant. They are valid over the ranges of the plant's
 /// variables. Proof only; no run-time effect.
 pub fn goal_forms_valid_and_correct(plant: &Plant)
-    ensures means { GoalFormsMatchPlant plant.now (goal_of_plant plant.now) }
-    ensures valid { IsTrue (goal_valid (ranges_of_plant plant.now) (goal_of_plant plant.now)) }
+    ensures means { GoalFormsMatchPlant plant.now (goal_forms_of_plant plant.now) }
+    ensures valid { IsTrue
+        (goal_valid (ranges_of_plant plant.now) (goal_forms_of_plant plant.now)) }
 {
     plant.prove_is_plant();
     plant.prove_sound_acyclic_drafts();
@@ -37,7 +38,7 @@ pub fn goal_forms_valid_and_correct(plant: &Plant)
 pub fn query_runs_correspond(plant: &Plant)
     ensures { (q : Wanted) → IsTrue (step_count_is_allowed q)
         → HasRun (system_of_plant plant.now)
-        (goal_of_plant plant.now) q ↔ HasQueriedRun plant.now q }
+        (goal_forms_of_plant plant.now) q ↔ HasQueriedRun plant.now q }
 {
     plant.prove_is_plant();
     system_matches_events(plant);
@@ -67,7 +68,7 @@ pub fn induction_implies_safety(plant: &Plant)
 /// invariant. Proof only; no run-time effect.
 pub fn certificates_imply_safety(plant: &Plant)
     ensures { (k : ℕ) (bytes : Bytes) →
-        IsValidCertificate (system_of_plant plant.now) (goal_of_plant plant.now) k bytes →
+        IsValidCertificate (system_of_plant plant.now) (goal_forms_of_plant plant.now) k bytes →
         AlwaysKeepsInvariant plant.now }
 {
     plant.prove_is_plant();

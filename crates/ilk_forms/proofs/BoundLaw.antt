@@ -18,7 +18,7 @@ use Rattle.ilk_ir.specs.System.{in_ranges}
 use Rattle.ilk_forms.specs.declared.copy.VarValueAndBoundLits.{VarValueAndBoundLits}
 use Rattle.ilk_forms.specs.Copy.{LiteralsEncode}
 use Rattle.ilk_forms.specs.declared.bound.VarUpperBound.{VarUpperBound}
-use Rattle.ilk_forms.specs.Leaf.{has_lits_within_vars, ranges_of}
+use Rattle.ilk_forms.specs.Leaf.{has_lits_within_vars, ranges_of_copy_lits}
 use Rattle.ilk_forms.specs.Bound.{bound_from_or_of_values, bound_lit_of_var, bound_lit, bound_lit_stated_by_or, copy_has_bound_lit, has_bound_lit_for_or}
 use Rattle.ilk_forms.proofs.BoundForms.{Stands, at_most, below, say-bound, stands-as}
 
@@ -84,7 +84,7 @@ column-says a column range w k values bounds less some =
 
 pub bound-says : (a : List Bool) (columns : List VarValueAndBoundLits) (ranges ws : List ℕ) (v k : ℕ) →
     LiteralsEncode a columns ranges ws → in_ranges ws ranges ≡ true →
-    value_valid (ranges_of columns) v k ≡ true → 0 < k →
+    value_valid (ranges_of_copy_lits columns) v k ≡ true → 0 < k →
     Stands a (bound_lit columns v k) (copy_has_bound_lit ranges v k) (at_most ws v k)
 bound-says a [] ranges ws v k h inside valid some = absurd (false≢true valid)
 bound-says a (column ∷ columns) [] ws v k h inside valid some = absurd h
@@ -119,9 +119,9 @@ any-in ts columns n l inside e =
     bound-in columns b.0.var b.0.most n l inside b.2
 
 pub any-says : (ts : Trees) (a : List Bool) (columns : List VarValueAndBoundLits) (ranges ws : List ℕ) →
-    ((v k : ℕ) → value_valid (ranges_of columns) v k ≡ true → 0 < k →
+    ((v k : ℕ) → value_valid (ranges_of_copy_lits columns) v k ≡ true → 0 < k →
     Stands a (bound_lit columns v k) (copy_has_bound_lit ranges v k) (at_most ws v k)) →
-    each_valid (ranges_of columns) ts ≡ true →
+    each_valid (ranges_of_copy_lits columns) ts ≡ true →
     Stands a (bound_lit_stated_by_or columns ts) (has_bound_lit_for_or ranges ts) (some_holds ws ts)
 any-says ts a columns ranges ws bounds valid = by_case (bound_from_or_of_values ts) refl
   where
@@ -130,4 +130,4 @@ any-says ts a columns ranges ws bounds valid = by_case (bound_from_or_of_values 
     by_case (Some b) e =
         let said = say-bound ts b e in
         let has = copy_has_bound_lit ranges b.var b.most in
-        stands-as a (bound_lit columns b.var b.most) has (at_most ws b.var b.most) has (some_holds ws ts) refl (sym (said.holds ws)) (bounds b.var b.most (said.valid (ranges_of columns) valid) said.some)
+        stands-as a (bound_lit columns b.var b.most) has (at_most ws b.var b.most) has (some_holds ws ts) refl (sym (said.holds ws)) (bounds b.var b.most (said.valid (ranges_of_copy_lits columns) valid) said.some)

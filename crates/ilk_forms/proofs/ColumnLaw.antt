@@ -19,7 +19,7 @@ use Rattle.ilk_ints.proofs.BoundsPart.{bound_lits_part-law}
 use Rattle.ilk_ints.proofs.TableParts.{bit_count-enough, value_lits_part-in, value_lits_part-lits_in, length-value_lits_part, bound_lits_part-low, bound_lits_part-in}
 use Rattle.ilk_forms.specs.declared.copy.VarValueAndBoundLits.{VarValueAndBoundLits}
 use Rattle.ilk_forms.specs.declared.copy.TheConstants.{MAX_RANGES}
-use Rattle.ilk_forms.specs.Copy.{PartWithAllVarLits, var_lits_part, system_var_part, range_class_part, range_classes_below_part, no_lits_for_each_var, copy_part, system_var_bits}
+use Rattle.ilk_forms.specs.Copy.{FormulaPartAndAllVarLits, var_lits_part, system_var_part, range_class_part, range_classes_below_part, no_lits_for_each_var, copy_part, system_var_bits}
 
 abbrev pub ranges_fit : List ℕ → Bool
 ranges_fit [] = true
@@ -152,7 +152,7 @@ pub copy-low : (ranges : List ℕ) (n : ℕ) → n ≤ (copy_part ranges n).part
 unfolding copy_part
 copy-low ranges n = below-low MAX_RANGES ranges (no_lits_for_each_var ranges) n
 
-abbrev Inside : PartWithAllVarLits → Type 0
+abbrev Inside : FormulaPartAndAllVarLits → Type 0
 Inside p = are_clauses_over p.part.vars p.part.clauses ≡ true
 
 pub class-in : (r : ℕ) (ranges : List ℕ) (columns : List VarValueAndBoundLits) (n : ℕ) → r ≤ 2 ^ bit_count r → are_clauses_over (range_class_part r ranges columns n).part.vars (range_class_part r ranges columns n).part.clauses ≡ true

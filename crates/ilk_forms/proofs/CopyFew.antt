@@ -8,7 +8,7 @@ use Rattle.ilk_base.proofs.Ranges.{find-within}
 use Rattle.ilk_cnf.specs.Literal.{Literal}
 use Rattle.ilk_cnf.specs.Part.{FormulaPart, empty_part, or_gate_part}
 use Rattle.ilk_ints.specs.Bits.{bit_count}
-use Rattle.ilk_ints.specs.AtMost.{at_most_part, at_most_lit, highest_bit_decides}
+use Rattle.ilk_ints.specs.AtMost.{at_most_lit_part, at_most_lit, highest_bit_decides}
 use Rattle.ilk_ints.specs.Named.{value_lits_part, bound_count, bound_lits_part_from, bound_lits_part}
 use Rattle.ilk_ints.proofs.ValuesLaw.{values-low}
 use Rattle.ilk_ints.proofs.TableParts.{named-end}
@@ -33,7 +33,7 @@ bit_count-below (suc (suc (suc (suc (suc (suc zero)))))) = omega arith
 bit_count-below (suc (suc (suc (suc (suc (suc (suc zero))))))) = omega arith
 bit_count-below (suc (suc (suc (suc (suc (suc (suc (suc range)))))))) = (let few = bit_count-few (suc (suc (suc (suc (suc (suc (suc (suc range)))))))) in omega arith)
 
-at_most-few : (range k n : ℕ) (below equal : Literal) → (at_most_part range k below equal n).vars ≤ n + 1
+at_most-few : (range k n : ℕ) (below equal : Literal) → (at_most_lit_part range k below equal n).vars ≤ n + 1
 at_most-few range k n below equal = by_case (highest_bit_decides range k)
   where
     by_case : (b : Bool) → (cond {A = FormulaPart} b (empty_part n) (or_gate_part (below ∷ equal ∷ []) n)).vars ≤ n + 1
@@ -43,7 +43,7 @@ at_most-few range k n below equal = by_case (highest_bit_decides range k)
 bound_lits_part_from-few : (es : List Literal) (first range k n : ℕ) (below : Literal) → (bound_lits_part_from first range below k es n).part.vars ≤ n + length es
 bound_lits_part_from-few [] first range k n below = omega arith
 bound_lits_part_from-few (e ∷ es) first range k n below =
-    let m = (at_most_part range k below e n).vars in
+    let m = (at_most_lit_part range k below e n).vars in
     let one = at_most-few range k n below e in
     let rest = bound_lits_part_from-few es first range (k + 1) m (at_most_lit first range k n) in
     omega arith

@@ -10,7 +10,7 @@ use Rattle.ilk_ints.specs.Bits.{bit_count}
 use Rattle.ilk_ints.specs.Number.{number_part, non_value_clauses}
 use Rattle.ilk_forms.specs.declared.copy.VarValueAndBoundLits.{VarValueAndBoundLits}
 use Rattle.ilk_forms.specs.declared.copy.TheConstants.{MAX_RANGES}
-use Rattle.ilk_forms.specs.Copy.{PartWithAllVarLits, prepend_var, system_var_part, range_class_part, range_classes_below_part, no_lits_for_each_var, copy_part}
+use Rattle.ilk_forms.specs.Copy.{FormulaPartAndAllVarLits, prepend_var, system_var_part, range_class_part, range_classes_below_part, no_lits_for_each_var, copy_part}
 use Rattle.ilk_forms.proofs.ColumnLaw.{class-low, below-low}
 
 pub number_there : (f g : Formula) (used range count : ℕ) → count ≡ bit_count range → g ≡ with_var_count_and_clauses f f.vars (clauses_from_lists (non_value_clauses (used + 1) range)) →
@@ -33,7 +33,7 @@ none_pushed ranges i table next whole values bounds less none empty pushed h =
     ∙ ap (λ (rs : List ℕ). table ++ no_lits_for_each_var rs) (sym (drop_more ranges i 0 less))
     ∙ h
 
-abbrev passed : ℕ → List ℕ → VarValueAndBoundLits → List VarValueAndBoundLits → ℕ → PartWithAllVarLits
+abbrev passed : ℕ → List ℕ → VarValueAndBoundLits → List VarValueAndBoundLits → ℕ → FormulaPartAndAllVarLits
 passed r ranges column columns n = record { part = (range_class_part r ranges columns n).part; columns = column ∷ (range_class_part r ranges columns n).columns }
 
 class-split : (r v n : ℕ) (ranges : List ℕ) (table : List VarValueAndBoundLits) → v < length ranges → length table ≡ length ranges →
@@ -63,7 +63,7 @@ class-past r v n ranges table less many other = class-split r v n ranges table l
 pub var_there : (r v n m : ℕ) (ranges : List ℕ) (table : List VarValueAndBoundLits) → v < length ranges → length table ≡ length ranges → get_or ranges v 0 ≡ r →
     (range_class_part r (drop v ranges) (drop v table) n).part.vars ≤ m → (system_var_part r n).part.vars ≤ m
 var_there r v n m ranges table less many is high =
-    let same = ap (λ (p : PartWithAllVarLits). p.part.vars) (class-at r v n ranges table less many is) in
+    let same = ap (λ (p : FormulaPartAndAllVarLits). p.part.vars) (class-at r v n ranges table less many is) in
     omega (arith, same, class-low r (drop (v + 1) ranges) (drop (v + 1) table) (system_var_part r n).part.vars, high)
 
 -- Holds if the loop, at variable `v`, will make the table `whole` and the formula `end`.
@@ -89,13 +89,13 @@ class_taken r v ranges table next whole column f g end less is written seen made
           ∙ append_assoc (take v table) (column ∷ []) (rest g.vars).columns
           ∙ ap (λ (u : VarValueAndBoundLits). take v table ++ u ∷ (rest g.vars).columns) seen
           ∙ ap (λ (k : ℕ). take v table ++ one.column ∷ (rest k).columns) same
-          ∙ ap (λ (p : PartWithAllVarLits). take v table ++ p.columns) (sym at)
+          ∙ ap (λ (p : FormulaPartAndAllVarLits). take v table ++ p.columns) (sym at)
           ∙ h.seen;
       made =
           ap (λ (us : List VarValueAndBoundLits). with_part g (range_class_part r (drop (v + 1) ranges) us g.vars).part) after
           ∙ ap (λ (k : Formula). with_part k (rest k.vars).part) made
           ∙ with_part-and_then f one.part (λ m. (rest m).part)
-          ∙ ap (λ (p : PartWithAllVarLits). with_part f p.part) (sym at)
+          ∙ ap (λ (p : FormulaPartAndAllVarLits). with_part f p.part) (sym at)
           ∙ h.made;
     }
 
@@ -108,9 +108,9 @@ class_passed r v ranges table whole f end less other h =
       seen =
           ap (λ (us : List VarValueAndBoundLits). us ++ rest.columns) (take_more table v no_lits (omega (arith, h.many)))
           ∙ append_assoc (take v table) (get_or table v no_lits ∷ []) rest.columns
-          ∙ ap (λ (p : PartWithAllVarLits). take v table ++ p.columns) (sym at)
+          ∙ ap (λ (p : FormulaPartAndAllVarLits). take v table ++ p.columns) (sym at)
           ∙ h.seen;
-      made = ap (λ (p : PartWithAllVarLits). with_part f p.part) (sym at) ∙ h.made;
+      made = ap (λ (p : FormulaPartAndAllVarLits). with_part f p.part) (sym at) ∙ h.made;
     }
 
 pub class_there : (j r n m : ℕ) (ranges : List ℕ) (table : List VarValueAndBoundLits) → j ≡ suc r → (range_classes_below_part j ranges table n).part.vars ≤ m → (range_class_part r ranges table n).part.vars ≤ m

@@ -5,7 +5,7 @@ use Rattle.ilk_cnf.specs.Literal.{Literal}
 use Rattle.ilk_cnf.specs.Formula.{is_clause_over}
 use Rattle.ilk_cnf.proofs.Literals.{is_lit_over-more, is_clause_over-more}
 use Rattle.ilk_ints.specs.Bits.{bit_count}
-use Rattle.ilk_ints.specs.AtMost.{at_most_part, at_most_lit}
+use Rattle.ilk_ints.specs.AtMost.{at_most_lit_part, at_most_lit}
 use Rattle.ilk_ints.specs.Named.{value_lits_part, bound_count, bound_lits_part_from, bound_lits_part}
 use Rattle.ilk_ints.proofs.AtMostLaw.{bits_some}
 use Rattle.ilk_ints.proofs.ValuesLaw.{value_lits_part-low}
@@ -13,9 +13,9 @@ use Rattle.ilk_ints.proofs.BoundsLaw.{at_most-low, at_most-is_lit_over, bounds-l
 use Rattle.ilk_ints.proofs.TableParts.{bit_count-enough, value_lits_part-lits_in, length-value_lits_part, bound_lits_part-low}
 use Rattle.ilk_forms.specs.declared.copy.VarValueAndBoundLits.{VarValueAndBoundLits}
 use Rattle.ilk_forms.specs.declared.copy.TheConstants.{MAX_RANGES}
-use Rattle.ilk_forms.specs.Copy.{PartWithAllVarLits, var_lits_part, system_var_part, range_class_part, range_classes_below_part, no_lits_for_each_var, copy_part}
+use Rattle.ilk_forms.specs.Copy.{FormulaPartAndAllVarLits, var_lits_part, system_var_part, range_class_part, range_classes_below_part, no_lits_for_each_var, copy_part}
 use Rattle.ilk_forms.proofs.ColumnLaw.{ranges_fit, system_var-low, class-low}
-use Rattle.ilk_forms.specs.Leaf.{has_lits_within_vars, ranges_of}
+use Rattle.ilk_forms.specs.Leaf.{has_lits_within_vars, ranges_of_copy_lits}
 use Rattle.ilk_forms.proofs.Reading.{has_lits_within_vars-more}
 
 bounds-lits_in : (es : List Literal) (first range k n : ℕ) (below : Literal) → 0 < first →
@@ -24,7 +24,7 @@ bounds-lits_in : (es : List Literal) (first range k n : ℕ) (below : Literal) �
     ≡ true
 bounds-lits_in [] first range k n below low some high = refl
 bounds-lits_in (e ∷ es) first range k n below low some high =
-    let m = (at_most_part range k below e n).vars in
+    let m = (at_most_lit_part range k below e n).vars in
     let l = at_most_lit first range k n in
     let end = (bound_lits_part_from first range l (k + 1) es m).part.vars in
     let grows : n ≤ m = at_most-low range k n below e in
@@ -57,7 +57,7 @@ column-lits_in first range n low high enough =
     let grows : n ≤ m = value_lits_part-low first range n in
     and_from _ _ (is_clause_over-more m end v.lits (bound_lits_part-low v.lits first range m) (value_lits_part-lits_in first range n low high)) (bound_lits_part-lits_in v.lits first range m low (omega (arith, high, grows)) enough)
 
-abbrev LitsIn : PartWithAllVarLits → Type 0
+abbrev LitsIn : FormulaPartAndAllVarLits → Type 0
 LitsIn p = has_lits_within_vars p.part.vars p.columns ≡ true
 
 class-lits_in : (r : ℕ) (ranges : List ℕ) (columns : List VarValueAndBoundLits) (n : ℕ) → r ≤ 2 ^ bit_count r → has_lits_within_vars n columns ≡ true → LitsIn (range_class_part r ranges columns n)
@@ -121,12 +121,12 @@ none-ranges : (k : ℕ) (ranges : List ℕ) → 256 ≡ k → ranges_fit ranges 
 none-ranges k [] is fit = tt
 none-ranges k (range ∷ ranges) is fit = (let parts = and_parts (ltb range 256) (ranges_fit ranges) fit in (λ low. absurd (omega (arith, ltb-true range 256 parts.0)), none-ranges k ranges is parts.1))
 
-all-ranges : (columns : List VarValueAndBoundLits) (ranges : List ℕ) → HaveRangesFrom 0 columns ranges → ranges_of columns ≡ ranges
+all-ranges : (columns : List VarValueAndBoundLits) (ranges : List ℕ) → HaveRangesFrom 0 columns ranges → ranges_of_copy_lits columns ≡ ranges
 all-ranges [] [] h = refl
 all-ranges [] (range ∷ ranges) h = absurd h
 all-ranges (column ∷ columns) [] h = absurd h
 all-ranges (column ∷ columns) (range ∷ ranges) h = rw (h.0 (omega arith), all-ranges columns ranges h.1) refl
 
-pub copy-ranges : (ranges : List ℕ) (n : ℕ) → ranges_fit ranges ≡ true → ranges_of (copy_part ranges n).columns ≡ ranges
+pub copy-ranges : (ranges : List ℕ) (n : ℕ) → ranges_fit ranges ≡ true → ranges_of_copy_lits (copy_part ranges n).columns ≡ ranges
 unfolding copy_part
 copy-ranges ranges n fit = all-ranges (range_classes_below_part MAX_RANGES ranges (no_lits_for_each_var ranges) n).columns ranges (below-ranges MAX_RANGES ranges (no_lits_for_each_var ranges) n (none-ranges MAX_RANGES ranges refl fit))

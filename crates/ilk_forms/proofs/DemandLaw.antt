@@ -18,7 +18,7 @@ use Rattle.ilk_cnf.proofs.Extending.{no_more_if, if_from_only, if_then_if}
 use Rattle.ilk_ir.specs.Tree.{Tree, yes, no, is, all_of, any_of, negation, Trees, none, more, tree_holds, each_holds, some_holds, tree_valid, each_valid, is_value_of_var}
 use Rattle.ilk_forms.specs.declared.copy.VarValueAndBoundLits.{VarValueAndBoundLits}
 use Rattle.ilk_forms.specs.declared.gates.AndGate.{AndGate}
-use Rattle.ilk_forms.specs.Leaf.{value_lit, has_lits_within_vars, ranges_of}
+use Rattle.ilk_forms.specs.Leaf.{value_lit, has_lits_within_vars, ranges_of_copy_lits}
 use Rattle.ilk_forms.specs.Bound.{bound_lit_stated_by_or, has_bound_lit_for_or}
 use Rattle.ilk_forms.specs.Gates.{bools_are_equal, with_sign, gates_part, gate_values, GatesHold, gates_within}
 use Rattle.ilk_forms.specs.Gathered.{LitsWithGates, forms_to_and_or_lits}
@@ -94,7 +94,7 @@ mutual
   pub demand_of-fits :
       (t : Tree) (columns : List VarValueAndBoundLits) (first : List Literal) (positive : Bool) (known : List AndGate) (n : ℕ) →
       has_lits_within_vars n columns ≡ true → is_clause_over n first ≡ true → gates_within n known ≡ true →
-      tree_valid (ranges_of columns) t ≡ true →
+      tree_valid (ranges_of_copy_lits columns) t ≡ true →
       DemandFits n (demand_of columns first positive t known n)
   demand_of-fits yes columns first true known n h f w k = no_demand-fits n
   demand_of-fits yes columns first false known n h f w k = clause-fits first n f
@@ -113,7 +113,7 @@ mutual
   demand_each-fits :
       (ts : Trees) (columns : List VarValueAndBoundLits) (first : List Literal) (positive : Bool) (known : List AndGate) (n : ℕ) →
       has_lits_within_vars n columns ≡ true → is_clause_over n first ≡ true → gates_within n known ≡ true →
-      each_valid (ranges_of columns) ts ≡ true →
+      each_valid (ranges_of_copy_lits columns) ts ≡ true →
       DemandFits n (demand_each columns first positive ts known n)
   demand_each-fits none columns first positive known n h f w k = no_demand-fits n
   demand_each-fits (more t ts) columns first positive known n h f w k =
@@ -167,7 +167,7 @@ all-hold a known gs n size w holds fit = (GatesHold-left known a (gate_values a 
 
 some-law : (a : List Bool) (first : List Literal) (ts : Trees) (columns : List VarValueAndBoundLits) (ranges ws : List ℕ) (positive truth : Bool) (known : List AndGate) (n : ℕ) →
     length a ≡ n → Reads a columns ranges ws → is_clause_over n first ≡ true → gates_within n known ≡ true → GatesHold a known →
-    each_valid (ranges_of columns) ts ≡ true → forms_are ws false positive ts ≡ truth →
+    each_valid (ranges_of_copy_lits columns) ts ≡ true → forms_are ws false positive ts ≡ truth →
     ExtensionsAreExactly a (some_lit_demand_with_gates first (forms_to_and_or_lits columns false positive ts known n) n).part.vars
     (some_lit_demand_with_gates first (forms_to_and_or_lits columns false positive ts known n) n).part.clauses
     (PassesAndEqualsGivenValues (is_clause_true a first || truth) (gate_values a (forms_to_and_or_lits columns false positive ts known n).gates))
@@ -199,7 +199,7 @@ mutual
       (t : Tree) (columns : List VarValueAndBoundLits) (ranges ws : List ℕ) (first : List Literal) (positive : Bool)
       (known : List AndGate) (a : List Bool) (n : ℕ) → length a ≡ n →
       Reads a columns ranges ws → is_clause_over n first ≡ true → gates_within n known ≡ true → GatesHold a known →
-      tree_valid (ranges_of columns) t ≡ true →
+      tree_valid (ranges_of_copy_lits columns) t ≡ true →
       ExtensionsAreExactly a (demand_of columns first positive t known n).part.vars (demand_of columns first positive t known n).part.clauses
       (PassesAndEqualsGivenValues (is_clause_true a first || bools_are_equal positive (tree_holds ws t))
       (gate_values a (demand_of columns first positive t known n).gates))
@@ -235,7 +235,7 @@ mutual
       (ts : Trees) (columns : List VarValueAndBoundLits) (ranges ws : List ℕ) (first : List Literal) (positive : Bool)
       (known : List AndGate) (a : List Bool) (n : ℕ) → length a ≡ n →
       Reads a columns ranges ws → is_clause_over n first ≡ true → gates_within n known ≡ true → GatesHold a known →
-      each_valid (ranges_of columns) ts ≡ true →
+      each_valid (ranges_of_copy_lits columns) ts ≡ true →
       ExtensionsAreExactly a (demand_each columns first positive ts known n).part.vars
       (demand_each columns first positive ts known n).part.clauses
       (PassesAndEqualsGivenValues (is_clause_true a first || forms_are ws true positive ts)
@@ -271,14 +271,14 @@ mutual
       subst (λ (u : List Bool). ExtensionsAreExactly a q.part.vars (d.part.clauses ++ q.part.clauses) (PassesAndEqualsGivenValues (x || (truth && others)) u)) (sym (gate_values-append d.gates q.gates a)) said
 
 pub some_lit_or_form-fits : (t : Tree) (columns : List VarValueAndBoundLits) (first : List Literal) (n : ℕ) →
-    has_lits_within_vars n columns ≡ true → is_clause_over n first ≡ true → tree_valid (ranges_of columns) t ≡ true →
+    has_lits_within_vars n columns ≡ true → is_clause_over n first ≡ true → tree_valid (ranges_of_copy_lits columns) t ≡ true →
     PartFits n (some_lit_or_form_part columns first t n)
 some_lit_or_form-fits t columns first n h f k =
     let fits = demand_of-fits t columns first true [] n h f refl k in
     record { low = demand-low n (demand_of columns first true t [] n) fits; inside = fits.inside }
 
 pub some_lit_or_form-law : (t : Tree) (columns : List VarValueAndBoundLits) (ranges ws : List ℕ) (first : List Literal) (a : List Bool) (n : ℕ) → length a ≡ n →
-    Reads a columns ranges ws → is_clause_over n first ≡ true → tree_valid (ranges_of columns) t ≡ true →
+    Reads a columns ranges ws → is_clause_over n first ≡ true → tree_valid (ranges_of_copy_lits columns) t ≡ true →
     ExtensionsAreExactly a (some_lit_or_form_part columns first t n).vars (some_lit_or_form_part columns first t n).clauses
     (PassesAndEqualsGivenValues (is_clause_true a first || tree_holds ws t) (some_lit_or_form_bits columns first t a))
 some_lit_or_form-law t columns ranges ws first a n size r f k =

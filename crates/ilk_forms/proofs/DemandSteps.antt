@@ -8,7 +8,7 @@ use Rattle.ilk_cnf.proofs.Literals.{is_clause_over-more}
 use Rattle.ilk_ir.specs.Tree.{Tree, Trees, more, each_valid}
 use Rattle.ilk_forms.specs.declared.copy.VarValueAndBoundLits.{VarValueAndBoundLits}
 use Rattle.ilk_forms.specs.declared.gates.AndGate.{AndGate}
-use Rattle.ilk_forms.specs.Leaf.{has_lits_within_vars, ranges_of}
+use Rattle.ilk_forms.specs.Leaf.{has_lits_within_vars, ranges_of_copy_lits}
 use Rattle.ilk_forms.specs.Gates.{gates_part, gates_within}
 use Rattle.ilk_forms.specs.Gathered.{LitsWithGates}
 use Rattle.ilk_forms.specs.Demand.{PartWithGates, one_clause_part, some_lit_demand_with_gates, then_demand, demand_of, demand_each}
@@ -31,7 +31,7 @@ pub record Demanding (columns : List VarValueAndBoundLits) (heads : List Literal
   pub within : has_lits_within_vars g.vars columns ≡ true
   pub first : is_clause_over g.vars heads ≡ true
   pub known_within : gates_within g.vars known ≡ true
-  pub valid : each_valid (ranges_of columns) rest ≡ true
+  pub valid : each_valid (ranges_of_copy_lits columns) rest ≡ true
   pub made : with_part g (demand_each columns heads positive rest known g.vars).part ≡ end
   pub gates : known ++ (demand_each columns heads positive rest known g.vars).gates ≡ whole
 
@@ -90,7 +90,7 @@ pub demand_each-step :
 demand_each-step columns first positive f g end known gates whole t ts ss split made pushed h =
     let n = f.vars in
     let d = demand_of columns first positive t known n in
-    let parts = and_parts _ _ (ap (each_valid (ranges_of columns)) (sym split) ∙ h.valid) in
+    let parts = and_parts _ _ (ap (each_valid (ranges_of_copy_lits columns)) (sym split) ∙ h.valid) in
     let after = after-demand columns first f g known gates d h.within h.first h.known_within (demand_of-fits t columns first positive known n h.within h.first h.known_within parts.0) made pushed in
     let e : List AndGate → ℕ → PartWithGates = λ hs m. demand_each columns first positive ts hs m in
     record {

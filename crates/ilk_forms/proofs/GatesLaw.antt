@@ -21,7 +21,7 @@ use Rattle.ilk_cnf.proofs.SameLiterals.{lit-is}
 use Rattle.ilk_cnf.proofs.Gates.{is_true-negated_lit, satisfies-and_gate_clauses, and_gate_clauses-in, opposites-in, all_true-opposites, new-in}
 use Rattle.ilk_cnf.proofs.Extending.{one_more_if, no_more_if, only_from_if, all_true-left}
 use Rattle.ilk_forms.specs.declared.gates.AndGate.{AndGate}
-use Rattle.ilk_forms.specs.Gates.{bools_are_equal, with_sign, gates_part, gate_value, gate_values, GatesHold, gates_within, have_same_lits_in_any_order, least_var, shared_lit, lits_negated_unless_all, new_gate, LitWithGates, lit_or_new_gate, combined_lit}
+use Rattle.ilk_forms.specs.Gates.{bools_are_equal, with_sign, gates_part, gate_value, gate_values, GatesHold, gates_within, have_same_lits_in_any_order, least_var, lit_of_known_gate, lits_negated_unless_all, new_gate, LitWithGates, lit_or_new_gate, combined_lit}
 
 -- Returns whether the gates are new after the first `n` variables: each has the next variable, and
 -- literals of earlier ones.
@@ -211,8 +211,8 @@ have_same_lits_in_any_order-all p ls ms h =
     (λ all. list_all-weaken (λ l. has_lit l ms) p (has_lit-passes p ms all) ls parts.0)
 
 -- The gate whose literal is shared.
-shared_lit-at : (known : List AndGate) (ls : List Literal) (l : Literal) → shared_lit known ls ≡ Some l → (i : ℕ) × (g : AndGate) × (slice_get known i ≡ Some g) × (g.lit ≡ l) × (have_same_lits_in_any_order ls g.lits ≡ true)
-shared_lit-at known ls l e = by_case (find (λ g. (g.least == least_var ls) && have_same_lits_in_any_order ls g.lits) known) refl e
+lit_of_known_gate-at : (known : List AndGate) (ls : List Literal) (l : Literal) → lit_of_known_gate known ls ≡ Some l → (i : ℕ) × (g : AndGate) × (slice_get known i ≡ Some g) × (g.lit ≡ l) × (have_same_lits_in_any_order ls g.lits ≡ true)
+lit_of_known_gate-at known ls l e = by_case (find (λ g. (g.least == least_var ls) && have_same_lits_in_any_order ls g.lits) known) refl e
   where
     by_case : (o : Option AndGate) → find (λ g. (g.least == least_var ls) && have_same_lits_in_any_order ls g.lits) known ≡ o → option_map (λ g. g.lit) o ≡ Some l →
         (i : ℕ) × (g : AndGate) × (slice_get known i ≡ Some g) × (g.lit ≡ l) × (have_same_lits_in_any_order ls g.lits ≡ true)
@@ -221,15 +221,15 @@ shared_lit-at known ls l e = by_case (find (λ g. (g.least == least_var ls) && h
         let k = find-at (λ g. (g.least == least_var ls) && have_same_lits_in_any_order ls g.lits) known g found in
         (k.0, g, k.1, same_Some g.lit l e, (and_parts _ _ k.2).1)
 
-shared_lit-says : (b : List Bool) (known : List AndGate) (ls : List Literal) (l : Literal) → GatesHold b known → shared_lit known ls ≡ Some l → is_true b l ≡ list_all (is_true b) ls
-shared_lit-says b known ls l holds e =
-    let k = shared_lit-at known ls l e in
+lit_of_known_gate-says : (b : List Bool) (known : List AndGate) (ls : List Literal) (l : Literal) → GatesHold b known → lit_of_known_gate known ls ≡ Some l → is_true b l ≡ list_all (is_true b) ls
+lit_of_known_gate-says b known ls l holds e =
+    let k = lit_of_known_gate-at known ls l e in
     let g = k.1 in
     sym (ap (is_true b) k.3) ∙ GatesHold-at known b k.0 g holds k.2 ∙ sym (have_same_lits_in_any_order-all (is_true b) ls g.lits k.4)
 
-shared_lit-in : (n : ℕ) (known : List AndGate) (ls : List Literal) (l : Literal) → gates_within n known ≡ true → shared_lit known ls ≡ Some l → is_lit_over n l ≡ true
-shared_lit-in n known ls l within e =
-    let k = shared_lit-at known ls l e in
+lit_of_known_gate-in : (n : ℕ) (known : List AndGate) (ls : List Literal) (l : Literal) → gates_within n known ≡ true → lit_of_known_gate known ls ≡ Some l → is_lit_over n l ≡ true
+lit_of_known_gate-in n known ls l within e =
+    let k = lit_of_known_gate-at known ls l e in
     let g = k.1 in
     let here = list_all-slice_get (λ (g : AndGate). is_lit_over n g.lit && is_clause_over n g.lits) known k.0 g within k.2 in
     sym (ap (is_lit_over n) k.3) ∙ (and_parts _ _ here).0
@@ -253,10 +253,10 @@ lit_or_new_gate-means b all ls n None given new = signed-says b all (new_gate al
 
 pub combined_lit-means : (b : List Bool) (known : List AndGate) (all : Bool) (ls : List Literal) (n : ℕ) → GatesHold b known → GatesHold b (combined_lit known all ls n).gates →
     is_true b (combined_lit known all ls n).lit ≡ gate_truth all (map (is_true b) ls)
-combined_lit-means b known all [] n holds new = lit_or_new_gate-means b all [] n (shared_lit known (lits_negated_unless_all all [])) (λ l. shared_lit-says b known (lits_negated_unless_all all []) l holds) new
+combined_lit-means b known all [] n holds new = lit_or_new_gate-means b all [] n (lit_of_known_gate known (lits_negated_unless_all all [])) (λ l. lit_of_known_gate-says b known (lits_negated_unless_all all []) l holds) new
 combined_lit-means b known all (l ∷ []) n holds new = sym (alone all (is_true b l))
 combined_lit-means b known all (l ∷ m ∷ ls) n holds new =
-    lit_or_new_gate-means b all (l ∷ m ∷ ls) n (shared_lit known (lits_negated_unless_all all (l ∷ m ∷ ls))) (λ k. shared_lit-says b known (lits_negated_unless_all all (l ∷ m ∷ ls)) k holds) new
+    lit_or_new_gate-means b all (l ∷ m ∷ ls) n (lit_of_known_gate known (lits_negated_unless_all all (l ∷ m ∷ ls))) (λ k. lit_of_known_gate-says b known (lits_negated_unless_all all (l ∷ m ∷ ls)) k holds) new
 
 -- New gates fit, and the one literal is over the variables afterwards.
 abbrev LitFits : ℕ → LitWithGates → Type 0
@@ -268,10 +268,10 @@ lit_or_new_gate-fits all ls n None given inside =
     (and_from _ _ (eq-eqb (n + 1) (n + 1) refl) (and_from _ _ (lits_negated_unless_all-in all n ls inside) refl), signed-in all (n + 1) (new_gate all ls n).lit (new-in n all))
 
 combined_lit-both : (known : List AndGate) (all : Bool) (ls : List Literal) (n : ℕ) → gates_within n known ≡ true → is_clause_over n ls ≡ true → LitFits n (combined_lit known all ls n)
-combined_lit-both known all [] n within inside = lit_or_new_gate-fits all [] n (shared_lit known (lits_negated_unless_all all [])) (λ l. shared_lit-in n known (lits_negated_unless_all all []) l within) inside
+combined_lit-both known all [] n within inside = lit_or_new_gate-fits all [] n (lit_of_known_gate known (lits_negated_unless_all all [])) (λ l. lit_of_known_gate-in n known (lits_negated_unless_all all []) l within) inside
 combined_lit-both known all (l ∷ []) n within inside = (refl, is_lit_over-more n (n + 0) l (omega arith) (and_parts (is_lit_over n l) true inside).0)
 combined_lit-both known all (l ∷ m ∷ ls) n within inside =
-    lit_or_new_gate-fits all (l ∷ m ∷ ls) n (shared_lit known (lits_negated_unless_all all (l ∷ m ∷ ls))) (λ k. shared_lit-in n known (lits_negated_unless_all all (l ∷ m ∷ ls)) k within) inside
+    lit_or_new_gate-fits all (l ∷ m ∷ ls) n (lit_of_known_gate known (lits_negated_unless_all all (l ∷ m ∷ ls))) (λ k. lit_of_known_gate-in n known (lits_negated_unless_all all (l ∷ m ∷ ls)) k within) inside
 
 pub combined_lit-fits : (known : List AndGate) (all : Bool) (ls : List Literal) (n : ℕ) → gates_within n known ≡ true → is_clause_over n ls ≡ true → gates_fit n (combined_lit known all ls n).gates ≡ true
 combined_lit-fits known all ls n within inside = (combined_lit-both known all ls n within inside).0

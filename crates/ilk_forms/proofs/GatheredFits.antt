@@ -11,11 +11,11 @@ use Rattle.ilk_cnf.proofs.Literals.{is_clause_over-more}
 use Rattle.ilk_ir.specs.Tree.{Tree, yes, no, is, all_of, any_of, negation, Trees, none, more, tree_valid, each_valid}
 use Rattle.ilk_forms.specs.declared.copy.VarValueAndBoundLits.{VarValueAndBoundLits}
 use Rattle.ilk_forms.specs.declared.gates.AndGate.{AndGate}
-use Rattle.ilk_forms.specs.Leaf.{value_lit, has_lits_within_vars, ranges_of}
+use Rattle.ilk_forms.specs.Leaf.{value_lit, has_lits_within_vars, ranges_of_copy_lits}
 use Rattle.ilk_forms.specs.Bound.{bound_lit_stated_by_or}
 use Rattle.ilk_forms.specs.Size.{tree_size, trees_size}
-use Rattle.ilk_forms.specs.Gates.{bools_are_equal, gates_part, gates_within, LitWithGates, lits_negated_unless_all, new_gate, lit_or_new_gate, shared_lit, combined_lit}
-use Rattle.ilk_forms.specs.Gathered.{LitsWithGates, no_lits, one_lit, optional_lit_or, append_lits, signed_lit_as_lits_with_gates, combine_lits_into_one, keep_lits_if_same_gate, is_negated_gate, form_to_and_or_lits, forms_to_and_or_lits}
+use Rattle.ilk_forms.specs.Gates.{bools_are_equal, gates_part, gates_within, LitWithGates, lits_negated_unless_all, new_gate, lit_or_new_gate, lit_of_known_gate, combined_lit}
+use Rattle.ilk_forms.specs.Gathered.{LitsWithGates, no_lits, one_lit, optional_lit_or, append_lits, signed_lit_as_lits_with_gates, combine_lits_into_one, keep_lits_if_same_gate, is_negation_of_and_or_or, form_to_and_or_lits, forms_to_and_or_lits}
 use Rattle.ilk_forms.proofs.BoundLaw.{any-in}
 use Rattle.ilk_forms.proofs.Reading.{has_lits_within_vars-more, value_lit-in}
 use Rattle.ilk_forms.proofs.GatesLaw.{gates_fit, signed-in, gates_fit-append, gates_within-append, gates_within-more, gates_fit-within, gates_part-append, combined_lit-fits, combined_lit-in}
@@ -86,7 +86,7 @@ negation-fits known n false positive g h inside marked other = other
 mutual
   pub form-fits :
       (t : Tree) (columns : List VarValueAndBoundLits) (all positive : Bool) (known : List AndGate) (n : ℕ) →
-      has_lits_within_vars n columns ≡ true → gates_within n known ≡ true → tree_valid (ranges_of columns) t ≡ true →
+      has_lits_within_vars n columns ≡ true → gates_within n known ≡ true → tree_valid (ranges_of_copy_lits columns) t ≡ true →
       Fits n (form_to_and_or_lits columns all positive t known n)
   form-fits yes columns all positive known n within inside valid = merge-fits known n all positive no_lits inside (no_lits-fits n)
   form-fits no columns all positive known n within inside valid = merge-fits known n all (not positive) no_lits inside (no_lits-fits n)
@@ -98,12 +98,12 @@ mutual
       optional_lit-fits positive (bound_lit_stated_by_or columns ts) n (keep_lits_if_same_gate known n all (not positive) g) (λ l e. any-in ts columns n l within e)
       (merge-fits known n all (not positive) g inside (forms-fits ts columns (not positive) positive known n within inside valid))
   form-fits (negation t) columns all positive known n within inside valid =
-      negation-fits known n (is_negated_gate t) positive (form_to_and_or_lits columns true false t known n) (form_to_and_or_lits columns all (not positive) t known n) inside
+      negation-fits known n (is_negation_of_and_or_or t) positive (form_to_and_or_lits columns true false t known n) (form_to_and_or_lits columns all (not positive) t known n) inside
       (form-fits t columns true false known n within inside valid) (form-fits t columns all (not positive) known n within inside valid)
 
   pub forms-fits :
       (ts : Trees) (columns : List VarValueAndBoundLits) (all positive : Bool) (known : List AndGate) (n : ℕ) →
-      has_lits_within_vars n columns ≡ true → gates_within n known ≡ true → each_valid (ranges_of columns) ts ≡ true →
+      has_lits_within_vars n columns ≡ true → gates_within n known ≡ true → each_valid (ranges_of_copy_lits columns) ts ≡ true →
       Fits n (forms_to_and_or_lits columns all positive ts known n)
   forms-fits none columns all positive known n within inside valid = no_lits-fits n
   forms-fits (more t ts) columns all positive known n within inside valid =
@@ -140,9 +140,9 @@ lit_or_new_gate-few all ls n None = (omega arith, omega (arith, gate-few (new_ga
 combined_lit-few :
     (known : List AndGate) (all : Bool) (ls : List Literal) (n : ℕ) →
     (length (combined_lit known all ls n).gates ≤ 1) × (length (gates_part (combined_lit known all ls n).gates 0).clauses ≤ length ls + 1)
-combined_lit-few known all [] n = lit_or_new_gate-few all [] n (shared_lit known (lits_negated_unless_all all []))
+combined_lit-few known all [] n = lit_or_new_gate-few all [] n (lit_of_known_gate known (lits_negated_unless_all all []))
 combined_lit-few known all (l ∷ []) n = (omega arith, omega arith)
-combined_lit-few known all (l ∷ m ∷ ls) n = lit_or_new_gate-few all (l ∷ m ∷ ls) n (shared_lit known (lits_negated_unless_all all (l ∷ m ∷ ls)))
+combined_lit-few known all (l ∷ m ∷ ls) n = lit_or_new_gate-few all (l ∷ m ∷ ls) n (lit_of_known_gate known (lits_negated_unless_all all (l ∷ m ∷ ls)))
 
 combine-few : (known : List AndGate) (n : ℕ) (all positive : Bool) (k : ℕ) (g : LitsWithGates) → Few k g → Few (k + 1) (signed_lit_as_lits_with_gates positive (combine_lits_into_one known n all g))
 combine-few known n all positive k g h =
@@ -198,7 +198,7 @@ mutual
       optional_lit-few positive (bound_lit_stated_by_or columns ts) (trees_size ts) (keep_lits_if_same_gate known n all (not positive) g)
       (merge-few known n all (not positive) (trees_size ts) g (forms-few ts columns (not positive) positive known n))
   form-few (negation t) columns all positive known n =
-      negation-few known n (is_negated_gate t) positive (tree_size t) (form_to_and_or_lits columns true false t known n) (form_to_and_or_lits columns all (not positive) t known n)
+      negation-few known n (is_negation_of_and_or_or t) positive (tree_size t) (form_to_and_or_lits columns true false t known n) (form_to_and_or_lits columns all (not positive) t known n)
       (form-few t columns true false known n) (form-few t columns all (not positive) known n)
 
   pub forms-few : (ts : Trees) (columns : List VarValueAndBoundLits) (all positive : Bool) (known : List AndGate) (n : ℕ) → Few (trees_size ts) (forms_to_and_or_lits columns all positive ts known n)

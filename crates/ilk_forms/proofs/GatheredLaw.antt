@@ -8,10 +8,10 @@ use Rattle.ilk_cnf.specs.Truth.{is_true}
 use Rattle.ilk_ir.specs.Tree.{Tree, yes, no, is, all_of, any_of, negation, Trees, none, more, tree_holds, each_holds, some_holds, tree_valid, each_valid, is_value_of_var}
 use Rattle.ilk_forms.specs.declared.copy.VarValueAndBoundLits.{VarValueAndBoundLits}
 use Rattle.ilk_forms.specs.declared.gates.AndGate.{AndGate}
-use Rattle.ilk_forms.specs.Leaf.{value_lit, ranges_of}
+use Rattle.ilk_forms.specs.Leaf.{value_lit, ranges_of_copy_lits}
 use Rattle.ilk_forms.specs.Bound.{bound_lit_stated_by_or, has_bound_lit_for_or}
 use Rattle.ilk_forms.specs.Gates.{bools_are_equal, with_sign, GatesHold, combined_lit}
-use Rattle.ilk_forms.specs.Gathered.{LitsWithGates, no_lits, optional_lit_or, append_lits, signed_lit_as_lits_with_gates, combine_lits_into_one, keep_lits_if_same_gate, is_negated_gate, form_to_and_or_lits, forms_to_and_or_lits}
+use Rattle.ilk_forms.specs.Gathered.{LitsWithGates, no_lits, optional_lit_or, append_lits, signed_lit_as_lits_with_gates, combine_lits_into_one, keep_lits_if_same_gate, is_negation_of_and_or_or, form_to_and_or_lits, forms_to_and_or_lits}
 use Rattle.ilk_forms.proofs.BoundForms.{Stands}
 use Rattle.ilk_forms.proofs.BoundLaw.{any-says}
 use Rattle.ilk_forms.proofs.Reading.{Reads}
@@ -76,7 +76,7 @@ negation-means b known n false all positive truth g h holds new marked other = o
 mutual
   pub form-means :
       (t : Tree) (b : List Bool) (columns : List VarValueAndBoundLits) (ranges ws : List ℕ) (all positive : Bool) (known : List AndGate) (n : ℕ) →
-      Reads b columns ranges ws → tree_valid (ranges_of columns) t ≡ true → GatesHold b known →
+      Reads b columns ranges ws → tree_valid (ranges_of_copy_lits columns) t ≡ true → GatesHold b known →
       GatesHold b (form_to_and_or_lits columns all positive t known n).gates →
       gate_truth all (map (is_true b) (form_to_and_or_lits columns all positive t known n).lits) ≡ bools_are_equal positive (tree_holds ws t)
   form-means yes b columns ranges ws all positive known n r valid holds new = merge-means b known n all positive (bools_are_equal positive true) no_lits holds new (λ _. none_means positive ∙ constant positive)
@@ -92,13 +92,13 @@ mutual
       (λ kept. merge-means b known n all (not positive) (bools_are_equal positive (some_holds ws ts)) g holds kept
       (λ made. forms-means ts b columns ranges ws (not positive) positive known n r valid holds made ∙ some-are ws positive ts))
   form-means (negation t) b columns ranges ws all positive known n r valid holds new =
-      negation-means b known n (is_negated_gate t) all positive (tree_holds ws t) (form_to_and_or_lits columns true false t known n) (form_to_and_or_lits columns all (not positive) t known n) holds new
+      negation-means b known n (is_negation_of_and_or_or t) all positive (tree_holds ws t) (form_to_and_or_lits columns true false t known n) (form_to_and_or_lits columns all (not positive) t known n) holds new
       (λ made. form-means t b columns ranges ws true false known n r valid holds made)
       (λ made. form-means t b columns ranges ws all (not positive) known n r valid holds made)
 
   pub forms-means :
       (ts : Trees) (b : List Bool) (columns : List VarValueAndBoundLits) (ranges ws : List ℕ) (all positive : Bool) (known : List AndGate) (n : ℕ) →
-      Reads b columns ranges ws → each_valid (ranges_of columns) ts ≡ true → GatesHold b known →
+      Reads b columns ranges ws → each_valid (ranges_of_copy_lits columns) ts ≡ true → GatesHold b known →
       GatesHold b (forms_to_and_or_lits columns all positive ts known n).gates →
       gate_truth all (map (is_true b) (forms_to_and_or_lits columns all positive ts known n).lits) ≡ forms_are ws all positive ts
   forms-means none b columns ranges ws all positive known n r valid holds new = none_means all

@@ -10,7 +10,7 @@ use Rattle.ilk_cnf.proofs.Gates.{with_part-and_then}
 use Rattle.ilk_ir.specs.Tree.{Tree, Trees, more, each_valid}
 use Rattle.ilk_forms.specs.declared.copy.VarValueAndBoundLits.{VarValueAndBoundLits}
 use Rattle.ilk_forms.specs.declared.gates.AndGate.{AndGate}
-use Rattle.ilk_forms.specs.Leaf.{has_lits_within_vars, ranges_of}
+use Rattle.ilk_forms.specs.Leaf.{has_lits_within_vars, ranges_of_copy_lits}
 use Rattle.ilk_forms.specs.Gates.{bools_are_equal, gates_part, gates_within, LitWithGates, combined_lit}
 use Rattle.ilk_forms.specs.Gathered.{LitsWithGates, signed_lit_as_lits_with_gates, combine_lits_into_one, keep_lits_if_same_gate, form_to_and_or_lits, forms_to_and_or_lits}
 use Rattle.ilk_forms.proofs.Reading.{has_lits_within_vars-more}
@@ -114,7 +114,7 @@ lits-in f h g ls fits made is = ap (λ (k : Formula). is_clause_over k.vars ls) 
 pub record Gathering (columns : List VarValueAndBoundLits) (all positive : Bool) (cnf : Formula) (known : List AndGate) (done : List Literal) (rest : Trees) (whole : List Literal) (last : List AndGate) (end : Formula) : Type 0 where
   pub within : has_lits_within_vars cnf.vars columns ≡ true
   pub inside : gates_within cnf.vars known ≡ true
-  pub valid : each_valid (ranges_of columns) rest ≡ true
+  pub valid : each_valid (ranges_of_copy_lits columns) rest ≡ true
   pub lits : done ++ (forms_to_and_or_lits columns all positive rest known cnf.vars).lits ≡ whole
   pub gates : known ++ (forms_to_and_or_lits columns all positive rest known cnf.vars).gates ≡ last
   pub made : with_part cnf (gates_part (forms_to_and_or_lits columns all positive rest known cnf.vars).gates cnf.vars) ≡ end

@@ -12,7 +12,7 @@ use Rattle.ilk_ir.specs.Tree.{value_valid, is_value_of_var}
 use Rattle.ilk_ir.specs.System.{in_ranges}
 use Rattle.ilk_forms.specs.declared.copy.VarValueAndBoundLits.{VarValueAndBoundLits}
 use Rattle.ilk_forms.specs.Copy.{LiteralsEncode}
-use Rattle.ilk_forms.specs.Leaf.{value_lit, has_lits_within_vars, ranges_of}
+use Rattle.ilk_forms.specs.Leaf.{value_lit, has_lits_within_vars, ranges_of_copy_lits}
 use Rattle.ilk_forms.specs.Bound.{bound_lit, copy_has_bound_lit}
 use Rattle.ilk_forms.proofs.BoundForms.{Stands, at_most, stands-left}
 use Rattle.ilk_forms.proofs.BoundLaw.{bound-says, bound-in}
@@ -32,7 +32,7 @@ item-in n [] c h k = absurd (omega (arith, ltb-true c 0 k))
 item-in n (l ∷ ls) zero h k = (and_parts _ _ h).0
 item-in n (l ∷ ls) (suc c) h k = item-in n ls c (and_parts _ _ h).1 (less c (length ls) k)
 
-pub value_lit-in : (columns : List VarValueAndBoundLits) (v c n : ℕ) → has_lits_within_vars n columns ≡ true → value_valid (ranges_of columns) v c ≡ true → is_lit_over n (value_lit columns v c) ≡ true
+pub value_lit-in : (columns : List VarValueAndBoundLits) (v c n : ℕ) → has_lits_within_vars n columns ≡ true → value_valid (ranges_of_copy_lits columns) v c ≡ true → is_lit_over n (value_lit columns v c) ≡ true
 value_lit-in [] v c n h k = absurd (false≢true k)
 value_lit-in (column ∷ columns) zero c n h k = item-in n column.values c (and_parts _ _ (and_parts _ _ h).0).0 k
 value_lit-in (column ∷ columns) (suc v) c n h k = value_lit-in columns v c n (and_parts _ _ h).1 k
@@ -54,7 +54,8 @@ item-says a (l ∷ ls) w v (suc j) (suc c) h k =
     let same : v + 1 + c ≡ v + suc c = omega arith in
     item-says a ls w (v + 1) j c rest (less c (length ls) k) ∙ ap (eqb w) same
 
-pub value_lit-says : (a : List Bool) (columns : List VarValueAndBoundLits) (ranges ws : List ℕ) (v c : ℕ) → LiteralsEncode a columns ranges ws → value_valid (ranges_of columns) v c ≡ true → is_true a (value_lit columns v c) ≡ is_value_of_var ws v c
+pub value_lit-says : (a : List Bool) (columns : List VarValueAndBoundLits) (ranges ws : List ℕ) (v c : ℕ) → LiteralsEncode a columns ranges ws → value_valid (ranges_of_copy_lits columns) v c ≡ true
+    → is_true a (value_lit columns v c) ≡ is_value_of_var ws v c
 value_lit-says a [] ranges ws v c h k = absurd (false≢true k)
 value_lit-says a (column ∷ columns) [] ws v c h k = absurd h
 value_lit-says a (column ∷ columns) (range ∷ ranges) [] v c h k = absurd h
@@ -64,8 +65,8 @@ value_lit-says a (column ∷ columns) (range ∷ ranges) (w ∷ ws) (suc v) c h 
 -- Holds if the literals say the values and bounds of the copy's variables.
 pub record Reads (a : List Bool) (columns : List VarValueAndBoundLits) (ranges ws : List ℕ) : Type 0 where
   pub within : has_lits_within_vars (length a) columns ≡ true
-  pub says : (v c : ℕ) → value_valid (ranges_of columns) v c ≡ true → is_true a (value_lit columns v c) ≡ is_value_of_var ws v c
-  pub bounded : (v k : ℕ) → value_valid (ranges_of columns) v k ≡ true → 0 < k → Stands a (bound_lit columns v k) (copy_has_bound_lit ranges v k) (at_most ws v k)
+  pub says : (v c : ℕ) → value_valid (ranges_of_copy_lits columns) v c ≡ true → is_true a (value_lit columns v c) ≡ is_value_of_var ws v c
+  pub bounded : (v k : ℕ) → value_valid (ranges_of_copy_lits columns) v k ≡ true → 0 < k → Stands a (bound_lit columns v k) (copy_has_bound_lit ranges v k) (at_most ws v k)
 
 pub reads : (a : List Bool) (columns : List VarValueAndBoundLits) (ranges ws : List ℕ) (n : ℕ) → length a ≡ n → has_lits_within_vars n columns ≡ true → LiteralsEncode a columns ranges ws → in_ranges ws ranges ≡ true → Reads a columns ranges ws
 reads a columns ranges ws n size inside h fit = record {

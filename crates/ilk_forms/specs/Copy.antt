@@ -16,7 +16,7 @@ pub record PartWithOneVarLits : Type 0 where
   pub column : VarValueAndBoundLits
 
 -- A formula part, and the literals of each variable of a copy (`columns`).
-pub record PartWithAllVarLits : Type 0 where
+pub record FormulaPartAndAllVarLits : Type 0 where
   pub part : FormulaPart
   pub columns : List VarValueAndBoundLits
 
@@ -39,7 +39,7 @@ system_var_part range n =
     }
 
 -- Puts the part of one variable before the later ones; its literals come before theirs.
-abbrev pub prepend_var : PartWithOneVarLits → (ℕ → PartWithAllVarLits) → PartWithAllVarLits
+abbrev pub prepend_var : PartWithOneVarLits → (ℕ → FormulaPartAndAllVarLits) → FormulaPartAndAllVarLits
 prepend_var one later =
     record {
       part = and_then one.part (λ m. (later m).part);
@@ -48,7 +48,7 @@ prepend_var one later =
 
 -- The formula part, after the first `n` variables, with those variables of the system that have
 -- range `r`, in order. Their literals replace those in the list, one entry for each variable.
-abbrev pub range_class_part : ℕ → List ℕ → List VarValueAndBoundLits → ℕ → PartWithAllVarLits
+abbrev pub range_class_part : ℕ → List ℕ → List VarValueAndBoundLits → ℕ → FormulaPartAndAllVarLits
 range_class_part r [] columns n = record { part = empty_part n; columns = [] }
 range_class_part r (range ∷ ranges) [] n = record { part = empty_part n; columns = [] }
 range_class_part r (range ∷ ranges) (column ∷ columns) n =
@@ -58,7 +58,7 @@ range_class_part r (range ∷ ranges) (column ∷ columns) n =
 
 -- The formula part, after the first `n` variables, with the variables of the system that have a
 -- range below `k`, the greatest range first. Their literals replace those in the list.
-abbrev pub range_classes_below_part : ℕ → List ℕ → List VarValueAndBoundLits → ℕ → PartWithAllVarLits
+abbrev pub range_classes_below_part : ℕ → List ℕ → List VarValueAndBoundLits → ℕ → FormulaPartAndAllVarLits
 range_classes_below_part zero ranges columns n = record { part = empty_part n; columns = columns }
 range_classes_below_part (suc r) ranges columns n =
     record {
@@ -73,7 +73,7 @@ no_lits_for_each_var ranges = map (λ range. record { values = []; bounds = [] }
 -- The formula part of a copy with these ranges, after the first `n` variables. The variables of the
 -- system are in the order of their ranges, the greatest first, and those of one range in the
 -- system's order. The literals are in the system's order.
-unfoldable pub copy_part : List ℕ → ℕ → PartWithAllVarLits
+unfoldable pub copy_part : List ℕ → ℕ → FormulaPartAndAllVarLits
 copy_part ranges n = range_classes_below_part MAX_RANGES ranges (no_lits_for_each_var ranges) n
 
 -- The number of variables of a copy with these ranges: for bits, values and bounds.

@@ -50,8 +50,8 @@ least_var ls = min_with_least_var (2 ^ 64 - 1) ls
 
 -- The literal of the first gate with these literals, or `None` if there is none. The least variable
 -- is compared first, because that is quick.
-abbrev pub shared_lit : List AndGate → List Literal → Option Literal
-shared_lit gates ls = option_map (λ g. g.lit) (find (λ g. (g.least == least_var ls) && have_same_lits_in_any_order ls g.lits) gates)
+abbrev pub lit_of_known_gate : List AndGate → List Literal → Option Literal
+lit_of_known_gate gates ls = option_map (λ g. g.lit) (find (λ g. (g.least == least_var ls) && have_same_lits_in_any_order ls g.lits) gates)
 
 -- New gates, and one result literal.
 pub record LitWithGates : Type 0 where
@@ -83,7 +83,7 @@ lit_or_new_gate all ls n None = record { gates = new_gate all ls n ∷ []; lit =
 -- one a new gate.
 abbrev pub combined_lit : List AndGate → Bool → List Literal → ℕ → LitWithGates
 combined_lit known all (l ∷ []) n = record { gates = []; lit = l }
-combined_lit known all ls n = lit_or_new_gate all ls n (shared_lit known (lits_negated_unless_all all ls))
+combined_lit known all ls n = lit_or_new_gate all ls n (lit_of_known_gate known (lits_negated_unless_all all ls))
 
 -- Returns whether all literals of the gates are over the variables 1 to `n`.
 abbrev pub gates_within : ℕ → List AndGate → Bool

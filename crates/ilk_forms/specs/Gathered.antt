@@ -52,10 +52,10 @@ keep_lits_if_same_gate known n outer inner g =
 
 -- Returns whether the form is the negation of an And or Or. The negation of such a form, a double
 -- negation, is a mark: it stands for one literal, and no And or Or around it takes its parts in.
-abbrev pub is_negated_gate : Tree → Bool
-is_negated_gate (negation (all_of ts)) = true
-is_negated_gate (negation (any_of ts)) = true
-is_negated_gate _ = false
+abbrev pub is_negation_of_and_or_or : Tree → Bool
+is_negation_of_and_or_or (negation (all_of ts)) = true
+is_negation_of_and_or_or (negation (any_of ts)) = true
+is_negation_of_and_or_or _ = false
 
 -- Literals that represent the form, or its negation unless `positive`. That formula holds exactly
 -- if all of them (`all`), or some (otherwise), are true. The gates `known` and the first `n`
@@ -70,7 +70,7 @@ abbrev mutual
   form_to_and_or_lits columns all positive (any_of ts) known n =
       optional_lit_or positive (bound_lit_stated_by_or columns ts) (keep_lits_if_same_gate known n all (not positive) (forms_to_and_or_lits columns (not positive) positive ts known n))
   form_to_and_or_lits columns all positive (negation t) known n =
-      if is_negated_gate t
+      if is_negation_of_and_or_or t
       then signed_lit_as_lits_with_gates positive (combine_lits_into_one known n true (form_to_and_or_lits columns true false t known n))
       else form_to_and_or_lits columns all (not positive) t known n
 

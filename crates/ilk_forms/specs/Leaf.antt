@@ -11,8 +11,8 @@ abbrev pub value_lit : List VarValueAndBoundLits → ℕ → ℕ → Literal
 value_lit columns v c = unwrap_or (option_and_then (λ column. slice_get column.values c) (slice_get columns v)) (positive_lit 0)
 
 -- The range (number of values) of each variable of a copy, by the copy's literals.
-abbrev pub ranges_of : List VarValueAndBoundLits → List ℕ
-ranges_of columns = map (λ column. length column.values) columns
+abbrev pub ranges_of_copy_lits : List VarValueAndBoundLits → List ℕ
+ranges_of_copy_lits columns = map (λ column. length column.values) columns
 
 -- Returns whether all literals of the copy are over the variables 1 to `n`.
 abbrev pub has_lits_within_vars : ℕ → List VarValueAndBoundLits → Bool

@@ -11,14 +11,14 @@ use Rattle.ilk_forms.specs.Demand.{one_clause_part}
 
 -- The instances of form `t`, after the first `n` variables: for each a literal that says that it is
 -- satisfied.
-abbrev pub instance_lits : List VarValueAndBoundLits → Tree → ℕ → LitsWithGates
-instance_lits columns t n = form_to_and_or_lits columns true true t [] n
+abbrev pub one_lit_per_instance : List VarValueAndBoundLits → Tree → ℕ → LitsWithGates
+one_lit_per_instance columns t n = form_to_and_or_lits columns true true t [] n
 
 -- The formula part, after the first `n` variables, that says that form `t` fails for the copy.
 abbrev pub form_fails_part : List VarValueAndBoundLits → Tree → ℕ → FormulaPart
 form_fails_part columns t n =
-    and_then (gates_part (instance_lits columns t n).gates n) (one_clause_part (map negated_lit (instance_lits columns t n).lits))
+    and_then (gates_part (one_lit_per_instance columns t n).gates n) (one_clause_part (map negated_lit (one_lit_per_instance columns t n).lits))
 
 -- The truth values of the new variables of `form_fails_part`, after assignment `a`.
 abbrev pub form_fails_bits : List VarValueAndBoundLits → Tree → List Bool → List Bool
-form_fails_bits columns t a = gate_values a (instance_lits columns t (length a)).gates
+form_fails_bits columns t a = gate_values a (one_lit_per_instance columns t (length a)).gates

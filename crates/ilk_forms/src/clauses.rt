@@ -7,7 +7,7 @@ ghost use Rattle.ilk_ir.specs.Form.{tree_of, trees_of};
 ghost use Rattle.ilk_ir.specs.Tree.{all_of, more, tree_holds, each_holds, tree_valid, each_valid};
 ghost use Rattle.ilk_ir.specs.System.{in_ranges};
 ghost use Rattle.ilk_forms.specs.Copy.{LiteralsEncode};
-ghost use Rattle.ilk_forms.specs.Leaf.{has_lits_within_vars, ranges_of};
+ghost use Rattle.ilk_forms.specs.Leaf.{has_lits_within_vars, ranges_of_copy_lits};
 ghost use Rattle.ilk_forms.specs.Gates.{gates_within};
 ghost use Rattle.ilk_forms.specs.Gathered.{forms_to_and_or_lits};
 ghost use Rattle.ilk_forms.specs.Demand.{one_clause_part, some_lit_demand_with_gates, demand_of, demand_each, some_lit_or_form_part, some_lit_or_form_bits};
@@ -52,7 +52,7 @@ fn demand_some(
     requires within { IsTrue (has_lits_within_vars cnf.old.vars table.now) }
     requires gates { IsTrue (gates_within cnf.old.vars gates.old) }
     requires first { IsTrue (is_clause_over cnf.old.vars first.now) }
-    requires valid { IsTrue (each_valid (ranges_of table.now) (trees_of forms.now)) }
+    requires valid { IsTrue (each_valid (ranges_of_copy_lits table.now) (trees_of forms.now)) }
     ensures made { OnOk result
         (cnf.new
         ≡ with_part cnf.old
@@ -83,7 +83,7 @@ fn demand_of(
     requires within { IsTrue (has_lits_within_vars cnf.old.vars table.now) }
     requires gates { IsTrue (gates_within cnf.old.vars gates.old) }
     requires first { IsTrue (is_clause_over cnf.old.vars first.now) }
-    requires valid { IsTrue (tree_valid (ranges_of table.now) (tree_of form.now)) }
+    requires valid { IsTrue (tree_valid (ranges_of_copy_lits table.now) (tree_of form.now)) }
     ensures made { OnOk result
         (cnf.new
         ≡ with_part cnf.old
@@ -127,7 +127,7 @@ fn demand_each(
     requires within { IsTrue (has_lits_within_vars cnf.old.vars table.now) }
     requires gates { IsTrue (gates_within cnf.old.vars gates.old) }
     requires first { IsTrue (is_clause_over cnf.old.vars first.now) }
-    requires valid { IsTrue (each_valid (ranges_of table.now) (trees_of forms.now)) }
+    requires valid { IsTrue (each_valid (ranges_of_copy_lits table.now) (trees_of forms.now)) }
     ensures made { OnOk result
         (cnf.new
         ≡ with_part cnf.old
@@ -160,7 +160,7 @@ pub fn demand_some_lit_or_form(
 ) -> Result<(), AllocError>
     requires within { IsTrue (has_lits_within_vars cnf.old.vars table.now) }
     requires first { IsTrue (is_clause_over cnf.old.vars first.now) }
-    requires valid { IsTrue (tree_valid (ranges_of table.now) (tree_of form.now)) }
+    requires valid { IsTrue (tree_valid (ranges_of_copy_lits table.now) (tree_of form.now)) }
     ensures made { OnOk result
         (cnf.new
         ≡ with_part cnf.old (some_lit_or_form_part table.now first.now
@@ -196,8 +196,8 @@ pub fn demand_form_and_forms(
     forms: &[Form],
 ) -> Result<(), AllocError>
     requires within { IsTrue (has_lits_within_vars cnf.old.vars table.now) }
-    requires form { IsTrue (tree_valid (ranges_of table.now) (tree_of form.now)) }
-    requires valid { IsTrue (each_valid (ranges_of table.now) (trees_of forms.now)) }
+    requires form { IsTrue (tree_valid (ranges_of_copy_lits table.now) (tree_of form.now)) }
+    requires valid { IsTrue (each_valid (ranges_of_copy_lits table.now) (trees_of forms.now)) }
     ensures made { OnOk result
         (cnf.new
         ≡ with_part cnf.old

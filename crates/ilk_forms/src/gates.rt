@@ -3,7 +3,7 @@ ghost use Rattle.std.specs.List.{list_all};
 ghost use Rattle.ilk_cnf.specs.Formula.{is_clause_over};
 ghost use Rattle.ilk_cnf.specs.Literal.{has_lit};
 ghost use Rattle.ilk_cnf.specs.Part.{with_part};
-ghost use Rattle.ilk_forms.specs.Gates.{with_sign, gates_part, and_gate_from_lits, least_var, have_same_lits_in_any_order, shared_lit, lits_negated_unless_all, combined_lit, lit_or_new_gate};
+ghost use Rattle.ilk_forms.specs.Gates.{with_sign, gates_part, and_gate_from_lits, least_var, have_same_lits_in_any_order, lit_of_known_gate, lits_negated_unless_all, combined_lit, lit_or_new_gate};
 
 use ilk_base::Row;
 use ilk_cnf::{Cnf, Lit, Lits, define_and_gate, negated_lits};
@@ -56,8 +56,8 @@ fn least_var(lits: &[Lit]) -> u64
     least
 }
 
-fn shared_lit(gates: &Gates, lits: &[Lit]) -> Option<Lit>
-    ensures shared { result ≡ shared_lit gates.now lits.now }
+fn lit_of_known_gate(gates: &Gates, lits: &[Lit]) -> Option<Lit>
+    ensures shared { result ≡ lit_of_known_gate gates.now lits.now }
 {
     let least = least_var(lits);
     for gate in gates.as_slice() {
@@ -130,19 +130,20 @@ fn gate_lit(
     requires { IsTrue (is_clause_over cnf.old.vars lits.now) }
     ensures lit { IfOk result
         (λ l. l ≡ (lit_or_new_gate all lits.now cnf.old.vars
-        (shared_lit gates.old (lits_negated_unless_all all
+        (lit_of_known_gate gates.old (lits_negated_unless_all all
         lits.now))).lit) }
     ensures gates { OnOk result
-        (gates.new ≡ gates.old ++ (lit_or_new_gate all lits.now cnf.old.vars (shared_lit gates.old
+        (gates.new ≡ gates.old
+        ++ (lit_or_new_gate all lits.now cnf.old.vars (lit_of_known_gate gates.old
         (lits_negated_unless_all all lits.now))).gates) }
     ensures made { OnOk result
         (cnf.new ≡ with_part cnf.old
         (gates_part (lit_or_new_gate all lits.now cnf.old.vars
-        (shared_lit gates.old (lits_negated_unless_all all
+        (lit_of_known_gate gates.old (lits_negated_unless_all all
         lits.now))).gates cnf.old.vars)) }
 {
     let key = lits_negated_unless_all(alloc, all, lits)?;
-    match shared_lit(gates, key.as_slice()) {
+    match lit_of_known_gate(gates, key.as_slice()) {
         Some(lit) => Ok(with_sign(all, lit)),
         None => Ok(with_sign(all, add_gate(alloc, cnf, gates, all, key)?)),
     }

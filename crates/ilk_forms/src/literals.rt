@@ -3,9 +3,9 @@ ghost use Rattle.ilk_cnf.specs.Formula.{is_lit_over, is_clause_over};
 ghost use Rattle.ilk_cnf.specs.Part.{with_part};
 ghost use Rattle.ilk_ir.specs.Form.{tree_of, trees_of};
 ghost use Rattle.ilk_ir.specs.Tree.{negation, tree_valid, each_valid, value_valid};
-ghost use Rattle.ilk_forms.specs.Leaf.{value_lit, has_lits_within_vars, ranges_of};
+ghost use Rattle.ilk_forms.specs.Leaf.{value_lit, has_lits_within_vars, ranges_of_copy_lits};
 ghost use Rattle.ilk_forms.specs.Gates.{with_sign, gates_part, gates_within};
-ghost use Rattle.ilk_forms.specs.Gathered.{is_negated_gate, keep_lits_if_same_gate, combine_lits_into_one, signed_lit_as_lits_with_gates, form_to_and_or_lits, forms_to_and_or_lits};
+ghost use Rattle.ilk_forms.specs.Gathered.{is_negation_of_and_or_or, keep_lits_if_same_gate, combine_lits_into_one, signed_lit_as_lits_with_gates, form_to_and_or_lits, forms_to_and_or_lits};
 
 use crate::bound::bound_lit_stated_by_or;
 use crate::copy::CopyLits;
@@ -17,7 +17,7 @@ use std::alloc::{AllocError, Global};
 /// Returns the literal of a copy that says that variable `v` has the value `c`. `table` has the
 /// copy's literals.
 pub(crate) fn value_lit(table: &CopyLits, v: u32, c: u8) -> Lit
-    requires { IsTrue (value_valid (ranges_of table.now) v c) }
+    requires { IsTrue (value_valid (ranges_of_copy_lits table.now) v c) }
     ensures leaf { result ≡ value_lit table.now v c }
     ensures within { (n : ℕ) → IsTrue (has_lits_within_vars n table.now) →
         IsTrue (is_lit_over n result) }
@@ -69,7 +69,7 @@ fn take_in(
 }
 
 fn is_gate(form: &Form) -> bool
-    ensures { result ≡ is_negated_gate (negation (tree_of form.now)) }
+    ensures { result ≡ is_negation_of_and_or_or (negation (tree_of form.now)) }
 {
     match form {
         Form::And(_) => true,
@@ -78,8 +78,8 @@ fn is_gate(form: &Form) -> bool
     }
 }
 
-fn is_negated_gate(form: &Form) -> bool
-    ensures { result ≡ is_negated_gate (tree_of form.now) }
+fn is_negation_of_and_or_or(form: &Form) -> bool
+    ensures { result ≡ is_negation_of_and_or_or (tree_of form.now) }
 {
     match form {
         Form::Not(f) => is_gate(f),
@@ -102,7 +102,7 @@ pub(crate) fn form_to_and_or_lits(
 ) -> Result<Lits, AllocError>
     requires within { IsTrue (has_lits_within_vars cnf.old.vars table.now) }
     requires gates { IsTrue (gates_within cnf.old.vars gates.old) }
-    requires valid { IsTrue (tree_valid (ranges_of table.now) (tree_of form.now)) }
+    requires valid { IsTrue (tree_valid (ranges_of_copy_lits table.now) (tree_of form.now)) }
     ensures lits { IfOk result
         (λ lits. lits ≡ (form_to_and_or_lits table.now all positive
         (tree_of form.now) gates.old cnf.old.vars).lits) }
@@ -143,7 +143,7 @@ pub(crate) fn negation_to_and_or_lits(
 ) -> Result<Lits, AllocError>
     requires within { IsTrue (has_lits_within_vars cnf.old.vars table.now) }
     requires gates { IsTrue (gates_within cnf.old.vars gates.old) }
-    requires valid { IsTrue (tree_valid (ranges_of table.now) (tree_of form.now)) }
+    requires valid { IsTrue (tree_valid (ranges_of_copy_lits table.now) (tree_of form.now)) }
     ensures lits { IfOk result
         (λ lits. lits ≡ (form_to_and_or_lits table.now all positive
         (negation (tree_of form.now)) gates.old cnf.old.vars).lits) }
@@ -158,7 +158,7 @@ pub(crate) fn negation_to_and_or_lits(
         (gates_part (form_to_and_or_lits table.now all positive (negation (tree_of form.now))
         gates.old cnf.old.vars).gates cnf.old.vars)) }
 {
-    if is_negated_gate(form) {
+    if is_negation_of_and_or_or(form) {
         return marked_to_lits(alloc, cnf, gates, table, positive, form);
     }
     form_to_and_or_lits(alloc, cnf, gates, table, all, !positive, form)
@@ -176,7 +176,7 @@ fn marked_to_lits(
 ) -> Result<Lits, AllocError>
     requires within { IsTrue (has_lits_within_vars cnf.old.vars table.now) }
     requires gates { IsTrue (gates_within cnf.old.vars gates.old) }
-    requires valid { IsTrue (tree_valid (ranges_of table.now) (tree_of form.now)) }
+    requires valid { IsTrue (tree_valid (ranges_of_copy_lits table.now) (tree_of form.now)) }
     ensures lits { IfOk result
         (λ lits. lits ≡ (signed_lit_as_lits_with_gates positive
         (combine_lits_into_one gates.old cnf.old.vars true
@@ -214,7 +214,7 @@ fn join(
 ) -> Result<Lits, AllocError>
     requires within { IsTrue (has_lits_within_vars cnf.old.vars table.now) }
     requires gates { IsTrue (gates_within cnf.old.vars gates.old) }
-    requires valid { IsTrue (each_valid (ranges_of table.now) (trees_of forms.now)) }
+    requires valid { IsTrue (each_valid (ranges_of_copy_lits table.now) (trees_of forms.now)) }
     ensures lits { IfOk result
         (λ lits. lits
         ≡
@@ -255,7 +255,7 @@ pub(crate) fn forms_to_and_or_lits(
 ) -> Result<Lits, AllocError>
     requires within { IsTrue (has_lits_within_vars cnf.old.vars table.now) }
     requires gates { IsTrue (gates_within cnf.old.vars gates.old) }
-    requires valid { IsTrue (each_valid (ranges_of table.now) (trees_of forms.now)) }
+    requires valid { IsTrue (each_valid (ranges_of_copy_lits table.now) (trees_of forms.now)) }
     ensures lits { IfOk result
         (λ lits. lits ≡ (forms_to_and_or_lits table.now all positive
         (trees_of forms.now) gates.old cnf.old.vars).lits) }

@@ -7,7 +7,7 @@ ghost use Rattle.ilk_ir.specs.Form.{tree_of, trees_of};
 ghost use Rattle.ilk_ir.specs.Tree.{all_of, negation, more, tree_holds, each_holds, tree_valid, each_valid};
 ghost use Rattle.ilk_ir.specs.System.{in_ranges};
 ghost use Rattle.ilk_forms.specs.Copy.{LiteralsEncode};
-ghost use Rattle.ilk_forms.specs.Leaf.{has_lits_within_vars, ranges_of};
+ghost use Rattle.ilk_forms.specs.Leaf.{has_lits_within_vars, ranges_of_copy_lits};
 ghost use Rattle.ilk_forms.specs.Demand.{one_clause_part};
 ghost use Rattle.ilk_forms.specs.Size.{tree_size};
 ghost use Rattle.ilk_forms.specs.Violated.{form_fails_part, form_fails_bits};
@@ -41,7 +41,7 @@ pub fn demand_some_form_fails(
     forms: &[Form],
 ) -> Result<(), AllocError>
     requires within { IsTrue (has_lits_within_vars cnf.old.vars table.now) }
-    requires valid { IsTrue (each_valid (ranges_of table.now) (trees_of forms.now)) }
+    requires valid { IsTrue (each_valid (ranges_of_copy_lits table.now) (trees_of forms.now)) }
     ensures made { OnOk result
         (cnf.new
         ≡ with_part cnf.old
@@ -78,8 +78,8 @@ pub fn demand_form_or_some_fail(
     forms: &[Form],
 ) -> Result<(), AllocError>
     requires within { IsTrue (has_lits_within_vars cnf.old.vars table.now) }
-    requires form { IsTrue (tree_valid (ranges_of table.now) (tree_of form.now)) }
-    requires valid { IsTrue (each_valid (ranges_of table.now) (trees_of forms.now)) }
+    requires form { IsTrue (tree_valid (ranges_of_copy_lits table.now) (tree_of form.now)) }
+    requires valid { IsTrue (each_valid (ranges_of_copy_lits table.now) (trees_of forms.now)) }
     ensures made { OnOk result
         (cnf.new
         ≡ with_part cnf.old

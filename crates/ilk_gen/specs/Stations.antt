@@ -38,20 +38,20 @@ abbrev pub up_end_point_name : ℕ → Name
 up_end_point_name j = codes "q" ++ decimal j
 
 -- The name of the board for up trains on a section.
-abbrev pub up_board_name : Name → Name
-up_board_name section = section ++ codes "U"
+abbrev pub up_board_name_of_section : Name → Name
+up_board_name_of_section section = section ++ codes "U"
 
 -- The name of the board for down trains on a section.
-abbrev pub down_board_name : Name → Name
-down_board_name section = section ++ codes "D"
+abbrev pub down_board_name_of_section : Name → Name
+down_board_name_of_section section = section ++ codes "D"
 
 -- The name of the up board of line `j` of `n` stations, or `None` on the last line.
 abbrev pub line_up_board : ℕ → ℕ → Option Name
-line_up_board n j = then_some (nat_lt j n) (up_board_name (line j))
+line_up_board n j = then_some (nat_lt j n) (up_board_name_of_section (line j))
 
 -- The name of the down board of line `j`, or `None` on line 0.
 abbrev pub line_down_board : ℕ → Option Name
-line_down_board j = then_some (nat_lt 0 j) (down_board_name (line j))
+line_down_board j = then_some (nat_lt 0 j) (down_board_name_of_section (line j))
 
 -- The name of the down neighbour of line `j`, a point of station `j`, or `None` for line 0.
 abbrev pub line_down_neighbour : ℕ → Option Name
@@ -70,7 +70,7 @@ line_section n j = record { name = line j; kind = Linear (line_down_neighbour j)
 abbrev pub track_section : ℕ → Position → SectionDraft
 track_section j at = record {
   name = track_name j at;
-  kind = Linear (Some (down_end_point_name j)) (Some (up_end_point_name j)) (Some (down_board_name (track_name j at))) (Some (up_board_name (track_name j at)));
+  kind = Linear (Some (down_end_point_name j)) (Some (up_end_point_name j)) (Some (down_board_name_of_section (track_name j at))) (Some (up_board_name_of_section (track_name j at)));
 }
 
 -- The draft of the point at the down end of station `j`. It faces up, to the tracks.
@@ -82,8 +82,8 @@ abbrev pub up_end_point_section : ℕ → SectionDraft
 up_end_point_section j = record { name = up_end_point_name j; kind = Point (line j) (track_name j Plus) (track_name j Minus) Down }
 
 -- The drafts of the four sections of station `j` of `n`, and of the line above it.
-abbrev pub station_and_line_sections : ℕ → ℕ → List SectionDraft
-station_and_line_sections n j =
+abbrev pub sections_of_station_and_line_above : ℕ → ℕ → List SectionDraft
+sections_of_station_and_line_above n j =
     down_end_point_section j
     ∷ track_section j Plus
     ∷ track_section j Minus
@@ -93,7 +93,7 @@ station_and_line_sections n j =
 
 -- The drafts of the sections of stations 1 to `n`, each with the line above it.
 abbrev pub all_station_sections : ℕ → List SectionDraft
-all_station_sections n = flat_map (station_and_line_sections n) (range_with_len 1 n)
+all_station_sections n = flat_map (sections_of_station_and_line_above n) (range_with_len 1 n)
 
 -- The network of `n` stations: line 0, then the stations.
 abbrev pub stations_net : ℕ → NetDraft

@@ -12,8 +12,8 @@ ghost use Rattle.ilk_gen.specs.StationRoutes.{stations_table};
 ghost use Rattle.ilk_gen.specs.Stations.{stations_net};
 ghost use Rattle.ilk_gen.specs.declared.making.TheConstants.{MAX_STATIONS};
 
-/// The reader reads the configuration text of `n` stations, 1 to `MAX_STATIONS`, as exactly their
-/// drafts. Proof only; no run-time effect.
+/// Proves that the reader reads the configuration text of `n` stations, 1 to `MAX_STATIONS`, as
+/// exactly their network and table drafts. No run-time effect.
 pub fn stations_text_reads_as_drafts(n: u32)
     requires some { 1 ≤ n }
     requires few { n ≤ MAX_STATIONS }
@@ -21,8 +21,8 @@ pub fn stations_text_reads_as_drafts(n: u32)
         ≡ Ok (stations_net n, stations_table n) }
 {}
 
-/// The drafts of `n` stations, 1 to `MAX_STATIONS`, are within the limits, and violate no rule of
-/// the network, table or columns. Proof only; no run-time effect.
+/// Proves that the drafts of `n` stations, 1 to `MAX_STATIONS`, are within the limits, and violate
+/// no rule of the network, table or columns. No run-time effect.
 pub fn stations_break_no_rule(n: u32)
     requires some { 1 ≤ n }
     requires few { n ≤ MAX_STATIONS }

@@ -34,15 +34,15 @@ pub(crate) fn up_end_point_name(alloc: Global, j: u32) -> Result<Text, AllocErro
     Ok(Text::of(format!(in alloc; "q{j}")?))
 }
 
-pub(crate) fn up_board_name(alloc: Global, section: &Text) -> Result<Text, AllocError>
-    ensures { IfOk result (λ name. name ≡ stations.up_board_name section.now) }
+pub(crate) fn up_board_name_of_section(alloc: Global, section: &Text) -> Result<Text, AllocError>
+    ensures { IfOk result (λ name. name ≡ stations.up_board_name_of_section section.now) }
 {
     let section = section.as_str();
     Ok(Text::of(format!(in alloc; "{section}U")?))
 }
 
-pub(crate) fn down_board_name(alloc: Global, section: &Text) -> Result<Text, AllocError>
-    ensures { IfOk result (λ name. name ≡ stations.down_board_name section.now) }
+pub(crate) fn down_board_name_of_section(alloc: Global, section: &Text) -> Result<Text, AllocError>
+    ensures { IfOk result (λ name. name ≡ stations.down_board_name_of_section section.now) }
 {
     let section = section.as_str();
     Ok(Text::of(format!(in alloc; "{section}D")?))
@@ -53,7 +53,7 @@ pub(crate) fn line_up_board(alloc: Global, n: u32, j: u32) -> Result<Option<Text
 {
     if j < n {
         let line = line(alloc, j)?;
-        Ok(Some(up_board_name(alloc, &line)?))
+        Ok(Some(up_board_name_of_section(alloc, &line)?))
     } else {
         Ok(None)
     }
@@ -64,7 +64,7 @@ pub(crate) fn line_down_board(alloc: Global, j: u32) -> Result<Option<Text>, All
 {
     if 0 < j {
         let line = line(alloc, j)?;
-        Ok(Some(down_board_name(alloc, &line)?))
+        Ok(Some(down_board_name_of_section(alloc, &line)?))
     } else {
         Ok(None)
     }

@@ -7,8 +7,8 @@ ghost use Rattle.ilk_gen.specs.WrittenRoutes as written;
 ghost use Rattle.ilk_gen.specs.declared.making.TheConstants.{MAX_STATIONS};
 
 use crate::names::{
-    down_board_name, down_end_point_name, line, line_down_board, line_up_board, route_name,
-    track_name, up_board_name, up_end_point_name,
+    down_board_name_of_section, down_end_point_name, line, line_down_board, line_up_board,
+    route_name, track_name, up_board_name_of_section, up_end_point_name,
 };
 use ilk_plant::{ListedDraft, Position, RouteDraft, Row, TableDraft, Text};
 use std::alloc::{AllocError, Global};
@@ -88,8 +88,8 @@ fn up_into(
     let point = down_end_point_name(alloc, j)?;
     let track_name = track_name(alloc, j, at)?;
     let name = route_name(alloc, j, k)?;
-    let source = up_board_name(alloc, &below)?;
-    let destination = Some(up_board_name(alloc, &track_name)?);
+    let source = up_board_name_of_section(alloc, &below)?;
+    let destination = Some(up_board_name_of_section(alloc, &track_name)?);
     let ends = Ends {
         name,
         source,
@@ -114,7 +114,7 @@ fn up_out_of(
     let point = up_end_point_name(alloc, j)?;
     let track_name = track_name(alloc, j, at)?;
     let name = route_name(alloc, j, k)?;
-    let source = up_board_name(alloc, &track_name)?;
+    let source = up_board_name_of_section(alloc, &track_name)?;
     let destination = line_up_board(alloc, n, j)?;
     let ends = Ends {
         name,
@@ -138,8 +138,8 @@ fn down_into(
     let point = up_end_point_name(alloc, j)?;
     let track_name = track_name(alloc, j, at)?;
     let name = route_name(alloc, j, k)?;
-    let source = down_board_name(alloc, &above)?;
-    let destination = Some(down_board_name(alloc, &track_name)?);
+    let source = down_board_name_of_section(alloc, &above)?;
+    let destination = Some(down_board_name_of_section(alloc, &track_name)?);
     let ends = Ends {
         name,
         source,
@@ -164,7 +164,7 @@ fn down_out_of(
     let point = down_end_point_name(alloc, j)?;
     let track_name = track_name(alloc, j, at)?;
     let name = route_name(alloc, j, k)?;
-    let source = down_board_name(alloc, &track_name)?;
+    let source = down_board_name_of_section(alloc, &track_name)?;
     let destination = line_down_board(alloc, j - 1)?;
     let ends = Ends {
         name,
@@ -180,7 +180,7 @@ fn push_names(
     numbers: &[u32],
     names: &mut Row<Text>,
 ) -> Result<(), AllocError>
-    ensures { OnOk result (names.new ≡ names.old ++ written.route_names j numbers.now) }
+    ensures { OnOk result (names.new ≡ names.old ++ written.station_route_names j numbers.now) }
 {
     for k in numbers {
         names.push(route_name(alloc, j, *k)?)?;
@@ -189,7 +189,7 @@ fn push_names(
 }
 
 fn names_of(alloc: Global, j: u32, own: &[u32]) -> Result<Row<Text>, AllocError>
-    ensures { IfOk result (λ names. names ≡ written.route_names j own.now) }
+    ensures { IfOk result (λ names. names ≡ written.station_route_names j own.now) }
 {
     let mut names = Row::new(alloc);
     push_names(alloc, j, own, &mut names)?;
@@ -224,7 +224,7 @@ fn push_station(
     routes: &mut Row<RouteDraft>,
 ) -> Result<(), AllocError>
     requires { 1 ≤ j }
-    ensures { OnOk result (routes.new ≡ routes.old ++ written.explicit_station_routes n j) }
+    ensures { OnOk result (routes.new ≡ routes.old ++ written.station_routes_with_conflicts n j) }
 {
     let (plus, minus) = (Position::Plus, Position::Minus);
     routes.push(up_into(alloc, j, 1, plus, names_of(alloc, j, &[2, 5, 7, 8])?)?)?;

@@ -4,8 +4,8 @@ ghost use Rattle.std.specs.Prelude.{◌≡◌, ◌≤◌, ◌++◌, IfOk, OnOk};
 ghost use Rattle.ilk_gen.specs.Stations as stations;
 
 use crate::names::{
-    down_board_name, down_end_point_name, line, line_down_board, line_up_board, point_above,
-    point_below, track_name, up_board_name, up_end_point_name,
+    down_board_name_of_section, down_end_point_name, line, line_down_board, line_up_board,
+    point_above, point_below, track_name, up_board_name_of_section, up_end_point_name,
 };
 use ilk_plant::{Dir, KindDraft, NetDraft, Position, Row, SectionDraft};
 use std::alloc::{AllocError, Global};
@@ -33,8 +33,8 @@ fn track_section(alloc: Global, j: u32, at: Position) -> Result<SectionDraft, Al
     let name = track_name(alloc, j, at)?;
     let down = down_end_point_name(alloc, j)?;
     let up = up_end_point_name(alloc, j)?;
-    let board_down = down_board_name(alloc, &name)?;
-    let board_up = up_board_name(alloc, &name)?;
+    let board_down = down_board_name_of_section(alloc, &name)?;
+    let board_up = up_board_name_of_section(alloc, &name)?;
     let kind = KindDraft::Linear {
         down: Some(down),
         up: Some(up),
@@ -84,7 +84,8 @@ fn push_station(
     sections: &mut Row<SectionDraft>,
 ) -> Result<(), AllocError>
     requires { 1 ≤ j }
-    ensures { OnOk result (sections.new ≡ sections.old ++ stations.station_and_line_sections n j) }
+    ensures { OnOk result
+        (sections.new ≡ sections.old ++ stations.sections_of_station_and_line_above n j) }
 {
     sections.push(down_end_point_section(alloc, j)?)?;
     sections.push(track_section(alloc, j, Position::Plus)?)?;

@@ -11,7 +11,7 @@ use Rattle.ilk_log.specs.Conflicts.{count_learned_clauses}
 use Rattle.ilk_unroll.specs.declared.queries.Wanted.{Wanted}
 use Rattle.ilk_unroll.specs.declared.queries.Wanted.TheVariants.{Hazard, Breach as BreachQuery}
 use Rattle.ilk_unroll.specs.declared.reading.Trace.{Trace}
-use Rattle.ilk_unroll.specs.Goal.{PlainGoalForms, step_count, step_count_is_allowed}
+use Rattle.ilk_unroll.specs.Goal.{PlainGoalForms, query_step_count, step_count_is_allowed}
 use Rattle.ilk_induct.specs.declared.due.DueQuery.TheVariants.{Broken}
 use Rattle.ilk_induct.specs.declared.due.Next.TheVariants.{Ask, End}
 use Rattle.ilk_certificate.specs.declared.asked.Asked.{Asked}
@@ -20,7 +20,7 @@ use Rattle.ilk_certificate.specs.CertificateText.{total_conflicts}
 use Rattle.ilk_induct.specs.declared.verdict.Verdict.TheVariants.{Unsafe, Breach}
 use Rattle.ilk_unroll.specs.Evidence.{HasRun}
 use Rattle.ilk_induct.specs.Right.{IsRunOfQuery, IsExactSystemVerdict}
-use Rattle.ilk_induct.specs.Spent.{LogStepsDerivedAndFresh}
+use Rattle.ilk_induct.specs.Spent.{LogStepsDerivedAndEmpowering}
 use Rattle.ilk_induct.specs.Due.{query_with_log, queries_to_query_given_breach, next_hazard_query_or_breach, NoHazardBreachInductionBelow, IsFoundBreachWithoutShorter, QueryFollowsAskedInOrder, IsRightOrSpentVerdict, IsValidContinuation}
 use Rattle.ilk_unroll.proofs.QueryDemands.{wanted-parts}
 use Rattle.ilk_induct.proofs.Orders.{to-hazard-after, all-to-hazard, more-queries, more-conflicts, asked-to, go-on, found-order, found-to, go-on-found}
@@ -32,7 +32,7 @@ below-more P n below at m less =
 pub hazard-valid : (depth n : ℕ) → depth ≤ 16 → n < depth → step_count_is_allowed (Hazard (n + 1)) ≡ true
 hazard-valid depth n few less = le-leb (n + 1) 16 (omega arith)
 
-pub steps-of : (s : PlainSystem) (g : PlainGoalForms) (q : Wanted) (t : Trace) → IsRunOfQuery s g q t → length t.rules ≡ step_count q
+pub steps-of : (s : PlainSystem) (g : PlainGoalForms) (q : Wanted) (t : Trace) → IsRunOfQuery s g q t → length t.rules ≡ query_step_count q
 steps-of s g q t run = (wanted-parts s g q t.first t.rules run).many
 
 pub few : (total rest conflicts : ℕ) → total + rest ≡ conflicts → total ≤ conflicts
@@ -42,7 +42,7 @@ pub endangered :
     (s : PlainSystem) (g : PlainGoalForms) (depth conflicts : ℕ) (breach : Option ℕ) (n : ℕ) (t : Trace)
     (log : List LogStep) (asked : List Asked) (left rest : ℕ) →
     QueryFollowsAskedInOrder s g depth conflicts breach (Hazard n) asked left → ((m : ℕ) → m < n → ¬ HasRun s g (Hazard m)) →
-    LogStepsDerivedAndFresh s g (query_with_log (Hazard n) log) → count_learned_clauses log + rest ≡ left → IsRunOfQuery s g (Hazard n) t →
+    LogStepsDerivedAndEmpowering s g (query_with_log (Hazard n) log) → count_learned_clauses log + rest ≡ left → IsRunOfQuery s g (Hazard n) t →
     IsRightOrSpentVerdict s g depth conflicts (Unsafe t) (asked ++ query_with_log (Hazard n) log ∷ [])
 endangered s g depth conflicts breach n t log asked left rest d none logged count run =
     let a = query_with_log (Hazard n) log in
@@ -65,7 +65,7 @@ pub after-broken :
     (s : PlainSystem) (g : PlainGoalForms) (depth conflicts n : ℕ) (t : Trace) (log : List LogStep)
     (asked : List Asked) (left rest : ℕ) → depth ≤ 16 →
     QueryFollowsAskedInOrder s g depth conflicts (Some (length t.rules)) (Hazard n) asked left → IsFoundBreachWithoutShorter s g n t →
-    LogStepsDerivedAndFresh s g (query_with_log (Hazard n) log) → count_learned_clauses log + rest ≡ left → IsRefuted s g (Hazard n) log →
+    LogStepsDerivedAndEmpowering s g (query_with_log (Hazard n) log) → count_learned_clauses log + rest ≡ left → IsRefuted s g (Hazard n) log →
     ¬ HasRun s g (Hazard n) →
     IsValidContinuation s g depth conflicts (3 * (depth - n) + 2) (next_hazard_query_or_breach depth n t)
     (asked ++ query_with_log (Hazard n) log ∷ []) rest
@@ -111,7 +111,7 @@ broke-at :
     (asked : List Asked) (left rest : ℕ) → depth ≤ 16 →
     QueryFollowsAskedInOrder s g depth conflicts None (BreachQuery (length t.rules)) asked left →
     NoHazardBreachInductionBelow s g (length t.rules + 1) (length t.rules) (length t.rules) →
-    LogStepsDerivedAndFresh s g (query_with_log (BreachQuery (length t.rules)) log) → count_learned_clauses log + rest ≡ left →
+    LogStepsDerivedAndEmpowering s g (query_with_log (BreachQuery (length t.rules)) log) → count_learned_clauses log + rest ≡ left →
     IsRunOfQuery s g (BreachQuery (length t.rules)) t →
     IsSatisfiable (query_formula s g (BreachQuery (length t.rules))) →
     IsValidContinuation s g depth conflicts (3 * (depth - length t.rules) + 1) (next_hazard_query_or_breach depth (length t.rules) t)
@@ -154,14 +154,14 @@ pub broke :
     (s : PlainSystem) (g : PlainGoalForms) (depth conflicts n : ℕ) (t : Trace) (log : List LogStep)
     (asked : List Asked) (left rest : ℕ) → depth ≤ 16 →
     length t.rules ≡ n → QueryFollowsAskedInOrder s g depth conflicts None (BreachQuery n) asked left →
-    NoHazardBreachInductionBelow s g (n + 1) n n → LogStepsDerivedAndFresh s g (query_with_log (BreachQuery n) log) → count_learned_clauses log + rest ≡ left →
+    NoHazardBreachInductionBelow s g (n + 1) n n → LogStepsDerivedAndEmpowering s g (query_with_log (BreachQuery n) log) → count_learned_clauses log + rest ≡ left →
     IsRunOfQuery s g (BreachQuery n) t → IsSatisfiable (query_formula s g (BreachQuery n)) →
     IsValidContinuation s g depth conflicts (3 * (depth - n) + 1) (next_hazard_query_or_breach depth n t)
     (asked ++ query_with_log (BreachQuery n) log ∷ []) rest
 broke s g depth conflicts n t log asked left rest low size =
     subst
     (λ (k : ℕ). QueryFollowsAskedInOrder s g depth conflicts None (BreachQuery k) asked left → NoHazardBreachInductionBelow s g (k + 1) k k →
-    LogStepsDerivedAndFresh s g (query_with_log (BreachQuery k) log) → count_learned_clauses log + rest ≡ left →
+    LogStepsDerivedAndEmpowering s g (query_with_log (BreachQuery k) log) → count_learned_clauses log + rest ≡ left →
     IsRunOfQuery s g (BreachQuery k) t → IsSatisfiable (query_formula s g (BreachQuery k)) →
     IsValidContinuation s g depth conflicts (3 * (depth - k) + 1) (next_hazard_query_or_breach depth k t)
     (asked ++ query_with_log (BreachQuery k) log ∷ []) rest) size

@@ -18,7 +18,7 @@ use Rattle.ilk_certificate.specs.CertificateText.{total_conflicts, has_no_hint_z
 use Rattle.ilk_certificate.specs.Kept.{drop_nonfinal_step_queries}
 use Rattle.ilk_induct.specs.declared.verdict.Verdict.{Verdict}
 use Rattle.ilk_induct.specs.declared.verdict.Verdict.TheVariants.{Safe, Unsafe, Breach, NotInductive, Spent}
-use Rattle.ilk_induct.specs.Spent.{LogStepsDerivedAndFresh, IsSpentText}
+use Rattle.ilk_induct.specs.Spent.{LogStepsDerivedAndEmpowering, IsSpentText}
 use Rattle.ilk_induct.specs.Asked.{AreQueriesOfVerdict}
 use Rattle.ilk_induct.specs.Certified.{AreRefutedCertificateQueries}
 use Rattle.ilk_induct.proofs.Certified.{certifies}
@@ -49,12 +49,12 @@ derived-count n clauses (s ∷ steps) e =
     let hints : has_no_hint_zero s ≡ true = ends-count clauses (negated_clause s.clause) s.hints here.1 in
     rw hints (derived-count n (clauses ++ s.clause ∷ []) steps parts.1)
 
-logs-count : (s : PlainSystem) (g : PlainGoalForms) (asked : List Asked) → All (LogStepsDerivedAndFresh s g) asked → IsTrue (have_no_hint_zero asked)
+logs-count : (s : PlainSystem) (g : PlainGoalForms) (asked : List Asked) → All (LogStepsDerivedAndEmpowering s g) asked → IsTrue (have_no_hint_zero asked)
 logs-count s g [] logs = refl
 logs-count s g (a ∷ asked) logs =
-    let one : LogStepsDerivedAndFresh s g a = All-head (LogStepsDerivedAndFresh s g) a asked logs in
+    let one : LogStepsDerivedAndEmpowering s g a = All-head (LogStepsDerivedAndEmpowering s g) a asked logs in
     let here : list_all has_no_hint_zero a.log ≡ true = derived-count (query_formula s g a.query).vars (query_formula s g a.query).clauses a.log one.derived in
-    rw here (logs-count s g asked (All-tail (LogStepsDerivedAndFresh s g) a asked logs))
+    rw here (logs-count s g asked (All-tail (LogStepsDerivedAndEmpowering s g) a asked logs))
 
 pub hints_count : (s : PlainSystem) (g : PlainGoalForms) (depth conflicts : ℕ) (verdict : Verdict) (asked : List Asked) → AreQueriesOfVerdict s g depth conflicts verdict asked → IsTrue (have_no_hint_zero asked)
 hints_count s g depth conflicts (Unsafe t) asked h = logs-count s g asked h.1.1.logs

@@ -26,7 +26,7 @@ use Rattle.ilk_certificate.specs.CertificateText.{total_conflicts}
 use Rattle.ilk_induct.specs.declared.verdict.Verdict.TheVariants.{Safe, NotInductive, Spent}
 use Rattle.ilk_unroll.specs.Evidence.{HasRun}
 use Rattle.ilk_induct.specs.Right.{IsRunOfQuery}
-use Rattle.ilk_induct.specs.Spent.{LogStepsDerivedAndFresh, AskedQueryAllowsNext}
+use Rattle.ilk_induct.specs.Spent.{LogStepsDerivedAndEmpowering, AskedQueryAllowsNext}
 use Rattle.ilk_induct.specs.Due.{query_with_log, IsResponse, due_query, breach_length, query_or_verdict_after_response, NoHazardBreachInductionBelow, QueryFollowsAskedInOrder, IsDueAfterAskedQueries, IsRightOrSpentVerdict, IsValidContinuation, max_queries_left}
 use Rattle.ilk_unroll.proofs.Induction.{forever}
 use Rattle.ilk_induct.proofs.Orders.{to-breach, to-step, to-hazard, more-conflicts, asked-to, asked-all, go-on, all-conflicts}
@@ -39,7 +39,7 @@ left-invariant :
     (s : PlainSystem) (g : PlainGoalForms) (depth conflicts n : ℕ) (t : Trace) (log : List LogStep)
     (asked : List Asked) (left rest : ℕ) → depth ≤ 16 →
     QueryFollowsAskedInOrder s g depth conflicts None (Step n) asked left → NoHazardBreachInductionBelow s g (n + 1) (n + 1) n →
-    LogStepsDerivedAndFresh s g (query_with_log (Step n) log) → count_learned_clauses log + rest ≡ left → IsRunOfQuery s g (Step n) t →
+    LogStepsDerivedAndEmpowering s g (query_with_log (Step n) log) → count_learned_clauses log + rest ≡ left → IsRunOfQuery s g (Step n) t →
     IsSatisfiable (query_formula s g (Step n)) →
     IsValidContinuation s g depth conflicts (3 * (depth - n))
     (cond (nat_lt n depth) (Ask (Unbroken (Hazard (n + 1)))) (End (NotInductive t)))
@@ -85,7 +85,7 @@ carried :
     (s : PlainSystem) (g : PlainGoalForms) (depth conflicts n : ℕ) (log : List LogStep) (asked : List Asked)
     (left rest : ℕ) →
     list_all (rule_valid s.ranges) s.rules ≡ true → QueryFollowsAskedInOrder s g depth conflicts None (Step n) asked left →
-    NoHazardBreachInductionBelow s g (n + 1) (n + 1) n → LogStepsDerivedAndFresh s g (query_with_log (Step n) log) → count_learned_clauses log + rest ≡ left →
+    NoHazardBreachInductionBelow s g (n + 1) (n + 1) n → LogStepsDerivedAndEmpowering s g (query_with_log (Step n) log) → count_learned_clauses log + rest ≡ left →
     IsRefuted s g (Step n) log → ¬ HasRun s g (Step n) →
     IsRightOrSpentVerdict s g depth conflicts (Safe n) (asked ++ query_with_log (Step n) log ∷ [])
 carried s g depth conflicts n log asked left rest rules d known logged count refuted none =
@@ -105,7 +105,7 @@ carried s g depth conflicts n log asked left rest rules d known logged count ref
 given-up :
     (s : PlainSystem) (g : PlainGoalForms) (depth conflicts : ℕ) (due : DueQuery) (log : List LogStep)
     (asked : List Asked) (left rest : ℕ) →
-    IsDueAfterAskedQueries s g depth conflicts due asked left → LogStepsDerivedAndFresh s g (query_with_log (due_query due) log) →
+    IsDueAfterAskedQueries s g depth conflicts due asked left → LogStepsDerivedAndEmpowering s g (query_with_log (due_query due) log) →
     count_learned_clauses log + rest ≡ left → IsResponse s g (due_query due) left GivenUp log →
     IsRightOrSpentVerdict s g depth conflicts Spent (asked ++ query_with_log (due_query due) log ∷ [])
 given-up s g depth conflicts due log asked left rest d logged count spent =
@@ -124,7 +124,7 @@ no-hazard :
     (s : PlainSystem) (g : PlainGoalForms) (depth conflicts n : ℕ) (log : List LogStep) (asked : List Asked)
     (left rest : ℕ) →
     QueryFollowsAskedInOrder s g depth conflicts None (Hazard n) asked left → NoHazardBreachInductionBelow s g n n n →
-    LogStepsDerivedAndFresh s g (query_with_log (Hazard n) log) → count_learned_clauses log + rest ≡ left → IsRefuted s g (Hazard n) log →
+    LogStepsDerivedAndEmpowering s g (query_with_log (Hazard n) log) → count_learned_clauses log + rest ≡ left → IsRefuted s g (Hazard n) log →
     ¬ HasRun s g (Hazard n) →
     IsDueAfterAskedQueries s g depth conflicts (Unbroken (BreachQuery n)) (asked ++ query_with_log (Hazard n) log ∷ []) rest
 no-hazard s g depth conflicts n log asked left rest d known logged count refuted none =
@@ -137,7 +137,7 @@ no-breach :
     (s : PlainSystem) (g : PlainGoalForms) (depth conflicts n : ℕ) (log : List LogStep) (asked : List Asked)
     (left rest : ℕ) →
     QueryFollowsAskedInOrder s g depth conflicts None (BreachQuery (suc n)) asked left →
-    NoHazardBreachInductionBelow s g (suc n + 1) (suc n) (suc n) → LogStepsDerivedAndFresh s g (query_with_log (BreachQuery (suc n)) log) →
+    NoHazardBreachInductionBelow s g (suc n + 1) (suc n) (suc n) → LogStepsDerivedAndEmpowering s g (query_with_log (BreachQuery (suc n)) log) →
     count_learned_clauses log + rest ≡ left → IsRefuted s g (BreachQuery (suc n)) log →
     ¬ HasRun s g (BreachQuery (suc n)) →
     IsDueAfterAskedQueries s g depth conflicts (Unbroken (Step (suc n))) (asked ++ query_with_log (BreachQuery (suc n)) log ∷ [])
@@ -155,7 +155,7 @@ no-breach-at-start :
     (s : PlainSystem) (g : PlainGoalForms) (depth conflicts : ℕ) (log : List LogStep) (asked : List Asked)
     (left rest : ℕ) → 0 < depth →
     QueryFollowsAskedInOrder s g depth conflicts None (BreachQuery 0) asked left → NoHazardBreachInductionBelow s g 1 0 0 →
-    LogStepsDerivedAndFresh s g (query_with_log (BreachQuery 0) log) → count_learned_clauses log + rest ≡ left →
+    LogStepsDerivedAndEmpowering s g (query_with_log (BreachQuery 0) log) → count_learned_clauses log + rest ≡ left →
     IsRefuted s g (BreachQuery 0) log → ¬ HasRun s g (BreachQuery 0) →
     IsDueAfterAskedQueries s g depth conflicts (Unbroken (Hazard 1)) (asked ++ query_with_log (BreachQuery 0) log ∷ []) rest
 no-breach-at-start s g depth conflicts log asked left rest deep d known logged count refuted none =
@@ -168,7 +168,7 @@ pub follows :
     (s : PlainSystem) (g : PlainGoalForms) (depth conflicts : ℕ) (due : DueQuery) (response : Response)
     (log : List LogStep) (asked : List Asked) (left rest : ℕ) →
     list_all (rule_valid s.ranges) s.rules ≡ true → 0 < depth → depth ≤ 16 →
-    IsDueAfterAskedQueries s g depth conflicts due asked left → LogStepsDerivedAndFresh s g (query_with_log (due_query due) log) →
+    IsDueAfterAskedQueries s g depth conflicts due asked left → LogStepsDerivedAndEmpowering s g (query_with_log (due_query due) log) →
     count_learned_clauses log + rest ≡ left → IsResponse s g (due_query due) left response log →
     IsValidContinuation s g depth conflicts (max_queries_left depth due) (query_or_verdict_after_response depth due response)
     (asked ++ query_with_log (due_query due) log ∷ []) rest
@@ -186,7 +186,7 @@ follows s g depth conflicts due GivenUp log asked left rest rules deep low d log
 pub first-due : (s : PlainSystem) (g : PlainGoalForms) (depth conflicts : ℕ) → IsDueAfterAskedQueries s g depth conflicts (Unbroken (Hazard 0)) [] conflicts
 first-due s g depth conflicts =
     record {
-      in_order = record { order = refl; valid = refl; within = omega arith; found = tt; passed = All-nil (AskedQueryAllowsNext s g None); logs = All-nil (LogStepsDerivedAndFresh s g); counted = omega arith };
+      in_order = record { order = refl; valid = refl; within = omega arith; found = tt; passed = All-nil (AskedQueryAllowsNext s g None); logs = All-nil (LogStepsDerivedAndEmpowering s g); counted = omega arith };
       known = record { no_hazard = λ m less. absurd (omega (arith, less)); no_breach = λ m less. absurd (omega (arith, less)); runs = λ m pos less. absurd (omega (arith, less)) };
     }
 
@@ -200,7 +200,7 @@ pub turned :
 turned s g depth conflicts due q response log asked new left count rest next valid deep low d same is_log says counted rested grown is_next =
     let good = subst (λ (u : Wanted). IsEmpoweringLogWithinBudget (query_formula s g u) left log) same is_log in
     let said = subst (λ (u : Wanted). IsResponse s g u left response log) same says in
-    let logged : LogStepsDerivedAndFresh s g (query_with_log (due_query due) log) = record { derived = good.derived; fresh = good.fresh } in
+    let logged : LogStepsDerivedAndEmpowering s g (query_with_log (due_query due) log) = record { derived = good.derived; fresh = good.fresh } in
     let most = good.few in
     let sum : count_learned_clauses log + rest ≡ left = omega (arith, most, counted, rested) in
     let main = follows s g depth conflicts due response log asked left rest (and_parts _ _ valid).1 deep low d logged sum said in

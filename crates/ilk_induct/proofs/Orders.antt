@@ -13,13 +13,13 @@ use Rattle.ilk_log.specs.Derived.{is_empty_clause}
 use Rattle.ilk_solver.specs.Answered.{has_no_empty_step}
 use Rattle.ilk_unroll.specs.declared.queries.Wanted.{Wanted}
 use Rattle.ilk_unroll.specs.declared.queries.Wanted.TheVariants.{Hazard, Breach as BreachQuery, Step}
-use Rattle.ilk_unroll.specs.Goal.{PlainGoalForms, step_count, step_count_is_allowed}
+use Rattle.ilk_unroll.specs.Goal.{PlainGoalForms, query_step_count, step_count_is_allowed}
 use Rattle.ilk_unroll.specs.Query.{query_formula}
 use Rattle.ilk_unroll.specs.Satisfied.{IsSatisfiable}
 use Rattle.ilk_certificate.specs.declared.asked.Asked.{Asked}
 use Rattle.ilk_certificate.specs.CertificateText.{total_conflicts}
 use Rattle.ilk_induct.specs.Order.{queries_of_length, queries_below, queries_to_depth_given_breach, IsPrefix}
-use Rattle.ilk_induct.specs.Spent.{LogStepsDerivedAndFresh, QueryAnswerAllowsNext, AskedQueryAllowsNext, AskedPrefixPassedExceptLast}
+use Rattle.ilk_induct.specs.Spent.{LogStepsDerivedAndEmpowering, QueryAnswerAllowsNext, AskedQueryAllowsNext, AskedPrefixPassedExceptLast}
 use Rattle.ilk_induct.specs.Asked.{AllAskedAndLastMeets}
 use Rattle.ilk_induct.specs.Due.{query_with_log, queries_to_query_given_breach, QueryFollowsAskedInOrder}
 
@@ -38,7 +38,7 @@ to-found n =
     let none : n - n ≡ 0 = omega arith in
     sym (append-nil (queries_below n ++ Hazard n ∷ BreachQuery n ∷ [])) ∙ ap (λ (k : ℕ). (queries_below n ++ Hazard n ∷ BreachQuery n ∷ []) ++ map Hazard (range_with_len (n + 1) k)) (sym none)
 
-pub to-hazard-after : (b n : ℕ) (q : Wanted) → step_count q ≡ n → b ≤ n → queries_to_query_given_breach (Some b) q ++ Hazard (n + 1) ∷ [] ≡ queries_to_query_given_breach (Some b) (Hazard (n + 1))
+pub to-hazard-after : (b n : ℕ) (q : Wanted) → query_step_count q ≡ n → b ≤ n → queries_to_query_given_breach (Some b) q ++ Hazard (n + 1) ∷ [] ≡ queries_to_query_given_breach (Some b) (Hazard (n + 1))
 to-hazard-after b n q e le =
     let front = queries_below b ++ Hazard b ∷ BreachQuery b ∷ [] in
     let more : (n + 1) - b ≡ suc (n - b) = omega arith in
@@ -82,7 +82,7 @@ hazards-up b n =
           ∙ map-append Hazard (range_with_len (b + 1) n) (((b + 1) + n) ∷ [])),
     )
 
-to-queries_of_length : (q : Wanted) → step_count_is_allowed q ≡ true → IsPrefix (queries_to_query_given_breach None q) (queries_below (step_count q + 1))
+to-queries_of_length : (q : Wanted) → step_count_is_allowed q ≡ true → IsPrefix (queries_to_query_given_breach None q) (queries_below (query_step_count q + 1))
 to-queries_of_length (Hazard zero) valid = (BreachQuery 0 ∷ [], refl)
 to-queries_of_length (Hazard (suc n)) valid =
     (BreachQuery (suc n) ∷ Step (suc n) ∷ [], append_assoc (queries_below (suc n)) (Hazard (suc n) ∷ []) (BreachQuery (suc n) ∷ Step (suc n) ∷ []) ∙ sym (listed_all-more queries_of_length (suc n)))
@@ -98,18 +98,18 @@ pub all-to-step : (n : ℕ) → 0 < n → queries_to_query_given_breach None (St
 all-to-step zero pos = absurd (omega arith)
 all-to-step (suc n) pos = sym (listed_all-more queries_of_length (suc n))
 
-pub all-to-hazard : (b n : ℕ) (q : Wanted) → step_count q ≡ n → queries_to_query_given_breach (Some b) q ≡ queries_to_depth_given_breach (Some b) n
+pub all-to-hazard : (b n : ℕ) (q : Wanted) → query_step_count q ≡ n → queries_to_query_given_breach (Some b) q ≡ queries_to_depth_given_breach (Some b) n
 all-to-hazard b n q e =
     ap (λ (k : ℕ). (queries_below b ++ Hazard b ∷ BreachQuery b ∷ []) ++ map Hazard (range_with_len (b + 1) (k - b))) e
     ∙ append_assoc (queries_below b) (Hazard b ∷ BreachQuery b ∷ []) (map Hazard (range_with_len (b + 1) (n - b)))
 
-pub to-prefix : (depth : ℕ) (breach : Option ℕ) (q : Wanted) → step_count_is_allowed q ≡ true → step_count q ≤ depth → IsPrefix (queries_to_query_given_breach breach q) (queries_to_depth_given_breach breach depth)
+pub to-prefix : (depth : ℕ) (breach : Option ℕ) (q : Wanted) → step_count_is_allowed q ≡ true → query_step_count q ≤ depth → IsPrefix (queries_to_query_given_breach breach q) (queries_to_depth_given_breach breach depth)
 to-prefix depth None q valid within =
-    let far : (step_count q + 1) + (depth - step_count q) ≡ depth + 1 = omega arith in
-    let all = subst (λ (m : ℕ). IsPrefix (queries_below (step_count q + 1)) (queries_below m)) far (prefix-up queries_below queries_below-up (step_count q + 1) (depth - step_count q)) in
-    prefix-then (queries_to_query_given_breach None q) (queries_below (step_count q + 1)) (queries_below (depth + 1)) (to-queries_of_length q valid) all
+    let far : (query_step_count q + 1) + (depth - query_step_count q) ≡ depth + 1 = omega arith in
+    let all = subst (λ (m : ℕ). IsPrefix (queries_below (query_step_count q + 1)) (queries_below m)) far (prefix-up queries_below queries_below-up (query_step_count q + 1) (depth - query_step_count q)) in
+    prefix-then (queries_to_query_given_breach None q) (queries_below (query_step_count q + 1)) (queries_below (depth + 1)) (to-queries_of_length q valid) all
 to-prefix depth (Some b) q valid within =
-    let i = step_count q - b in
+    let i = query_step_count q - b in
     let far : i + ((depth - b) - i) ≡ depth - b = omega arith in
     let front = queries_below b ++ Hazard b ∷ BreachQuery b ∷ [] in
     let behind = prefix-behind front (hazards b i) (hazards b (depth - b)) (subst (λ (m : ℕ). IsPrefix (hazards b i) (hazards b m)) far (prefix-up (hazards b) (hazards-up b) i ((depth - b) - i))) in
@@ -130,7 +130,7 @@ as-prefix asked qs all e p = subst (λ (us : List Wanted). IsPrefix us all) (sym
 pub asked-to :
     (s : PlainSystem) (g : PlainGoalForms) (depth conflicts : ℕ) (breach : Option ℕ) (a : Asked) (asked : List Asked)
     (left : ℕ) →
-    QueryFollowsAskedInOrder s g depth conflicts breach a.query asked left → LogStepsDerivedAndFresh s g a →
+    QueryFollowsAskedInOrder s g depth conflicts breach a.query asked left → LogStepsDerivedAndEmpowering s g a →
     AskedPrefixPassedExceptLast s g depth breach (asked ++ a ∷ []) a
 asked-to s g depth conflicts breach a asked left d log =
     record {
@@ -140,15 +140,15 @@ asked-to s g depth conflicts breach a asked left d log =
           (to-prefix depth breach a.query d.valid d.within);
       found = d.found;
       passed = d.passed;
-      logs = All-push (LogStepsDerivedAndFresh s g) asked a d.logs log;
+      logs = All-push (LogStepsDerivedAndEmpowering s g) asked a d.logs log;
     }
 
 pub go-on :
     (s : PlainSystem) (g : PlainGoalForms) (depth conflicts : ℕ) (breach : Option ℕ) (a : Asked) (q : Wanted)
     (asked : List Asked) (left rest : ℕ) →
-    QueryFollowsAskedInOrder s g depth conflicts breach a.query asked left → LogStepsDerivedAndFresh s g a → AskedQueryAllowsNext s g breach a →
+    QueryFollowsAskedInOrder s g depth conflicts breach a.query asked left → LogStepsDerivedAndEmpowering s g a → AskedQueryAllowsNext s g breach a →
     count_learned_clauses a.log + rest ≡ left → queries_to_query_given_breach breach a.query ++ q ∷ [] ≡ queries_to_query_given_breach breach q →
-    step_count_is_allowed q ≡ true → step_count q ≤ depth →
+    step_count_is_allowed q ≡ true → query_step_count q ≤ depth →
     QueryFollowsAskedInOrder s g depth conflicts breach q (asked ++ a ∷ []) rest
 go-on s g depth conflicts breach a q asked left rest d log passed count order valid within =
     record {
@@ -157,7 +157,7 @@ go-on s g depth conflicts breach a q asked left rest d log passed count order va
       within = within;
       found = d.found;
       passed = All-push (AskedQueryAllowsNext s g breach) asked a d.passed passed;
-      logs = All-push (LogStepsDerivedAndFresh s g) asked a d.logs log;
+      logs = All-push (LogStepsDerivedAndEmpowering s g) asked a d.logs log;
       counted = more-conflicts asked a left rest conflicts d.counted count;
     }
 
@@ -182,7 +182,7 @@ pub found-to :
     (s : PlainSystem) (g : PlainGoalForms) (depth conflicts n : ℕ) (log : List LogStep) (asked : List Asked)
     (left : ℕ) →
     QueryFollowsAskedInOrder s g depth conflicts None (BreachQuery n) asked left →
-    LogStepsDerivedAndFresh s g (query_with_log (BreachQuery n) log) → IsSatisfiable (query_formula s g (BreachQuery n)) →
+    LogStepsDerivedAndEmpowering s g (query_with_log (BreachQuery n) log) → IsSatisfiable (query_formula s g (BreachQuery n)) →
     AskedPrefixPassedExceptLast s g depth (Some n) (asked ++ query_with_log (BreachQuery n) log ∷ [])
     (query_with_log (BreachQuery n) log)
 found-to s g depth conflicts n log asked left d logged has =
@@ -193,14 +193,14 @@ found-to s g depth conflicts n log asked left d logged has =
       order = as-prefix (asked ++ a ∷ []) (queries_to_query_given_breach (Some n) (BreachQuery n)) (queries_to_depth_given_breach (Some n) depth) (found-order asked n log d.order) (to-prefix depth (Some n) (BreachQuery n) d.valid d.within);
       found = (d.within, has);
       passed = all-passed-after s g n asked d.passed;
-      logs = All-push (LogStepsDerivedAndFresh s g) asked a d.logs logged;
+      logs = All-push (LogStepsDerivedAndEmpowering s g) asked a d.logs logged;
     }
 
 pub go-on-found :
     (s : PlainSystem) (g : PlainGoalForms) (depth conflicts n : ℕ) (log : List LogStep) (asked : List Asked)
     (left rest : ℕ) →
     QueryFollowsAskedInOrder s g depth conflicts None (BreachQuery n) asked left →
-    LogStepsDerivedAndFresh s g (query_with_log (BreachQuery n) log) → IsSatisfiable (query_formula s g (BreachQuery n)) →
+    LogStepsDerivedAndEmpowering s g (query_with_log (BreachQuery n) log) → IsSatisfiable (query_formula s g (BreachQuery n)) →
     count_learned_clauses log + rest ≡ left → step_count_is_allowed (Hazard (n + 1)) ≡ true → n + 1 ≤ depth →
     QueryFollowsAskedInOrder s g depth conflicts (Some n) (Hazard (n + 1)) (asked ++ query_with_log (BreachQuery n) log ∷ [])
     rest
@@ -212,21 +212,21 @@ go-on-found s g depth conflicts n log asked left rest d logged has count valid w
       within = within;
       found = (d.within, has);
       passed = All-push (AskedQueryAllowsNext s g (Some n)) asked a (all-passed-after s g n asked d.passed) (inr refl);
-      logs = All-push (LogStepsDerivedAndFresh s g) asked a d.logs logged;
+      logs = All-push (LogStepsDerivedAndEmpowering s g) asked a d.logs logged;
       counted = more-conflicts asked a left rest conflicts d.counted count;
     }
 
 pub asked-all :
     (s : PlainSystem) (g : PlainGoalForms) (depth conflicts n : ℕ) (a : Asked) (asked : List Asked) (left : ℕ)
     (Ends : Asked → Type 0) →
-    QueryFollowsAskedInOrder s g depth conflicts None a.query asked left → LogStepsDerivedAndFresh s g a → a.query ≡ Step n → Ends a →
+    QueryFollowsAskedInOrder s g depth conflicts None a.query asked left → LogStepsDerivedAndEmpowering s g a → a.query ≡ Step n → Ends a →
     AllAskedAndLastMeets s g n None Ends (asked ++ a ∷ [])
 asked-all s g depth conflicts n a asked left Ends d log is ends =
     let pos : 0 < n = ltb-true 0 n (and_parts _ _ (ap step_count_is_allowed (sym is) ∙ d.valid)).0 in
     let all : map (λ (x : Asked). x.query) (asked ++ a ∷ []) ≡ queries_to_depth_given_breach None n = more-queries asked a (queries_to_query_given_breach None a.query) d.order ∙ ap (queries_to_query_given_breach None) is ∙ all-to-step n pos in
     record {
       all = all;
-      ends = (a, record { before = asked; split = refl; order = ([], append-nil (map (λ (x : Asked). x.query) (asked ++ a ∷ [])) ∙ all); found = tt; passed = d.passed; logs = All-push (LogStepsDerivedAndFresh s g) asked a d.logs log }, ends);
+      ends = (a, record { before = asked; split = refl; order = ([], append-nil (map (λ (x : Asked). x.query) (asked ++ a ∷ [])) ∙ all); found = tt; passed = d.passed; logs = All-push (LogStepsDerivedAndEmpowering s g) asked a d.logs log }, ends);
     }
 
 pub all-conflicts : (log : List LogStep) → has_no_empty_step log ≡ true → count_learned_clauses log ≡ length log

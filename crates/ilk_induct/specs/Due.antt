@@ -7,7 +7,7 @@ use Rattle.ilk_solver.specs.Answered.{IsSpentLog}
 use Rattle.ilk_unroll.specs.declared.queries.Wanted.{Wanted}
 use Rattle.ilk_unroll.specs.declared.queries.Wanted.TheVariants.{Hazard, Breach as BreachQuery, Step}
 use Rattle.ilk_unroll.specs.declared.reading.Trace.{Trace}
-use Rattle.ilk_unroll.specs.Goal.{PlainGoalForms, step_count, step_count_is_allowed}
+use Rattle.ilk_unroll.specs.Goal.{PlainGoalForms, query_step_count, step_count_is_allowed}
 use Rattle.ilk_unroll.specs.Query.{query_formula}
 use Rattle.ilk_unroll.specs.Satisfied.{IsSatisfiable}
 use Rattle.ilk_certificate.specs.declared.asked.Asked.{Asked}
@@ -24,7 +24,7 @@ use Rattle.ilk_induct.specs.declared.verdict.Verdict.TheVariants.{Safe, Unsafe, 
 use Rattle.ilk_unroll.specs.Evidence.{HasRun}
 use Rattle.ilk_induct.specs.Right.{IsRunOfQuery, IsExactSystemVerdict, SystemVerdictHoldsAtAnyLength}
 use Rattle.ilk_induct.specs.Order.{queries_below}
-use Rattle.ilk_induct.specs.Spent.{LogStepsDerivedAndFresh, AskedQueryAllowsNext}
+use Rattle.ilk_induct.specs.Spent.{LogStepsDerivedAndEmpowering, AskedQueryAllowsNext}
 use Rattle.ilk_induct.specs.Asked.{AreQueriesOfVerdict}
 
 -- Holds if the response to a query is right: its run is one that the query asks for, its log
@@ -42,7 +42,7 @@ abbrev pub queries_to_query_given_breach : Option ℕ → Wanted → List Wanted
 queries_to_query_given_breach None (Hazard n) = queries_below n ++ Hazard n ∷ []
 queries_to_query_given_breach None (BreachQuery n) = queries_below n ++ Hazard n ∷ BreachQuery n ∷ []
 queries_to_query_given_breach None (Step n) = queries_below n ++ Hazard n ∷ BreachQuery n ∷ Step n ∷ []
-queries_to_query_given_breach (Some b) q = (queries_below b ++ Hazard b ∷ BreachQuery b ∷ []) ++ map Hazard (range_with_len (b + 1) (step_count q - b))
+queries_to_query_given_breach (Some b) q = (queries_below b ++ Hazard b ∷ BreachQuery b ∷ []) ++ map Hazard (range_with_len (b + 1) (query_step_count q - b))
 
 -- The query to be asked.
 abbrev pub due_query : DueQuery → Wanted
@@ -104,10 +104,10 @@ ResultsKnownBeforeDueQuery s g (Broken n t) = IsFoundBreachWithoutShorter s g n 
 pub record QueryFollowsAskedInOrder (s : PlainSystem) (g : PlainGoalForms) (depth conflicts : ℕ) (breach : Option ℕ) (q : Wanted) (asked : List Asked) (left : ℕ) : Type 0 where
   pub order : map (λ (a : Asked). a.query) asked ++ q ∷ [] ≡ queries_to_query_given_breach breach q
   pub valid : IsTrue (step_count_is_allowed q)
-  pub within : step_count q ≤ depth
+  pub within : query_step_count q ≤ depth
   pub found : IfSome breach (λ b. (b ≤ depth) × IsSatisfiable (query_formula s g (BreachQuery b)))
   pub passed : All (AskedQueryAllowsNext s g breach) asked
-  pub logs : All (LogStepsDerivedAndFresh s g) asked
+  pub logs : All (LogStepsDerivedAndEmpowering s g) asked
   pub counted : total_conflicts asked + left ≡ conflicts
 
 pub record IsDueAfterAskedQueries (s : PlainSystem) (g : PlainGoalForms) (depth conflicts : ℕ) (due : DueQuery) (asked : List Asked) (left : ℕ) : Type 0 where

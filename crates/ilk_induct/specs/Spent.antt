@@ -18,7 +18,7 @@ use Rattle.ilk_induct.specs.Order.{queries_to_depth_given_breach, IsPrefix}
 
 -- Holds if each step of the query's log is derived, and no clause learned was already given by unit
 -- propagation (fresh).
-pub record LogStepsDerivedAndFresh (s : PlainSystem) (g : PlainGoalForms) (a : Asked) : Type 0 where
+pub record LogStepsDerivedAndEmpowering (s : PlainSystem) (g : PlainGoalForms) (a : Asked) : Type 0 where
   pub derived : IsTrue (is_derived_log (query_formula s g a.query) a.log)
   pub fresh : EachEmpowering (query_formula s g a.query).clauses a.log
 
@@ -40,7 +40,7 @@ pub record AskedPrefixPassedExceptLast (s : PlainSystem) (g : PlainGoalForms) (d
   pub order : IsPrefix (map (λ (a : Asked). a.query) asked) (queries_to_depth_given_breach breach depth)
   pub found : IfSome breach (λ b. (b ≤ depth) × IsSatisfiable (query_formula s g (Breach b)))
   pub passed : All (AskedQueryAllowsNext s g breach) before
-  pub logs : All (LogStepsDerivedAndFresh s g) asked
+  pub logs : All (LogStepsDerivedAndEmpowering s g) asked
 
 -- Holds if the queries `asked` are a prefix of the order up to the depth, and `Ends` holds for the
 -- last.

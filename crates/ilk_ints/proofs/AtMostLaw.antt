@@ -12,7 +12,7 @@ use Rattle.ilk_cnf.specs.Part.{empty_part, or_gate_part}
 use Rattle.ilk_cnf.proofs.Parts.{value-new}
 use Rattle.ilk_cnf.proofs.Extending.{any_of-law, no_more_if, only_from_if}
 use Rattle.ilk_ints.specs.Bits.{bit_count, lowest_bits_of, assigned_bits_from_var}
-use Rattle.ilk_ints.specs.AtMost.{highest_bit_decides, at_most_part, at_most_lit, at_most_bits}
+use Rattle.ilk_ints.specs.AtMost.{highest_bit_decides, at_most_lit_part, at_most_lit, at_most_bits}
 
 pub bits_some : (range b : ℕ) → 1 < range → range ≤ 2 ^ b → 0 < b
 bits_some range zero more h = absurd (omega arith)
@@ -64,7 +64,7 @@ below_or_equal v k =
 
 pub at_most-law : (a : List Bool) (range k v n : ℕ) (below equal : Literal) → length a ≡ n →
     is_clause_over n (below ∷ equal ∷ []) ≡ true → is_true a below ≡ ltb v k → is_true a equal ≡ eqb v k →
-    ExtensionsAreExactly a (at_most_part range k below equal n).vars (at_most_part range k below equal n).clauses
+    ExtensionsAreExactly a (at_most_lit_part range k below equal n).vars (at_most_lit_part range k below equal n).clauses
     (EqualsGivenValues (at_most_bits range k v))
 at_most-law a range k v n below equal size inside low same = by_case (highest_bit_decides range k)
   where

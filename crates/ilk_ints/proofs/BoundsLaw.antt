@@ -12,27 +12,27 @@ use Rattle.ilk_cnf.proofs.Parts.{is_true-left, one_by_one}
 use Rattle.ilk_cnf.proofs.Gates.{new-in, any_of-in, with_part-and_then}
 use Rattle.ilk_cnf.proofs.Extending.{no_more_if, only_from_if}
 use Rattle.ilk_ints.specs.Bits.{bit_count, lowest_bits_of, assigned_bits_from_var}
-use Rattle.ilk_ints.specs.AtMost.{highest_bit_decides, at_most_part, at_most_lit, at_most_bits}
+use Rattle.ilk_ints.specs.AtMost.{highest_bit_decides, at_most_lit_part, at_most_lit, at_most_bits}
 use Rattle.ilk_ints.specs.Named.{one_hot_bits, bound_lits_part_from, bound_bits, at_most_vars_bits}
 use Rattle.ilk_ints.proofs.OneOfLaw.{map-left, first-two}
 use Rattle.ilk_ints.proofs.ValuesLaw.{assigned_bits_from_var-left}
 use Rattle.ilk_ints.proofs.AtMostLaw.{at_most-law, at_most-exact}
 
-pub at_most-low : (range k n : ℕ) (below equal : Literal) → n ≤ (at_most_part range k below equal n).vars
+pub at_most-low : (range k n : ℕ) (below equal : Literal) → n ≤ (at_most_lit_part range k below equal n).vars
 at_most-low range k n below equal = by_case (highest_bit_decides range k)
   where
     by_case : (h : Bool) → n ≤ (cond h (empty_part n) (or_gate_part (below ∷ equal ∷ []) n)).vars
     by_case true = omega arith
     by_case false = omega arith
 
-pub at_most-in : (range k n : ℕ) (below equal : Literal) → is_clause_over n (below ∷ equal ∷ []) ≡ true → are_clauses_over (at_most_part range k below equal n).vars (at_most_part range k below equal n).clauses ≡ true
+pub at_most-in : (range k n : ℕ) (below equal : Literal) → is_clause_over n (below ∷ equal ∷ []) ≡ true → are_clauses_over (at_most_lit_part range k below equal n).vars (at_most_lit_part range k below equal n).clauses ≡ true
 at_most-in range k n below equal h = by_case (highest_bit_decides range k)
   where
     by_case : (b : Bool) → are_clauses_over (cond b (empty_part n) (or_gate_part (below ∷ equal ∷ []) n)).vars (cond b (empty_part n) (or_gate_part (below ∷ equal ∷ []) n)).clauses ≡ true
     by_case true = refl
     by_case false = any_of-in n (below ∷ equal ∷ []) h
 
-pub at_most-is_lit_over : (first range k n : ℕ) (below equal : Literal) → 0 < first → 0 < bit_count range → first + bit_count range ≤ n + 1 → is_lit_over (at_most_part range k below equal n).vars (at_most_lit first range k n) ≡ true
+pub at_most-is_lit_over : (first range k n : ℕ) (below equal : Literal) → 0 < first → 0 < bit_count range → first + bit_count range ≤ n + 1 → is_lit_over (at_most_lit_part range k below equal n).vars (at_most_lit first range k n) ≡ true
 at_most-is_lit_over first range k n below equal low some high = by_case (highest_bit_decides range k)
   where
     by_case : (b : Bool) → is_lit_over (cond b (empty_part n) (or_gate_part (below ∷ equal ∷ []) n)).vars (cond b (negative_lit (first + (bit_count range - 1))) (positive_lit (n + 1))) ≡ true
@@ -50,15 +50,15 @@ pub bounds-low : (es : List Literal) (first range k n : ℕ) (below : Literal) �
 bounds-low [] first range k n below = omega arith
 bounds-low (e ∷ es) first range k n below =
     let one = at_most-low range k n below e in
-    let rest = bounds-low es first range (k + 1) (at_most_part range k below e n).vars (at_most_lit first range k n) in
+    let rest = bounds-low es first range (k + 1) (at_most_lit_part range k below e n).vars (at_most_lit first range k n) in
     omega arith
 
 pub next-inside : (first range k n : ℕ) (below e : Literal) (es : List Literal) → 0 < first →
     0 < bit_count range → first + bit_count range ≤ n + 1 → is_clause_over n (below ∷ e ∷ es) ≡ true →
-    is_clause_over (at_most_part range k below e n).vars (at_most_lit first range k n ∷ es) ≡ true
+    is_clause_over (at_most_lit_part range k below e n).vars (at_most_lit first range k n ∷ es) ≡ true
 next-inside first range k n below e es low some high h =
     let rest = (and_parts _ _ (and_parts _ _ h).1).1 in
-    and_from _ _ (at_most-is_lit_over first range k n below e low some high) (is_clause_over-more n (at_most_part range k below e n).vars es (at_most-low range k n below e) rest)
+    and_from _ _ (at_most-is_lit_over first range k n below e low some high) (is_clause_over-more n (at_most_lit_part range k below e n).vars es (at_most-low range k n below e) rest)
 
 pub bounds-in : (es : List Literal) (first range k n : ℕ) (below : Literal) → 0 < first →
     0 < bit_count range → first + bit_count range ≤ n + 1 → is_clause_over n (below ∷ es) ≡ true →
@@ -66,7 +66,7 @@ pub bounds-in : (es : List Literal) (first range k n : ℕ) (below : Literal) �
     (bound_lits_part_from first range below k es n).part.clauses ≡ true
 bounds-in [] first range k n below low some high h = refl
 bounds-in (e ∷ es) first range k n below low some high h =
-    let p = at_most_part range k below e n in
+    let p = at_most_lit_part range k below e n in
     let l = at_most_lit first range k n in
     let rest = bound_lits_part_from first range l (k + 1) es p.vars in
     let grows = at_most-low range k n below e in
@@ -87,7 +87,7 @@ pub bounds-law : (es : List Literal) (a : List Bool) (first range k w n : ℕ) (
     (bound_lits_part_from first range below k es n).part.clauses (EqualsGivenValues (at_most_vars_bits range w k (length es)))
 bounds-law [] a first range k w n below size low some high enough less is inside under same = only_from_if a n [] [] (no_more_if a n [] true size refl)
 bounds-law (e ∷ es) a first range k w n below size low some high enough less is inside under same =
-    let p = at_most_part range k below e n in
+    let p = at_most_lit_part range k below e n in
     let l = at_most_lit first range k n in
     let b = at_most_bits range k w in
     let rest = bound_lits_part_from first range l (k + 1) es p.vars in
@@ -119,7 +119,7 @@ pub bounds-say : (es : List Literal) (a c : List Bool) (first range k w n : ℕ)
     ≡ bound_bits w k (length es)
 bounds-say [] a c first range k w n below size low some high enough less is inside under same = refl
 bounds-say (e ∷ es) a c first range k w n below size low some high enough less is inside under same =
-    let p = at_most_part range k below e n in
+    let p = at_most_lit_part range k below e n in
     let l = at_most_lit first range k n in
     let b = at_most_bits range k w in
     let d = at_most_vars_bits range w (k + 1) (length es) in
@@ -155,7 +155,7 @@ pub bounds_step :
     (f g : Formula) (lits whole : List Literal) (first range k : ℕ) (below l e : Literal)
     (es rest : List Literal) → es ≡ e ∷ rest → 0 < first →
     0 < bit_count range → first + bit_count range ≤ f.vars + 1 → is_clause_over f.vars (below ∷ es) ≡ true →
-    l ≡ at_most_lit first range k f.vars → g ≡ with_part f (at_most_part range k below e f.vars) →
+    l ≡ at_most_lit first range k f.vars → g ≡ with_part f (at_most_lit_part range k below e f.vars) →
     lits ++ (bound_lits_part_from first range below k es f.vars).lits ≡ whole →
     (first + bit_count range ≤ g.vars + 1) × (is_clause_over g.vars (l ∷ rest) ≡ true) ×
     ((lits ++ l ∷ []) ++ (bound_lits_part_from first range l (k + 1) rest g.vars).lits ≡ whole) ×
@@ -163,7 +163,7 @@ pub bounds_step :
     ≡ with_part f (bound_lits_part_from first range below k es f.vars).part)
 bounds_step f g lits whole first range k below l e es rest split low some high inside is made h =
     let n = f.vars in
-    let p = at_most_part range k below e n in
+    let p = at_most_lit_part range k below e n in
     let m = at_most_lit first range k n in
     let vars : g.vars ≡ p.vars = ap (λ (u : Formula). u.vars) made in
     let grows : n ≤ p.vars = at_most-low range k n below e in

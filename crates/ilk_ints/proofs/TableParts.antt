@@ -9,7 +9,7 @@ use Rattle.ilk_cnf.specs.Formula.{is_lit_over, is_clause_over, are_clauses_over}
 use Rattle.ilk_cnf.specs.Part.{FormulaPart, empty_part, or_gate_part}
 use Rattle.ilk_ints.specs.Bits.{bit_count}
 use Rattle.ilk_ints.specs.Named.{PartWithLits, value_lits_part_from, value_lits_part, value_var_count, bound_count, bound_lits_part_from, bound_lits_part, bound_var_count, value_bound_var_count}
-use Rattle.ilk_ints.specs.AtMost.{highest_bit_decides, at_most_part, at_most_lit}
+use Rattle.ilk_ints.specs.AtMost.{highest_bit_decides, at_most_lit_part, at_most_lit}
 use Rattle.ilk_ints.proofs.AtMostLaw.{bits_some}
 use Rattle.ilk_ints.proofs.ValuesLaw.{values-low, values-in, values-lits_in}
 use Rattle.ilk_ints.proofs.BoundsLaw.{bounds-low, bounds-in}
@@ -82,10 +82,10 @@ bound_lits_part-in (e ∷ es) first range n low high enough h =
           subst (λ (j : ℕ). are_clauses_over (bound_lits_part_from first range e 1 (take j es) n).part.vars (bound_lits_part_from first range e 1 (take j es) n).part.clauses ≡ true) none refl)
     ]
 
-pub at_most-there : (first range k n m : ℕ) (below e : Literal) (es rest : List Literal) → es ≡ e ∷ rest → (bound_lits_part_from first range below k es n).part.vars ≤ m → (at_most_part range k below e n).vars ≤ m
+pub at_most-there : (first range k n m : ℕ) (below e : Literal) (es rest : List Literal) → es ≡ e ∷ rest → (bound_lits_part_from first range below k es n).part.vars ≤ m → (at_most_lit_part range k below e n).vars ≤ m
 at_most-there first range k n m below e es rest split high =
     let whole : (bound_lits_part_from first range below k (e ∷ rest) n).part.vars ≤ m = subst (λ (ls : List Literal). (bound_lits_part_from first range below k ls n).part.vars ≤ m) split high in
-    let low = bounds-low rest first range (k + 1) (at_most_part range k below e n).vars (at_most_lit first range k n) in
+    let low = bounds-low rest first range (k + 1) (at_most_lit_part range k below e n).vars (at_most_lit first range k n) in
     omega arith
 
 pub value_lits_part-end : (first range n : ℕ) → (value_lits_part first range n).part.vars ≡ n + value_var_count range
@@ -95,7 +95,7 @@ value_lits_part-end first range n = by_case (range == 2)
     by_case true = omega arith
     by_case false = values-low range first range 0 n
 
-at_most-end : (range k n : ℕ) (below equal : Literal) → (at_most_part range k below equal n).vars ≡ n + (if highest_bit_decides range k then 0 else 1)
+at_most-end : (range k n : ℕ) (below equal : Literal) → (at_most_lit_part range k below equal n).vars ≡ n + (if highest_bit_decides range k then 0 else 1)
 at_most-end range k n below equal = by_case (highest_bit_decides range k)
   where
     by_case : (b : Bool) → (cond {A = FormulaPart} b (empty_part n) (or_gate_part (below ∷ equal ∷ []) n)).vars ≡ n + cond b 0 1
@@ -105,7 +105,7 @@ at_most-end range k n below equal = by_case (highest_bit_decides range k)
 bound_lits_part_from-end : (es : List Literal) (first range k n : ℕ) (below : Literal) → (bound_lits_part_from first range below k es n).part.vars ≡ n + bound_var_count range k (length es)
 bound_lits_part_from-end [] first range k n below = omega arith
 bound_lits_part_from-end (e ∷ es) first range k n below =
-    let m = (at_most_part range k below e n).vars in
+    let m = (at_most_lit_part range k below e n).vars in
     let one = at_most-end range k n below e in
     let rest = bound_lits_part_from-end es first range (k + 1) m (at_most_lit first range k n) in
     omega arith

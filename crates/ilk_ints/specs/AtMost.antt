@@ -11,8 +11,8 @@ highest_bit_decides range k = k + 1 == 2 ^ (bit_count range - 1)
 
 -- The formula part for "the integer is at most `k`". It adds a variable after the first `n`, true
 -- exactly if the literal `below` or `equal` is. It is empty if the highest bit suffices.
-abbrev pub at_most_part : ℕ → ℕ → Literal → Literal → ℕ → FormulaPart
-at_most_part range k below equal n =
+abbrev pub at_most_lit_part : ℕ → ℕ → Literal → Literal → ℕ → FormulaPart
+at_most_lit_part range k below equal n =
     if highest_bit_decides range k then empty_part n else or_gate_part (below ∷ equal ∷ []) n
 
 -- The literal that says that an integer below `range`, with its bits from `first` on, is at most
@@ -21,6 +21,6 @@ abbrev pub at_most_lit : ℕ → ℕ → ℕ → ℕ → Literal
 at_most_lit first range k n =
     if highest_bit_decides range k then negative_lit (first + (bit_count range - 1)) else positive_lit (n + 1)
 
--- The truth value of the new variable of `at_most_part`, if it has one and the integer is `v`.
+-- The truth value of the new variable of `at_most_lit_part`, if it has one and the integer is `v`.
 abbrev pub at_most_bits : ℕ → ℕ → ℕ → List Bool
 at_most_bits range k v = if highest_bit_decides range k then [] else nat_le v k ∷ []

@@ -4,7 +4,7 @@ use Rattle.ilk_cnf.specs.Literal.{Literal, positive_lit}
 use Rattle.ilk_cnf.specs.Part.{FormulaPart, empty_part, and_then}
 use Rattle.ilk_ints.specs.Bits.{bit_count}
 use Rattle.ilk_ints.specs.Number.{value_lit_part}
-use Rattle.ilk_ints.specs.AtMost.{highest_bit_decides, at_most_part, at_most_lit, at_most_bits}
+use Rattle.ilk_ints.specs.AtMost.{highest_bit_decides, at_most_lit_part, at_most_lit, at_most_bits}
 
 -- A formula part and its result literals.
 pub record PartWithLits : Type 0 where
@@ -51,8 +51,8 @@ abbrev pub bound_lits_part_from : ℕ → ℕ → Literal → ℕ → List Liter
 bound_lits_part_from first range below k [] n = record { part = empty_part n; lits = [] }
 bound_lits_part_from first range below k (e ∷ es) n =
     record {
-      part = and_then (at_most_part range k below e n) (λ m. (bound_lits_part_from first range (at_most_lit first range k n) (k + 1) es m).part);
-      lits = at_most_lit first range k n ∷ (bound_lits_part_from first range (at_most_lit first range k n) (k + 1) es (at_most_part range k below e n).vars).lits;
+      part = and_then (at_most_lit_part range k below e n) (λ m. (bound_lits_part_from first range (at_most_lit first range k n) (k + 1) es m).part);
+      lits = at_most_lit first range k n ∷ (bound_lits_part_from first range (at_most_lit first range k n) (k + 1) es (at_most_lit_part range k below e n).vars).lits;
     }
 
 -- The formula part with the literals for the bounds of an integer below `range`, built from the

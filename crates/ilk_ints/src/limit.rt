@@ -3,7 +3,7 @@ ghost use Rattle.ilk_cnf.specs.Extends.{PartExtensionsAreExactly, EqualsGivenVal
 ghost use Rattle.ilk_cnf.specs.Formula.{is_clause_over, with_var_count};
 ghost use Rattle.ilk_cnf.specs.Part.{with_part};
 ghost use Rattle.ilk_cnf.specs.Truth.{is_true};
-ghost use Rattle.ilk_ints.specs.AtMost.{at_most_part, at_most_lit, at_most_bits, highest_bit_decides};
+ghost use Rattle.ilk_ints.specs.AtMost.{at_most_lit_part, at_most_lit, at_most_bits, highest_bit_decides};
 ghost use Rattle.ilk_ints.specs.Bits.{bit_count, lowest_bits_of, assigned_bits_from_var};
 
 use crate::bounded::{Bounded, bit_count};
@@ -40,13 +40,13 @@ pub fn add_bound_lit(
     requires from_1 { 0 < n.first }
     requires within { n.first + bit_count n.range ≤ used.old + 1 }
     requires lits { IsTrue (is_clause_over used.old (below ∷ equal ∷ [])) }
-    requires there { (at_most_part n.range k below equal used.old).vars ≤ cnf.old.vars }
+    requires there { (at_most_lit_part n.range k below equal used.old).vars ≤ cnf.old.vars }
     ensures lit { IfOk result (λ l. l ≡ at_most_lit n.first n.range k used.old) }
     ensures vars { OnOk result (cnf.new.vars ≡ cnf.old.vars) }
     ensures made { OnOk result
         (with_var_count cnf.new used.new
         ≡ with_part (with_var_count cnf.old used.old)
-        (at_most_part n.range k below equal used.old)) }
+        (at_most_lit_part n.range k below equal used.old)) }
 
     // If the integer is v, and `below` and `equal` have their meaning.
     ensures law { OnOk result
@@ -54,7 +54,7 @@ pub fn add_bound_lit(
         assigned_bits_from_var a n.first (bit_count n.range)
         ≡ lowest_bits_of (bit_count n.range) v →
         is_true a below ≡ nat_lt v k → is_true a equal ≡ (v == k) →
-        PartExtensionsAreExactly a (at_most_part n.range k below equal used.old)
+        PartExtensionsAreExactly a (at_most_lit_part n.range k below equal used.old)
         (EqualsGivenValues (at_most_bits n.range k v))) }
     ensures exact { OnOk result
         ((a : List Bool) (v : ℕ) → length a ≡ used.old → v < n.range →

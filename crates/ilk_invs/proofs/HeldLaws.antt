@@ -23,7 +23,7 @@ use Rattle.ilk_model.specs.Holding.{holds_section, is_holding_state, is_unreleas
 use Rattle.ilk_layout.specs.Image.{image_of}
 use Rattle.ilk_layout.specs.Conditions.{is_released_count, is_seen_count}
 use Rattle.ilk_layout.proofs.ConditionValues.{mode-holds, rel-holds, seen-holds}
-use Rattle.ilk_invs.specs.Held.{path_section_held, section_held_by, section_retained_by, mode_holds_sections, section_on_unreleased_path, route_locked_or_occupied, rel_below, seen_below}
+use Rattle.ilk_invs.specs.Held.{path_section_held, section_held_by, section_retained_by, mode_holds_sections, section_on_unreleased_path, route_locked_or_occupied, is_released_count_below, is_seen_count_below}
 use Rattle.ilk_invs.proofs.PartLaws.{any-if, marked_pair-holds, some_of-holds}
 use Rattle.ilk_invs.proofs.Tests.{counted-below, found-at, list_any-flat_map}
 
@@ -53,15 +53,15 @@ rest-has k n x (y ∷ ys) = elim (cases_lt n k) [
 ]
 
 module _ (p : PlantLists) (s : State) (shape : HasShape p s) where
-  pub seen_below-holds : (r : ℕ) (now : RouteState) (k : ℕ) → slice_get s.routes r ≡ Some now → tree_holds (image_of p s) (seen_below r k) ≡ nat_lt now.seen k
-  seen_below-holds r now k at =
+  pub is_seen_count_below-holds : (r : ℕ) (now : RouteState) (k : ℕ) → slice_get s.routes r ≡ Some now → tree_holds (image_of p s) (is_seen_count_below r k) ≡ nat_lt now.seen k
+  is_seen_count_below-holds r now k at =
       some_of-holds (image_of p s) (map (is_seen_count r) (range_with_len 0 k))
       ∙ list_any-map (tree_holds (image_of p s)) (is_seen_count r) (range_with_len 0 k)
       ∙ list_any-alike (λ c. tree_holds (image_of p s) (is_seen_count r c)) (λ c. now.seen == c) (range_with_len 0 k) (λ i c found. seen-holds p s shape r now c at)
       ∙ counted-below now.seen k
 
-  pub rel_below-holds : (r : ℕ) (now : RouteState) (k : ℕ) → slice_get s.routes r ≡ Some now → tree_holds (image_of p s) (rel_below r k) ≡ nat_lt now.rel k
-  rel_below-holds r now k at =
+  pub is_released_count_below-holds : (r : ℕ) (now : RouteState) (k : ℕ) → slice_get s.routes r ≡ Some now → tree_holds (image_of p s) (is_released_count_below r k) ≡ nat_lt now.rel k
+  is_released_count_below-holds r now k at =
       some_of-holds (image_of p s) (map (is_released_count r) (range_with_len 0 k))
       ∙ list_any-map (tree_holds (image_of p s)) (is_released_count r) (range_with_len 0 k)
       ∙ list_any-alike (λ c. tree_holds (image_of p s) (is_released_count r c)) (λ c. now.rel == c) (range_with_len 0 k) (λ i c found. rel-holds p s shape r now c at)
@@ -121,7 +121,7 @@ module _ (p : PlantLists) (s : State) (shape : HasShape p s) where
 
   pub path_section_held-holds : (r : ℕ) (now : RouteState) (i : ℕ) → slice_get s.routes r ≡ Some now → tree_holds (image_of p s) (path_section_held r i) ≡ (is_holding_state now && nat_le now.rel i)
   path_section_held-holds r now i at =
-      marked_pair-holds (image_of p s) (mode_holds_sections r) (rel_below r (i + 1)) (is_holding_state now) (nat_le now.rel i) (mode_holds_sections-holds r now at) (rel_below-holds r now (i + 1) at ∙ below-next now.rel i)
+      marked_pair-holds (image_of p s) (mode_holds_sections r) (is_released_count_below r (i + 1)) (is_holding_state now) (nat_le now.rel i) (mode_holds_sections-holds r now at) (is_released_count_below-holds r now (i + 1) at ∙ below-next now.rel i)
 
   pub section_retained_by-holds : (r : ℕ) (route : Route) (now : RouteState) (x : ℕ) → slice_get p.routes r ≡ Some route → slice_get s.routes r ≡ Some now → tree_holds (image_of p s) (section_retained_by r route x) ≡
       (is_locked_or_occupied now && is_unreleased_on_path route now x)

@@ -21,15 +21,15 @@ use Rattle.ilk_plant.specs.declared.state.RouteState.{RouteState}
 use Rattle.ilk_plant.specs.declared.state.State.{State}
 use Rattle.ilk_plant.specs.declared.table.Route.{Route}
 use Rattle.ilk_routes.specs.Claims.{sections_outside_path}
-use Rattle.ilk_model.specs.Families.{has_required_locks, meets_v3_locks_match_routes, path_section_lock}
+use Rattle.ilk_model.specs.Families.{has_required_locks, meets_v3_locks_match_routes, required_path_section_lock}
 use Rattle.ilk_model.specs.Holding.{all_path_indices_pass_test, is_holding_state, route_holds}
 use Rattle.ilk_layout.specs.Image.{image_of}
 use Rattle.ilk_layout.specs.Conditions.{lock_is}
 use Rattle.ilk_layout.proofs.ConditionValues.{lock-holds}
-use Rattle.ilk_invs.specs.Held.{path_section_held, section_held_by, mode_holds_sections, seen_below}
+use Rattle.ilk_invs.specs.Held.{path_section_held, section_held_by, mode_holds_sections, is_seen_count_below}
 use Rattle.ilk_invs.specs.HoldFamilies.{possible_holders, path_lock_matches_seen, held_sections_have_locks, is_possible_holder, none_before_if_holding, none_holding, route_holding, v3_locks_match_routes_tree}
 use Rattle.ilk_invs.specs.Parts.{each_of, conditions_of_each_path_index, conditions_of_each_route, implication}
-use Rattle.ilk_invs.proofs.HeldLaws.{below-next, path_section_held-holds, section_held_by-holds, mode_holds_sections-holds, seen_below-holds}
+use Rattle.ilk_invs.proofs.HeldLaws.{below-next, path_section_held-holds, section_held_by-holds, mode_holds_sections-holds, is_seen_count_below-holds}
 use Rattle.ilk_invs.proofs.PartLaws.{each-place, each-route, each_of-holds, state_of_route, where-holds}
 use Rattle.ilk_invs.proofs.Tests.{dropped-at}
 use Rattle.ilk_routes.proofs.Shape.{beside-known}
@@ -103,12 +103,12 @@ at-dropped n xs j x past at =
 
 module _ (p : PlantLists) (plant : IsPlant p) (s : State) (shape : HasShape p s) where
   lock_place-holds : (r : ℕ) (now : RouteState) (i x : ℕ) → slice_get s.routes r ≡ Some now → x < length p.sections →
-      list_all (tree_holds (image_of p s)) (path_lock_matches_seen p r i x) ≡ (not (is_holding_state now && nat_le now.rel i) || has_lock_state s x (path_section_lock now i))
+      list_all (tree_holds (image_of p s)) (path_lock_matches_seen p r i x) ≡ (not (is_holding_state now && nat_le now.rel i) || has_lock_state s x (required_path_section_lock now i))
   lock_place-holds r now i x at within =
       let held = path_section_held-holds p s shape r now i at in
-      let seen : tree_holds (image_of p s) (seen_below r (i + 1)) ≡ not (nat_lt i now.seen) = seen_below-holds p s shape r now (i + 1) at ∙ below-next now.seen i ∙ turned now.seen i in
+      let seen : tree_holds (image_of p s) (is_seen_count_below r (i + 1)) ≡ not (nat_lt i now.seen) = is_seen_count_below-holds p s shape r now (i + 1) at ∙ below-next now.seen i ∙ turned now.seen i in
       joined (tree_holds (image_of p s) (path_section_held r i))
-      (tree_holds (image_of p s) (seen_below r (i + 1)))
+      (tree_holds (image_of p s) (is_seen_count_below r (i + 1)))
       (tree_holds (image_of p s) (lock_is p x LockedLock))
       (tree_holds (image_of p s) (lock_is p x UsedLock)) (is_holding_state now && nat_le now.rel i) (nat_lt i now.seen)
       (has_lock_state s x LockedLock) (has_lock_state s x UsedLock) held seen
@@ -118,7 +118,7 @@ module _ (p : PlantLists) (plant : IsPlant p) (s : State) (shape : HasShape p s)
       turned : (a b : ℕ) → nat_le a b ≡ not (nat_lt b a)
       turned a b = grind (arith, nat_tests)
 
-      chosen : (b : Bool) → nat_lt i now.seen ≡ b → (if b then has_lock_state s x UsedLock else has_lock_state s x LockedLock) ≡ has_lock_state s x (path_section_lock now i)
+      chosen : (b : Bool) → nat_lt i now.seen ≡ b → (if b then has_lock_state s x UsedLock else has_lock_state s x LockedLock) ≡ has_lock_state s x (required_path_section_lock now i)
       chosen true e = rw e refl
       chosen false e = rw e refl
 
@@ -144,7 +144,7 @@ module _ (p : PlantLists) (plant : IsPlant p) (s : State) (shape : HasShape p s)
   held_sections_have_locks-holds r route now known at =
       let of = plant.routes_known r route known in
       let places = each-place (image_of p s) route (path_lock_matches_seen p r)
-      (λ i x. not (is_holding_state now && nat_le now.rel i) || has_lock_state s x (path_section_lock now i))
+      (λ i x. not (is_holding_state now && nat_le now.rel i) || has_lock_state s x (required_path_section_lock now i))
       (λ i x found. lock_place-holds r now i x at
       (all-at (λ x. x < length p.sections) route.path i x of.path found)) in
       let beside =
@@ -156,14 +156,14 @@ module _ (p : PlantLists) (plant : IsPlant p) (s : State) (shape : HasShape p s)
       (mode_holds_sections-holds p s shape r now at) (lock-holds p s shape x LockedLock (beside-known p route of i x found))) in
       list_all-append (tree_holds (image_of p s)) (conditions_of_each_path_index route (path_lock_matches_seen p r)) (map locked_if_holding (sections_outside_path route))
       ∙ ap (λ v. v && list_all (tree_holds (image_of p s)) (map locked_if_holding (sections_outside_path route))) places
-      ∙ ap (λ v. all_path_indices_pass_test route (λ i x. not (is_holding_state now && nat_le now.rel i) || has_lock_state s x (path_section_lock now i)) && v) beside
+      ∙ ap (λ v. all_path_indices_pass_test route (λ i x. not (is_holding_state now && nat_le now.rel i) || has_lock_state s x (required_path_section_lock now i)) && v) beside
       ∙ by_holding (is_holding_state now)
     where
       locked_if_holding : ℕ → Tree
       locked_if_holding x = implication (mode_holds_sections r) (lock_is p x LockedLock)
 
       by_holding : (b : Bool) →
-          (all_path_indices_pass_test route (λ i x. not (b && nat_le now.rel i) || has_lock_state s x (path_section_lock now i))
+          (all_path_indices_pass_test route (λ i x. not (b && nat_le now.rel i) || has_lock_state s x (required_path_section_lock now i))
           && list_all (λ x. if b then has_lock_state s x LockedLock else true) (sections_outside_path route))
           ≡ (if b then has_required_locks s route now else true)
       by_holding true = refl

@@ -28,10 +28,10 @@ use Rattle.ilk_layout.specs.Occupancy.{occupancy_or_crash}
 use Rattle.ilk_layout.specs.declared.values.Occupancy.TheVariants.{Vacant, Taken, Crash}
 use Rattle.ilk_layout.specs.Conditions.{is_board_aspect, mode_is, no_train_at}
 use Rattle.ilk_layout.proofs.ConditionValues.{board-holds, mode-holds, occupancy-holds}
-use Rattle.ilk_invs.specs.Held.{route_locked_or_occupied, seen_below}
+use Rattle.ilk_invs.specs.Held.{route_locked_or_occupied, is_seen_count_below}
 use Rattle.ilk_invs.specs.Parts.{conditions_of_each_path_index, conditions_of_each_route, some_of}
 use Rattle.ilk_invs.specs.TrainFamilies.{body_at, head_at, route_set_for_head_at, occupied_or_locked_source_closed, route_set_and_clear_past, no_section_seen_past}
-use Rattle.ilk_invs.proofs.HeldLaws.{below-next, route_locked_or_occupied-holds, seen_below-holds}
+use Rattle.ilk_invs.proofs.HeldLaws.{below-next, route_locked_or_occupied-holds, is_seen_count_below-holds}
 use Rattle.ilk_invs.proofs.PartLaws.{any-if, each_of-holds, marked_pair-holds, some-place, some-route, vacant-all}
 use Rattle.ilk_invs.proofs.Tests.{dropped-at, list_any-never}
 use Rattle.ilk_invs.proofs.OccupancyLaws.{down-values, has_head_in, has_train_in, head-values, up-values}
@@ -65,7 +65,7 @@ module _ (p : PlantLists) (plant : IsPlant p) (s : State) (shape : HasShape p s)
     | inl before ↦
         (let goes_on : nat_lt (i + 1) (length route.path) ≡ true = grind (arith, nat_tests) in
         let two : i + 2 ≡ i + 1 + 1 = omega arith in
-        rw goes_on (and-true (tree_holds (image_of p s) (seen_below r (i + 2))) ∙ seen_below-holds p s shape r now (i + 2) at ∙ ap (nat_lt now.seen) two ∙ below-next now.seen (i + 1)))
+        rw goes_on (and-true (tree_holds (image_of p s) (is_seen_count_below r (i + 2))) ∙ is_seen_count_below-holds p s shape r now (i + 2) at ∙ ap (nat_lt now.seen) two ∙ below-next now.seen (i + 1)))
     | inr past ↦
         (let ends : nat_lt (i + 1) (length route.path) ≡ false = grind (arith, nat_tests) in
         let few : now.seen ≤ length route.path = (seen_and_released_fit_path-counts route now (shape.counts r route now known at)).0 in

@@ -26,23 +26,23 @@ use Rattle.ilk_model.specs.Holding.{is_vacant, any_route_passes_test}
 use Rattle.ilk_layout.specs.Image.{image_of}
 use Rattle.ilk_layout.specs.Conditions.{is_board_aspect, mode_is, is_released_count, is_seen_count}
 use Rattle.ilk_layout.proofs.ConditionValues.{board-holds, mode-holds, rel-holds, seen-holds}
-use Rattle.ilk_invs.specs.Held.{rel_below}
+use Rattle.ilk_invs.specs.Held.{is_released_count_below}
 use Rattle.ilk_invs.specs.Parts.{each_of, conditions_of_each_route, some_of, implication}
 use Rattle.ilk_invs.specs.RouteFamilies.{counts_are_consistent, open_only_for_route, path_vacant, v1_consistent_counts_tree, v4_allocating_paths_vacant_tree, v5_open_needs_locked_tree, v9_protecting_boards_closed_tree}
-use Rattle.ilk_invs.proofs.HeldLaws.{rel_below-holds}
+use Rattle.ilk_invs.proofs.HeldLaws.{is_released_count_below-holds}
 use Rattle.ilk_invs.proofs.PartLaws.{any-if, each-route, each_of-holds, some-route, some_of-holds, vacant-all, where-holds}
 use Rattle.ilk_invs.proofs.Tests.{asked-at}
 
 module _ (p : PlantLists) (plant : IsPlant p) (s : State) (shape : HasShape p s) where
   clause-holds : (r : ℕ) (now : RouteState) (k : ℕ) → slice_get s.routes r ≡ Some now →
       tree_holds (image_of p s)
-      (some_of (negation (mode_is r Occupied) ∷ negation (is_seen_count r k) ∷ rel_below r k ∷ []))
+      (some_of (negation (mode_is r Occupied) ∷ negation (is_seen_count r k) ∷ is_released_count_below r k ∷ []))
       ≡ (not (same_mode now.mode Occupied) || (not (now.seen == k) || nat_lt now.rel k))
   clause-holds r now k at =
       joined (tree_holds (image_of p s) (mode_is r Occupied)) (tree_holds (image_of p s) (is_seen_count r k))
-      (tree_holds (image_of p s) (rel_below r k)) (same_mode now.mode Occupied) (now.seen == k)
+      (tree_holds (image_of p s) (is_released_count_below r k)) (same_mode now.mode Occupied) (now.seen == k)
       (nat_lt now.rel k) (mode-holds p s shape r now Occupied at) (seen-holds p s shape r now k at)
-      (rel_below-holds p s shape r now k at)
+      (is_released_count_below-holds p s shape r now k at)
     where
       joined : (a b c a2 b2 c2 : Bool) → a ≡ a2 → b ≡ b2 → c ≡ c2 → (not a || (not b || (c || false))) ≡ (not a2 || (not b2 || c2))
       joined a b c a2 b2 c2 one two three =
@@ -51,17 +51,17 @@ module _ (p : PlantLists) (plant : IsPlant p) (s : State) (shape : HasShape p s)
   clauses-hold : (r : ℕ) (route : Route) (now : RouteState) → slice_get p.routes r ≡ Some route →
       slice_get s.routes r ≡ Some now →
       list_all (tree_holds (image_of p s))
-      (map (λ k. some_of (negation (mode_is r Occupied) ∷ negation (is_seen_count r k) ∷ rel_below r k ∷ []))
+      (map (λ k. some_of (negation (mode_is r Occupied) ∷ negation (is_seen_count r k) ∷ is_released_count_below r k ∷ []))
       (range_with_len 0 (length route.path + 1)))
       ≡ (not (same_mode now.mode Occupied) || nat_lt now.rel now.seen)
   clauses-hold r route now known at =
       let fits = seen_and_released_fit_path-counts route now (shape.counts r route now known at) in
       let few = fits.0 in
       let within : now.seen < length route.path + 1 = omega (arith, few) in
-      list_all-map (tree_holds (image_of p s)) (λ k. some_of (negation (mode_is r Occupied) ∷ negation (is_seen_count r k) ∷ rel_below r k ∷ [])) (range_with_len 0 (length route.path + 1))
+      list_all-map (tree_holds (image_of p s)) (λ k. some_of (negation (mode_is r Occupied) ∷ negation (is_seen_count r k) ∷ is_released_count_below r k ∷ [])) (range_with_len 0 (length route.path + 1))
       ∙ list_all-alike
       (λ k. tree_holds (image_of p s)
-      (some_of (negation (mode_is r Occupied) ∷ negation (is_seen_count r k) ∷ rel_below r k ∷ [])))
+      (some_of (negation (mode_is r Occupied) ∷ negation (is_seen_count r k) ∷ is_released_count_below r k ∷ [])))
       (λ k. not (same_mode now.mode Occupied) || (not (now.seen == k) || nat_lt now.rel k))
       (range_with_len 0 (length route.path + 1)) (λ i k found. clause-holds r now k at)
       ∙ by_mode (same_mode now.mode Occupied) within
@@ -84,14 +84,14 @@ module _ (p : PlantLists) (plant : IsPlant p) (s : State) (shape : HasShape p s)
       (some_of (mode_is r Occupied ∷ is_seen_count r 0 ∷ []) ∷ some_of (mode_is r Occupied ∷ is_released_count r 0 ∷ [])
       ∷ map
       (λ k. some_of
-      (negation (mode_is r Occupied) ∷ negation (is_seen_count r k) ∷ rel_below r k ∷ []))
+      (negation (mode_is r Occupied) ∷ negation (is_seen_count r k) ∷ is_released_count_below r k ∷ []))
       (range_with_len 0 (length route.path + 1)))
       ∙ joined (tree_holds (image_of p s) (mode_is r Occupied)) (tree_holds (image_of p s) (is_seen_count r 0))
       (tree_holds (image_of p s) (is_released_count r 0))
       (list_all (tree_holds (image_of p s))
       (map
       (λ k. some_of
-      (negation (mode_is r Occupied) ∷ negation (is_seen_count r k) ∷ rel_below r k ∷ []))
+      (negation (mode_is r Occupied) ∷ negation (is_seen_count r k) ∷ is_released_count_below r k ∷ []))
       (range_with_len 0 (length route.path + 1))))
       (same_mode now.mode Occupied) (now.seen == 0) (now.rel == 0) (nat_lt now.rel now.seen)
       (mode-holds p s shape r now Occupied at) (seen-holds p s shape r now 0 at)

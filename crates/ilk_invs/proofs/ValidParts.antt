@@ -16,7 +16,7 @@ use Rattle.ilk_routes.specs.Claims.{sections_outside_path}
 use Rattle.ilk_layout.specs.Variables.{ranges_of_plant}
 use Rattle.ilk_layout.specs.Conditions.{mode_is, no_train_at, is_released_count, is_seen_count}
 use Rattle.ilk_layout.proofs.Valid.{mode_is-valid, no_train_at-valid, is_released_count-valid, is_seen_count-valid}
-use Rattle.ilk_invs.specs.Held.{path_section_held, section_held_by, section_retained_by, mode_holds_sections, section_on_unreleased_path, route_locked_or_occupied, rel_below, seen_below}
+use Rattle.ilk_invs.specs.Held.{path_section_held, section_held_by, section_retained_by, mode_holds_sections, section_on_unreleased_path, route_locked_or_occupied, is_released_count_below, is_seen_count_below}
 use Rattle.ilk_invs.specs.Parts.{with_one_literal_mark, conditions_for_optional_value, each_of, conditions_of_each_path_index, conditions_of_each_route, some_of, implication}
 use Rattle.ilk_invs.specs.RouteFamilies.{path_vacant}
 
@@ -75,13 +75,13 @@ module _ (p : PlantLists) (plant : IsPlant p) where
       let number : place.0 ≡ i = it.0 ∙ omega arith in
       each place.0 place.1 (ap (slice_get route.path) number ∙ it.1))
 
-  pub seen_below-valid : (r k : ℕ) (route : Route) → slice_get p.routes r ≡ Some route → k ≤ length route.path + 1 → tree_valid (ranges_of_plant p) (seen_below r k) ≡ true
-  seen_below-valid r k route known few =
+  pub is_seen_count_below-valid : (r k : ℕ) (route : Route) → slice_get p.routes r ≡ Some route → k ≤ length route.path + 1 → tree_valid (ranges_of_plant p) (is_seen_count_below r k) ≡ true
+  is_seen_count_below-valid r k route known few =
       some_of-valid (map (is_seen_count r) (range_with_len 0 k)) (map-valid (is_seen_count r) (range_with_len 0 k) (λ i c at.
       let below = (range_within k i c at).1 in is_seen_count-valid p r c route known (omega (arith, below, few))))
 
-  pub rel_below-valid : (r k : ℕ) (route : Route) → slice_get p.routes r ≡ Some route → k ≤ length route.path + 1 → tree_valid (ranges_of_plant p) (rel_below r k) ≡ true
-  rel_below-valid r k route known few =
+  pub is_released_count_below-valid : (r k : ℕ) (route : Route) → slice_get p.routes r ≡ Some route → k ≤ length route.path + 1 → tree_valid (ranges_of_plant p) (is_released_count_below r k) ≡ true
+  is_released_count_below-valid r k route known few =
       some_of-valid (map (is_released_count r) (range_with_len 0 k)) (map-valid (is_released_count r) (range_with_len 0 k) (λ i c at.
       let below = (range_within k i c at).1 in is_released_count-valid p r c route known (omega (arith, below, few))))
 
@@ -122,8 +122,8 @@ module _ (p : PlantLists) (plant : IsPlant p) where
 
   pub path_section_held-valid : (r i : ℕ) (route : Route) → slice_get p.routes r ≡ Some route → i < length route.path → tree_valid (ranges_of_plant p) (path_section_held r i) ≡ true
   path_section_held-valid r i route known less =
-      each_of-valid (mode_holds_sections r ∷ rel_below r (i + 1) ∷ []) (two-valid (mode_holds_sections r) (rel_below r (i + 1)) (mode_holds_sections-valid r (slice_get_within p.routes r route known))
-      (rel_below-valid r (i + 1) route known (omega (arith, less))))
+      each_of-valid (mode_holds_sections r ∷ is_released_count_below r (i + 1) ∷ []) (two-valid (mode_holds_sections r) (is_released_count_below r (i + 1)) (mode_holds_sections-valid r (slice_get_within p.routes r route known))
+      (is_released_count_below-valid r (i + 1) route known (omega (arith, less))))
 
   pub path_known : (r : ℕ) (route : Route) (i x : ℕ) → slice_get p.routes r ≡ Some route → slice_get route.path i ≡ Some x → x < length p.sections
   path_known r route i x known at = all-at (λ x. x < length p.sections) route.path i x (plant.routes_known r route known).path at

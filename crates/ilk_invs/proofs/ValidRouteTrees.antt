@@ -15,14 +15,14 @@ use Rattle.ilk_layout.specs.Variables.{ranges_of_plant}
 use Rattle.ilk_layout.specs.Conditions.{is_board_aspect, is_listed_point_commanded, is_listed_point_detected, lock_is, mode_is, is_released_count, is_seen_count}
 use Rattle.ilk_layout.proofs.Listed.{is_listed_point_commanded-valid}
 use Rattle.ilk_layout.proofs.Valid.{is_board_aspect-valid, is_listed_point_detected-valid, lock_is-valid, mode_is-valid, is_released_count-valid, is_seen_count-valid}
-use Rattle.ilk_invs.specs.Held.{path_section_held, section_held_by, section_retained_by, mode_holds_sections, rel_below, seen_below}
+use Rattle.ilk_invs.specs.Held.{path_section_held, section_held_by, section_retained_by, mode_holds_sections, is_released_count_below, is_seen_count_below}
 use Rattle.ilk_invs.specs.declared.hold_family.TheConstants.{MAX_ORDERED_HOLDERS}
 use Rattle.ilk_invs.specs.HoldFamilies.{at_most_one_by_halves, at_most_one_in_order, at_most_one_holder, possible_holders, path_lock_matches_seen, held_sections_have_locks, none_before_if_holding, none_holding, not_held_by_both_groups, route_holding, v2_sections_held_once_tree, v3_locks_match_routes_tree}
 use Rattle.ilk_invs.specs.Parts.{each_of, conditions_of_each_path_index, conditions_of_each_route, some_of, implication}
 use Rattle.ilk_invs.specs.PointFamily.{listed_points_on_path, point_matches_route_mode, v6_points_match_modes_tree}
 use Rattle.ilk_invs.specs.RouteFamilies.{counts_are_consistent, open_only_for_route, path_vacant, v1_consistent_counts_tree, v4_allocating_paths_vacant_tree, v5_open_needs_locked_tree}
 use Rattle.ilk_routes.proofs.Shape.{beside-known}
-use Rattle.ilk_invs.proofs.ValidParts.{conditions_for_optional_value-valid, each_of-valid, flat_map-valid, section_held_by-valid, if-valid, mode_holds_sections-valid, joined-valid, map-valid, more-valid, one-valid, path_known, path_section_held-valid, path_vacant-valid, places-valid, rel_below-valid, routes-valid, section_retained_by-valid, seen_below-valid, some_of-valid, three-valid, two-valid, implication-valid}
+use Rattle.ilk_invs.proofs.ValidParts.{conditions_for_optional_value-valid, each_of-valid, flat_map-valid, section_held_by-valid, if-valid, mode_holds_sections-valid, joined-valid, map-valid, more-valid, one-valid, path_known, path_section_held-valid, path_vacant-valid, places-valid, is_released_count_below-valid, routes-valid, section_retained_by-valid, is_seen_count_below-valid, some_of-valid, three-valid, two-valid, implication-valid}
 
 module _ (p : PlantLists) (plant : IsPlant p) where
   pub v1-valid : tree_valid (ranges_of_plant p) (v1_consistent_counts_tree p) ≡ true
@@ -35,12 +35,12 @@ module _ (p : PlantLists) (plant : IsPlant p) where
       of_count : (r : ℕ) (route : Route) (k : ℕ) → slice_get p.routes r ≡ Some route → r < length p.routes →
           k ≤ length route.path →
           tree_valid (ranges_of_plant p)
-          (some_of (negation (mode_is r Occupied) ∷ negation (is_seen_count r k) ∷ rel_below r k ∷ [])) ≡ true
+          (some_of (negation (mode_is r Occupied) ∷ negation (is_seen_count r k) ∷ is_released_count_below r k ∷ [])) ≡ true
       of_count r route k known within few =
-          some_of-valid p plant (negation (mode_is r Occupied) ∷ negation (is_seen_count r k) ∷ rel_below r k ∷ [])
-          (three-valid p plant (negation (mode_is r Occupied)) (negation (is_seen_count r k)) (rel_below r k)
+          some_of-valid p plant (negation (mode_is r Occupied) ∷ negation (is_seen_count r k) ∷ is_released_count_below r k ∷ [])
+          (three-valid p plant (negation (mode_is r Occupied)) (negation (is_seen_count r k)) (is_released_count_below r k)
           (mode_is-valid p r Occupied within) (is_seen_count-valid p r k route known few)
-          (rel_below-valid p plant r k route known (omega (arith, few))))
+          (is_released_count_below-valid p plant r k route known (omega (arith, few))))
 
       of_route : (r : ℕ) (route : Route) → slice_get p.routes r ≡ Some route → r < length p.routes → tree_valid (ranges_of_plant p) (counts_are_consistent r route) ≡ true
       of_route r route known within =
@@ -49,18 +49,19 @@ module _ (p : PlantLists) (plant : IsPlant p) where
           ∷ some_of (mode_is r Occupied ∷ is_released_count r 0 ∷ [])
           ∷ map
           (λ k. some_of
-          (negation (mode_is r Occupied) ∷ negation (is_seen_count r k) ∷ rel_below r k ∷ []))
+          (negation (mode_is r Occupied) ∷ negation (is_seen_count r k) ∷ is_released_count_below r k ∷ []))
           (range_with_len 0 (length route.path + 1)))
           (more-valid p plant (some_of (mode_is r Occupied ∷ is_seen_count r 0 ∷ []))
           (some_of (mode_is r Occupied ∷ is_released_count r 0 ∷ [])
           ∷ map
           (λ k. some_of
-          (negation (mode_is r Occupied) ∷ negation (is_seen_count r k) ∷ rel_below r k ∷ []))
+          (negation (mode_is r Occupied) ∷ negation (is_seen_count r k) ∷ is_released_count_below r k ∷ []))
           (range_with_len 0 (length route.path + 1)))
           (some_of-valid p plant (mode_is r Occupied ∷ is_seen_count r 0 ∷ []) (two-valid p plant (mode_is r Occupied) (is_seen_count r 0) (mode_is-valid p r Occupied within) (is_seen_count-valid p r 0 route known (omega arith))))
-          (more-valid p plant (some_of (mode_is r Occupied ∷ is_released_count r 0 ∷ [])) (map (λ k. some_of (negation (mode_is r Occupied) ∷ negation (is_seen_count r k) ∷ rel_below r k ∷ [])) (range_with_len 0 (length route.path + 1)))
+          (more-valid p plant (some_of (mode_is r Occupied ∷ is_released_count r 0 ∷ []))
+          (map (λ k. some_of (negation (mode_is r Occupied) ∷ negation (is_seen_count r k) ∷ is_released_count_below r k ∷ [])) (range_with_len 0 (length route.path + 1)))
           (some_of-valid p plant (mode_is r Occupied ∷ is_released_count r 0 ∷ []) (two-valid p plant (mode_is r Occupied) (is_released_count r 0) (mode_is-valid p r Occupied within) (is_released_count-valid p r 0 route known (omega arith))))
-          (map-valid p plant (λ k. some_of (negation (mode_is r Occupied) ∷ negation (is_seen_count r k) ∷ rel_below r k ∷ [])) (range_with_len 0 (length route.path + 1)) (λ i k at.
+          (map-valid p plant (λ k. some_of (negation (mode_is r Occupied) ∷ negation (is_seen_count r k) ∷ is_released_count_below r k ∷ [])) (range_with_len 0 (length route.path + 1)) (λ i k at.
           let below = (range_within (length route.path + 1) i k at).1 in of_count r route k known within (omega (arith, below))))))
 
   pub v2-valid : tree_valid (ranges_of_plant p) (v2_sections_held_once_tree p) ≡ true
@@ -125,15 +126,15 @@ module _ (p : PlantLists) (plant : IsPlant p) where
       of_place : (r : ℕ) (route : Route) (i x : ℕ) → slice_get p.routes r ≡ Some route → slice_get route.path i ≡ Some x → i < length route.path → list_all (tree_valid (ranges_of_plant p)) (path_lock_matches_seen p r i x) ≡ true
       of_place r route i x known at less =
           let held = path_section_held-valid p plant r i route known less in
-          let seen = seen_below-valid p plant r (i + 1) route known (omega (arith, less)) in
+          let seen = is_seen_count_below-valid p plant r (i + 1) route known (omega (arith, less)) in
           let inside = path_known p plant r route i x known at in
-          two-valid p plant (some_of (negation (path_section_held r i) ∷ negation (seen_below r (i + 1)) ∷ lock_is p x LockedLock ∷ []))
-          (some_of (negation (path_section_held r i) ∷ seen_below r (i + 1) ∷ lock_is p x UsedLock ∷ []))
-          (some_of-valid p plant (negation (path_section_held r i) ∷ negation (seen_below r (i + 1)) ∷ lock_is p x LockedLock ∷ [])
-          (three-valid p plant (negation (path_section_held r i)) (negation (seen_below r (i + 1)))
+          two-valid p plant (some_of (negation (path_section_held r i) ∷ negation (is_seen_count_below r (i + 1)) ∷ lock_is p x LockedLock ∷ []))
+          (some_of (negation (path_section_held r i) ∷ is_seen_count_below r (i + 1) ∷ lock_is p x UsedLock ∷ []))
+          (some_of-valid p plant (negation (path_section_held r i) ∷ negation (is_seen_count_below r (i + 1)) ∷ lock_is p x LockedLock ∷ [])
+          (three-valid p plant (negation (path_section_held r i)) (negation (is_seen_count_below r (i + 1)))
           (lock_is p x LockedLock) held seen (lock_is-valid p x LockedLock inside)))
-          (some_of-valid p plant (negation (path_section_held r i) ∷ seen_below r (i + 1) ∷ lock_is p x UsedLock ∷ [])
-          (three-valid p plant (negation (path_section_held r i)) (seen_below r (i + 1))
+          (some_of-valid p plant (negation (path_section_held r i) ∷ is_seen_count_below r (i + 1) ∷ lock_is p x UsedLock ∷ [])
+          (three-valid p plant (negation (path_section_held r i)) (is_seen_count_below r (i + 1))
           (lock_is p x UsedLock) held seen (lock_is-valid p x UsedLock inside)))
 
   pub v4-valid : tree_valid (ranges_of_plant p) (v4_allocating_paths_vacant_tree p) ≡ true

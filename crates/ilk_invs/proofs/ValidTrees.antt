@@ -19,14 +19,14 @@ use Rattle.ilk_layout.specs.declared.values.Occupancy.TheVariants.{Vacant, Taken
 use Rattle.ilk_layout.specs.Conditions.{is_board_aspect, mode_is, no_train_at, occupancy_is, train_at}
 use Rattle.ilk_layout.proofs.Valid.{is_board_aspect-valid, mode_is-valid, no_train_at-valid, occupancy_is-valid}
 use Rattle.ilk_invs.specs.FamilyTrees.{family_tree, family_trees}
-use Rattle.ilk_invs.specs.Held.{section_retained_by, route_locked_or_occupied, seen_below}
+use Rattle.ilk_invs.specs.Held.{section_retained_by, route_locked_or_occupied, is_seen_count_below}
 use Rattle.ilk_invs.specs.HoldFamilies.{v2_sections_held_once_tree, v3_locks_match_routes_tree}
 use Rattle.ilk_invs.specs.Parts.{each_of, conditions_of_each_path_index, conditions_of_each_route, some_of, implication}
 use Rattle.ilk_invs.specs.PointFamily.{v6_points_match_modes_tree}
 use Rattle.ilk_invs.specs.RouteFamilies.{v1_consistent_counts_tree, v4_allocating_paths_vacant_tree, v5_open_needs_locked_tree, v9_protecting_boards_closed_tree}
 use Rattle.ilk_invs.specs.TrainFamilies.{body_at, head_at, route_retains_in_direction, body_has_route_set_at, route_set_for_head_at, occupied_or_locked_source_closed, route_set_and_clear_past, head_has_route_set_at, no_section_seen_past, v7_heads_have_routes_tree, v8_bodies_have_routes_tree, vacant_or_up}
 use Rattle.ilk_invs.proofs.Tests.{dropped-at}
-use Rattle.ilk_invs.proofs.ValidParts.{each_of-valid, flat_map-valid, if-valid, joined-valid, map-valid, more-valid, one-valid, path_known, places-valid, route_locked_or_occupied-valid, routes-valid, section_retained_by-valid, seen_below-valid, some_of-valid, two-valid, implication-valid}
+use Rattle.ilk_invs.proofs.ValidParts.{each_of-valid, flat_map-valid, if-valid, joined-valid, map-valid, more-valid, one-valid, path_known, places-valid, route_locked_or_occupied-valid, routes-valid, section_retained_by-valid, is_seen_count_below-valid, some_of-valid, two-valid, implication-valid}
 use Rattle.ilk_invs.proofs.ValidRouteTrees.{v1-valid, v2-valid, v3-valid, v4-valid, v5-valid, v6-valid}
 
 module _ (p : PlantLists) (plant : IsPlant p) where
@@ -50,7 +50,7 @@ module _ (p : PlantLists) (plant : IsPlant p) where
 
   no_section_seen_past-valid : (r : ℕ) (route : Route) (i : ℕ) → slice_get p.routes r ≡ Some route → i < length route.path → list_all (tree_valid (ranges_of_plant p)) (no_section_seen_past r route i) ≡ true
   no_section_seen_past-valid r route i known less =
-      if-valid p plant (nat_lt (i + 1) (length route.path)) (seen_below r (i + 2) ∷ []) (one-valid p plant (seen_below r (i + 2)) (seen_below-valid p plant r (i + 2) route known (omega (arith, less))))
+      if-valid p plant (nat_lt (i + 1) (length route.path)) (is_seen_count_below r (i + 2) ∷ []) (one-valid p plant (is_seen_count_below r (i + 2)) (is_seen_count_below-valid p plant r (i + 2) route known (omega (arith, less))))
 
   occupied_or_locked_source_closed-valid : (r : ℕ) (route : Route) → slice_get p.routes r ≡ Some route → tree_valid (ranges_of_plant p) (occupied_or_locked_source_closed p r route) ≡ true
   occupied_or_locked_source_closed-valid r route known =

@@ -12,12 +12,12 @@ use Rattle.ilk_layout.specs.Conditions.{mode_is, is_released_count, is_seen_coun
 use Rattle.ilk_invs.specs.Parts.{with_one_literal_mark, each_of, some_of}
 
 -- The condition that fewer than `k` path sections of route `r` are seen.
-abbrev pub seen_below : ℕ → ℕ → Tree
-seen_below r k = some_of (map (is_seen_count r) (range_with_len 0 k))
+abbrev pub is_seen_count_below : ℕ → ℕ → Tree
+is_seen_count_below r k = some_of (map (is_seen_count r) (range_with_len 0 k))
 
 -- The condition that fewer than `k` path sections of route `r` are released.
-abbrev pub rel_below : ℕ → ℕ → Tree
-rel_below r k = some_of (map (is_released_count r) (range_with_len 0 k))
+abbrev pub is_released_count_below : ℕ → ℕ → Tree
+is_released_count_below r k = some_of (map (is_released_count r) (range_with_len 0 k))
 
 -- The condition that route `r` is Locked or Occupied.
 abbrev pub route_locked_or_occupied : ℕ → Tree
@@ -41,7 +41,7 @@ section_held_by r route x =
 
 -- The condition that route `r` holds path[`i`]: it holds sections, and at most `i` are released.
 abbrev pub path_section_held : ℕ → ℕ → Tree
-path_section_held r i = with_one_literal_mark (each_of (mode_holds_sections r ∷ rel_below r (i + 1) ∷ []))
+path_section_held r i = with_one_literal_mark (each_of (mode_holds_sections r ∷ is_released_count_below r (i + 1) ∷ []))
 
 -- The condition that route `r` is Locked or Occupied, and section `x` is on its path and not
 -- released.

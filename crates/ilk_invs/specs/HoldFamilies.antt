@@ -12,7 +12,7 @@ use Rattle.ilk_plant.specs.declared.table.Route.{Route}
 use Rattle.ilk_routes.specs.Claims.{sections_outside_path}
 use Rattle.ilk_layout.specs.Conditions.{lock_is}
 use Rattle.ilk_invs.specs.declared.hold_family.TheConstants.{MAX_ORDERED_HOLDERS}
-use Rattle.ilk_invs.specs.Held.{path_section_held, section_held_by, mode_holds_sections, seen_below}
+use Rattle.ilk_invs.specs.Held.{path_section_held, section_held_by, mode_holds_sections, is_seen_count_below}
 use Rattle.ilk_invs.specs.Parts.{conditions_for_optional_value, each_of, conditions_of_each_path_index, conditions_of_each_route, some_of, implication}
 
 -- Returns whether route `r` may hold section `x`: `x` is in its path, overlap or protecting points.
@@ -67,8 +67,8 @@ v2_sections_held_once_tree p = each_of (flat_map (at_most_one_holder p) (range_w
 -- if at most `i` sections are seen, otherwise Used.
 abbrev pub path_lock_matches_seen : PlantLists → ℕ → ℕ → ℕ → List Tree
 path_lock_matches_seen p r i x =
-    some_of (negation (path_section_held r i) ∷ negation (seen_below r (i + 1)) ∷ lock_is p x LockedLock ∷ [])
-    ∷ some_of (negation (path_section_held r i) ∷ seen_below r (i + 1) ∷ lock_is p x UsedLock ∷ [])
+    some_of (negation (path_section_held r i) ∷ negation (is_seen_count_below r (i + 1)) ∷ lock_is p x LockedLock ∷ [])
+    ∷ some_of (negation (path_section_held r i) ∷ is_seen_count_below r (i + 1) ∷ lock_is p x UsedLock ∷ [])
     ∷ []
 
 -- Family V3 for route `r`: the sections of its path satisfy `path_lock_matches_seen`. Those in its

@@ -8,7 +8,7 @@ use Rattle.ilk_plant.specs.declared.state.Aspect.TheVariants.{Open, Closed}
 use Rattle.ilk_plant.specs.declared.state.Mode.TheVariants.{Allocating, Locked, Occupied}
 use Rattle.ilk_plant.specs.declared.table.Route.{Route}
 use Rattle.ilk_layout.specs.Conditions.{is_board_aspect, mode_is, no_train_at, is_released_count, is_seen_count}
-use Rattle.ilk_invs.specs.Held.{rel_below}
+use Rattle.ilk_invs.specs.Held.{is_released_count_below}
 use Rattle.ilk_invs.specs.Parts.{each_of, conditions_of_each_route, some_of, implication}
 
 -- Family V1 for route `r`. Unless it is Occupied, none of its path is seen or released. If it is
@@ -17,7 +17,7 @@ abbrev pub counts_are_consistent : ℕ → Route → Tree
 counts_are_consistent r route =
     each_of (some_of (mode_is r Occupied ∷ is_seen_count r 0 ∷ [])
     ∷ some_of (mode_is r Occupied ∷ is_released_count r 0 ∷ [])
-    ∷ map (λ k. some_of (negation (mode_is r Occupied) ∷ negation (is_seen_count r k) ∷ rel_below r k ∷ [])) (range_with_len 0 (length route.path + 1)))
+    ∷ map (λ k. some_of (negation (mode_is r Occupied) ∷ negation (is_seen_count r k) ∷ is_released_count_below r k ∷ [])) (range_with_len 0 (length route.path + 1)))
 
 -- Family V1: the counts of seen and released sections of each route fit its mode.
 abbrev pub v1_consistent_counts_tree : PlantLists → Tree

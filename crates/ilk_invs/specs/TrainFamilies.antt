@@ -13,7 +13,7 @@ use Rattle.ilk_plant.specs.declared.table.Route.{Route}
 use Rattle.ilk_layout.specs.declared.values.Occupancy.TheVariants.{Vacant, Taken, Crash}
 use Rattle.ilk_model.specs.Holding.{continues_without_board, route_runs_in_direction}
 use Rattle.ilk_layout.specs.Conditions.{is_board_aspect, mode_is, no_train_at, occupancy_is, train_at}
-use Rattle.ilk_invs.specs.Held.{section_retained_by, route_locked_or_occupied, seen_below}
+use Rattle.ilk_invs.specs.Held.{section_retained_by, route_locked_or_occupied, is_seen_count_below}
 use Rattle.ilk_invs.specs.Parts.{with_one_literal_mark, each_of, conditions_of_each_path_index, conditions_of_each_route, some_of}
 
 -- The condition that a train in direction `d` has its head at section `x`.
@@ -35,7 +35,7 @@ body_at p Down x = each_of (negation (vacant_or_up p x) ∷ negation (occupancy_
 -- The condition that no path section of route `r` after index `i` is seen, or none if the path ends
 -- there.
 abbrev pub no_section_seen_past : ℕ → Route → ℕ → List Tree
-no_section_seen_past r route i = if nat_lt (i + 1) (length route.path) then seen_below r (i + 2) ∷ [] else []
+no_section_seen_past r route i = if nat_lt (i + 1) (length route.path) then is_seen_count_below r (i + 2) ∷ [] else []
 
 -- The condition that route `r` is Occupied, or Locked with its source Closed: it is Locked or
 -- Occupied, and it is Occupied or its source is Closed.

@@ -16,9 +16,14 @@ use ilk_plant::{Listed, Mode, Plant, Route, Row, contains_section};
 use std::alloc::{AllocError, Global};
 
 /// Returns the condition that fewer than `k` path sections of route `r` are seen.
-pub(crate) fn seen_below(alloc: Global, plant: &Plant, r: u32, k: u8) -> Result<Form, AllocError>
+pub(crate) fn is_seen_count_below(
+    alloc: Global,
+    plant: &Plant,
+    r: u32,
+    k: u8,
+) -> Result<Form, AllocError>
     requires { r < length plant.now.routes }
-    ensures { IfOk result (λ form. tree_of form ≡ definitions.seen_below r k) }
+    ensures { IfOk result (λ form. tree_of form ≡ definitions.is_seen_count_below r k) }
 {
     let mut forms = Vec::new(alloc);
     for count in 0..k {
@@ -28,9 +33,14 @@ pub(crate) fn seen_below(alloc: Global, plant: &Plant, r: u32, k: u8) -> Result<
 }
 
 /// Returns the condition that fewer than `k` path sections of route `r` are released.
-pub(crate) fn rel_below(alloc: Global, plant: &Plant, r: u32, k: u8) -> Result<Form, AllocError>
+pub(crate) fn is_released_count_below(
+    alloc: Global,
+    plant: &Plant,
+    r: u32,
+    k: u8,
+) -> Result<Form, AllocError>
     requires { r < length plant.now.routes }
-    ensures { IfOk result (λ form. tree_of form ≡ definitions.rel_below r k) }
+    ensures { IfOk result (λ form. tree_of form ≡ definitions.is_released_count_below r k) }
 {
     let mut forms = Vec::new(alloc);
     for count in 0..k {
@@ -162,7 +172,7 @@ pub(crate) fn path_section_held(
 {
     let mut forms = Vec::new(alloc);
     forms.push(mode_holds_sections(alloc, plant, r)?)?;
-    forms.push(rel_below(alloc, plant, r, i + 1)?)?;
+    forms.push(is_released_count_below(alloc, plant, r, i + 1)?)?;
     with_one_literal_mark(alloc, Form::And(forms))
 }
 

@@ -9,7 +9,7 @@ ghost use Rattle.ilk_invs.specs.Held as held;
 ghost use Rattle.ilk_invs.specs.Parts as parts;
 ghost use Rattle.ilk_invs.specs.HoldFamilies as definitions;
 
-use crate::held::{mode_holds_sections, path_section_held, seen_below};
+use crate::held::{is_seen_count_below, mode_holds_sections, path_section_held};
 use crate::parts::implication;
 use ilk_ir::Form;
 use ilk_layout::{lock_is, negated};
@@ -23,12 +23,12 @@ fn locked_ahead(alloc: Global, plant: &Plant, r: u32, i: u8, x: u32) -> Result<F
     ensures { IfOk result
         (λ form. tree_of form
         ≡ parts.some_of
-        (negation (held.path_section_held r i) ∷ negation (held.seen_below r (i + 1))
+        (negation (held.path_section_held r i) ∷ negation (held.is_seen_count_below r (i + 1))
         ∷ conditions.lock_is plant.now x LockedLock ∷ [])) }
 {
     let mut forms = Vec::new(alloc);
     forms.push(negated(alloc, path_section_held(alloc, plant, r, i)?)?)?;
-    forms.push(negated(alloc, seen_below(alloc, plant, r, i + 1)?)?)?;
+    forms.push(negated(alloc, is_seen_count_below(alloc, plant, r, i + 1)?)?)?;
     forms.push(lock_is(plant, x, Hold::Locked))?;
     Ok(Form::Or(forms))
 }
@@ -40,12 +40,12 @@ fn used_behind(alloc: Global, plant: &Plant, r: u32, i: u8, x: u32) -> Result<Fo
     ensures { IfOk result
         (λ form. tree_of form
         ≡ parts.some_of
-        (negation (held.path_section_held r i) ∷ held.seen_below r (i + 1)
+        (negation (held.path_section_held r i) ∷ held.is_seen_count_below r (i + 1)
         ∷ conditions.lock_is plant.now x UsedLock ∷ [])) }
 {
     let mut forms = Vec::new(alloc);
     forms.push(negated(alloc, path_section_held(alloc, plant, r, i)?)?)?;
-    forms.push(seen_below(alloc, plant, r, i + 1)?)?;
+    forms.push(is_seen_count_below(alloc, plant, r, i + 1)?)?;
     forms.push(lock_is(plant, x, Hold::Used))?;
     Ok(Form::Or(forms))
 }

@@ -10,7 +10,7 @@ ghost use Rattle.ilk_invs.specs.Held as held;
 ghost use Rattle.ilk_invs.specs.Parts as parts;
 ghost use Rattle.ilk_invs.specs.RouteFamilies as definitions;
 
-use crate::held::rel_below;
+use crate::held::is_released_count_below;
 use crate::parts::implication;
 use ilk_ir::Form;
 use ilk_layout::{
@@ -25,12 +25,12 @@ fn fewer_released(alloc: Global, plant: &Plant, r: u32, k: u8) -> Result<Form, A
         (λ form. tree_of form
         ≡ parts.some_of
         (negation (conditions.mode_is r Occupied) ∷ negation (conditions.is_seen_count r k)
-        ∷ held.rel_below r k ∷ [])) }
+        ∷ held.is_released_count_below r k ∷ [])) }
 {
     let mut forms = Vec::new(alloc);
     forms.push(negated(alloc, mode_is(plant, r, Mode::Occupied))?)?;
     forms.push(negated(alloc, is_seen_count(plant, r, k))?)?;
-    forms.push(rel_below(alloc, plant, r, k)?)?;
+    forms.push(is_released_count_below(alloc, plant, r, k)?)?;
     Ok(Form::Or(forms))
 }
 
@@ -48,7 +48,7 @@ fn push_fewer_released(
         ++ map
         (λ k. parts.some_of
         (negation (conditions.mode_is r Occupied)
-        ∷ negation (conditions.is_seen_count r k) ∷ held.rel_below r k ∷ []))
+        ∷ negation (conditions.is_seen_count r k) ∷ held.is_released_count_below r k ∷ []))
         (range_with_len 0 n)) }
 {
     for k in 0..n {

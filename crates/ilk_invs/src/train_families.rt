@@ -11,7 +11,7 @@ ghost use Rattle.ilk_layout.specs.Conditions as conditions;
 ghost use Rattle.ilk_invs.specs.Parts as parts;
 ghost use Rattle.ilk_invs.specs.TrainFamilies as definitions;
 
-use crate::held::{route_locked_or_occupied, seen_below};
+use crate::held::{is_seen_count_below, route_locked_or_occupied};
 use crate::parts::with_one_literal_mark;
 use crate::route_families::push_each_section_vacant;
 use ilk_ir::Form;
@@ -142,7 +142,7 @@ fn push_none_seen_past(
         ≡ map tree_of forms.old.items ++ definitions.no_section_seen_past r route.now i) }
 {
     if i + 1 < route.path.as_slice().len() {
-        forms.push(seen_below(alloc, plant, r, i as u8 + 2)?)?;
+        forms.push(is_seen_count_below(alloc, plant, r, i as u8 + 2)?)?;
     }
     Ok(())
 }

@@ -38,13 +38,13 @@ meets_v2_sections_held_once p s = is_true_for_all_below (length p.routes) (λ r.
 
 -- The required lock of a section that a route in state `now` holds as path[i]: Used if i is below
 -- `seen`, otherwise Locked.
-abbrev pub path_section_lock : RouteState → ℕ → Hold
-path_section_lock now i = if nat_lt i now.seen then UsedLock else LockedLock
+abbrev pub required_path_section_lock : RouteState → ℕ → Hold
+required_path_section_lock now i = if nat_lt i now.seen then UsedLock else LockedLock
 
 -- Returns whether the sections of a route that holds sections have the locks that V3 requires.
 abbrev pub has_required_locks : State → Route → RouteState → Bool
 has_required_locks s route now =
-    all_path_indices_pass_test route (λ i x. not (nat_le now.rel i) || has_lock_state s x (path_section_lock now i))
+    all_path_indices_pass_test route (λ i x. not (nat_le now.rel i) || has_lock_state s x (required_path_section_lock now i))
     && list_all (λ x. has_lock_state s x LockedLock) (sections_outside_path route)
 
 -- V3: A section that a route holds as path[i] has lock Used if i is below `seen`. Every other

@@ -11,7 +11,7 @@ ghost use Rattle.ilk_routes.specs.Boards.{has_aspect};
 ghost use Rattle.ilk_routes.specs.Claims.{sections_outside_path};
 ghost use Rattle.ilk_routes.specs.Modes.{same_mode};
 ghost use Rattle.ilk_model.specs.Commanded.{is_point_commanded_as_listed};
-ghost use Rattle.ilk_model.specs.Families.{has_required_locks, is_point_commanded_if_allocating, meets_v1_consistent_counts, meets_v3_locks_match_routes, meets_v4_allocating_paths_vacant, meets_v5_open_needs_locked, meets_v6_points_match_modes, meets_v9_protecting_boards_closed, is_point_set_if_locked_or_occupied, path_section_lock};
+ghost use Rattle.ilk_model.specs.Families.{has_required_locks, is_point_commanded_if_allocating, meets_v1_consistent_counts, meets_v3_locks_match_routes, meets_v4_allocating_paths_vacant, meets_v5_open_needs_locked, meets_v6_points_match_modes, meets_v9_protecting_boards_closed, is_point_set_if_locked_or_occupied, required_path_section_lock};
 ghost use Rattle.ilk_model.specs.Holding.{all_path_indices_pass_test, is_holding_state, is_vacant, any_route_passes_test};
 
 use crate::holding::{all_vacant, is_holding_state, is_kept_on_path, is_locked_or_occupied};
@@ -43,7 +43,7 @@ pub(crate) fn meets_v1_consistent_counts(plant: &Plant, s: &State) -> bool
 }
 
 fn lock_on_path(now: RouteState, i: u64) -> Hold
-    ensures { result ≡ path_section_lock now i }
+    ensures { result ≡ required_path_section_lock now i }
 {
     if i < now.seen as u64 {
         Hold::Used
@@ -55,7 +55,8 @@ fn lock_on_path(now: RouteState, i: u64) -> Hold
 fn path_has_its_locks(s: &State, route: &Route, now: RouteState) -> bool
     ensures { result
         ≡ all_path_indices_pass_test route.now
-        (λ i x. not (nat_le now.rel i) || has_lock_state s.now x (path_section_lock now i)) }
+        (λ i x. not (nat_le now.rel i) || has_lock_state s.now x
+        (required_path_section_lock now i)) }
 {
     route.path.as_slice().iter().enumerate().all(|(i, x)| i < now.rel as usize
         || has_lock_state(s, *x, lock_on_path(now, i as u64)))

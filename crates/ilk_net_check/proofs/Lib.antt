@@ -1,4 +1,3 @@
-pub mod MoreFlags
 pub mod Numbered
 pub mod Returning
 pub mod Tables

@@ -10,8 +10,8 @@ use Rattle.ilk_plant.specs.declared.draft.NetDraft.{NetDraft}
 use Rattle.ilk_plant.specs.declared.draft.SectionDraft.{SectionDraft}
 use Rattle.ilk_plant.specs.declared.network.Dir.{Dir}
 use Rattle.ilk_net_check.specs.declared.ends.ResolvedEnd.{ResolvedEnd}
-use Rattle.ilk_net_check.specs.declared.bits.BitSet256.{BitSet256}
-use Rattle.ilk_net_check.specs.Numbers.{IsMatrixOfTest, matrix_entry_or_false, is_up_neighbour, names, names_no_other, resolved_end, resolved_ends_of_section, ends_of_section, end_not_named_back_once, is_up_side_end_naming, is_named_once_on_side}
+use Rattle.ilk_base.specs.declared.bit_set.BitSet256.{BitSet256}
+use Rattle.ilk_net_check.specs.Numbers.{IsMatrixOfTest, matrix_entry_or_false, is_up_neighbour, refers_to, names_no_other, resolved_end, resolved_ends_of_section, ends_of_section, end_not_named_back_once, is_up_side_end_naming, is_named_once_on_side}
 use Rattle.ilk_net_check.proofs.Tables.{entry_past}
 use Rattle.ilk_base.proofs.Ranges.{below_or_past}
 use Rattle.ilk_base.proofs.Tested.{count_by-map, list_any-map}
@@ -47,8 +47,8 @@ module _ (net : NetDraft) (all : List (List ResolvedEnd)) (ends_are : all ≡ nu
 
   once_here : (x y : ℕ) (d : Dir) → is_named_once_on_side x d (ends_of_section all y) ≡ names_once_by_name net x d (ends_of net y)
   once_here x y d =
-      let n = count_here (names x) y in
-      let s = any_here (λ end. names x end && same_direction end.side d) y in
+      let n = count_here (refers_to x) y in
+      let s = any_here (λ end. refers_to x end && same_direction end.side d) y in
       λ i. (n i == 1) && s i
 
   pub back_here : (x : ℕ) → list_any (end_not_named_back_once all x) (ends_of_section all x) ≡ is_not_named_back_once net x

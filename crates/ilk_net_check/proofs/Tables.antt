@@ -1,4 +1,4 @@
--- Tables of flags over pairs of numbers.
+-- Tables of truth values over pairs of numbers.
 use Rattle.std.proofs.Common.{◌≡◌, ℕ, zero, suc, ◌<◌, ◌≤◌, ◌+◌, ◌⊎◌, inl, inr, Bool, false, ◌&&◌, ◌||◌, List, [], ◌∷◌, ◌++◌, get_or, length, set, take, refl, sym, ◌∙◌, ap, arith}
 use Rattle.std.specs.List.{list_any}
 use Rattle.std.proofs.Math.Bool.{or-false}
@@ -8,15 +8,16 @@ use Rattle.std.proofs.lemmas.List.Folds.{list_any-append}
 use Rattle.std.proofs.lemmas.Option.{slice_get_past}
 use Rattle.ilk_base.proofs.Lists.{slice_get-set_other, slice_get-set_same}
 use Rattle.ilk_plant.specs.NetworkRules.{reaches_via_below}
-use Rattle.ilk_net_check.specs.Numbers.{IsMatrixOfTest, matrix_entry_or_false, has_flag, is_reachable_or_via_section}
-use Rattle.ilk_net_check.specs.declared.bits.BitSet256.{BitSet256}
+use Rattle.ilk_base.specs.BitSet.{bit_set_contains}
+use Rattle.ilk_net_check.specs.Numbers.{IsMatrixOfTest, matrix_entry_or_false, is_reachable_or_via_section}
+use Rattle.ilk_base.specs.declared.bit_set.BitSet256.{BitSet256}
 
 entry_before : (t : List BitSet256) (row : BitSet256) (x y : ℕ) → x < length t → matrix_entry_or_false (t ++ row ∷ []) x y ≡ matrix_entry_or_false t x y
 entry_before [] row x y below = absurd (omega (arith, below))
 entry_before (r ∷ t) row zero y below = refl
 entry_before (r ∷ t) row (suc x) y below = entry_before t row x y (omega (arith, below))
 
-entry_last : (t : List BitSet256) (row : BitSet256) (y : ℕ) → matrix_entry_or_false (t ++ row ∷ []) (length t) y ≡ has_flag row y
+entry_last : (t : List BitSet256) (row : BitSet256) (y : ℕ) → matrix_entry_or_false (t ++ row ∷ []) (length t) y ≡ bit_set_contains row y
 entry_last [] row y = refl
 entry_last (r ∷ t) row y = entry_last t row y
 
@@ -24,7 +25,7 @@ length_more : (t : List BitSet256) (row : BitSet256) → length (t ++ row ∷ []
 length_more [] row = refl
 length_more (r ∷ t) row = let more = length_more t row in omega (arith, more)
 
-pub table_more : (t new : List BitSet256) (row : BitSet256) (n : ℕ) (test : ℕ → ℕ → Bool) → IsMatrixOfTest t n test → new ≡ t ++ row ∷ [] → ((y : ℕ) → y < 256 → has_flag row y ≡ test n y) → IsMatrixOfTest new (n + 1) test
+pub table_more : (t new : List BitSet256) (row : BitSet256) (n : ℕ) (test : ℕ → ℕ → Bool) → IsMatrixOfTest t n test → new ≡ t ++ row ∷ [] → ((y : ℕ) → y < 256 → bit_set_contains row y ≡ test n y) → IsMatrixOfTest new (n + 1) test
 table_more t new row n test before is own = record {
   rows = ap length is ∙ length_more t row ∙ ap (λ m. m + 1) before.rows;
   entries = λ x y below small. ap (λ s. matrix_entry_or_false s x y) is ∙ by_place x y small (eq-or-lt_of_le (omega (arith, below)));
@@ -36,7 +37,7 @@ table_more t new row n test before is own = record {
         let place : x ≡ length t = last ∙ sym before.rows in
         ap (λ z. matrix_entry_or_false (t ++ row ∷ []) z y) place ∙ entry_last t row y ∙ own y small ∙ ap (λ z. test z y) (sym last)
 
-pub matrix_entry_or_false-set : (t : List BitSet256) (row : BitSet256) (x y : ℕ) → x < length t → matrix_entry_or_false (set t x row) x y ≡ has_flag row y
+pub matrix_entry_or_false-set : (t : List BitSet256) (row : BitSet256) (x y : ℕ) → x < length t → matrix_entry_or_false (set t x row) x y ≡ bit_set_contains row y
 matrix_entry_or_false-set t row x y within = rw (slice_get-set_same t x row within) refl
 
 pub matrix_entry_or_false-kept : (t : List BitSet256) (row : BitSet256) (x z y : ℕ) → (x ≡ z → ⊥) → matrix_entry_or_false (set t x row) z y ≡ matrix_entry_or_false t z y
@@ -50,8 +51,8 @@ pub record IsJoinedBelow (before t : List BitSet256) (k i n : ℕ) : Type 0 wher
   pub left : (x y : ℕ) → i ≤ x → matrix_entry_or_false t x y ≡ matrix_entry_or_false before x y
 
 pub join_next : (before t : List BitSet256) (row onward : BitSet256) (k i n : ℕ) → i < n →
-    IsJoinedBelow before t k i n → ((y : ℕ) → has_flag onward y ≡ matrix_entry_or_false before k y) →
-    ((y : ℕ) → has_flag row y ≡ (matrix_entry_or_false t i y || (matrix_entry_or_false t i k && has_flag onward y))) →
+    IsJoinedBelow before t k i n → ((y : ℕ) → bit_set_contains onward y ≡ matrix_entry_or_false before k y) →
+    ((y : ℕ) → bit_set_contains row y ≡ (matrix_entry_or_false t i y || (matrix_entry_or_false t i k && bit_set_contains onward y))) →
     IsJoinedBelow before (set t i row) k (i + 1) n
 join_next before t row onward k i n within sofar on is = record {
   rows = length-set t i row ∙ sofar.rows;

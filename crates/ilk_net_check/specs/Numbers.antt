@@ -7,13 +7,14 @@ use Rattle.ilk_plant.specs.NetNames.{HasBoardsAndNamesOf}
 use Rattle.ilk_plant.specs.Name.{Name}
 use Rattle.ilk_plant.specs.Network.{same_direction}
 use Rattle.ilk_plant.specs.NetworkRules.{ends_of_draft, reaches_via_below, opposite_direction, section_named, End as NamedEnd}
+use Rattle.ilk_base.specs.BitSet.{bit_set_contains}
 use Rattle.ilk_base.specs.Option.{is_some_and}
 use Rattle.ilk_plant.specs.declared.draft.KindDraft.{KindDraft}
 use Rattle.ilk_plant.specs.declared.limits.TheConstants.{MAX_SECTIONS}
 use Rattle.ilk_plant.specs.declared.network.Dir.{Dir}
 use Rattle.ilk_plant.specs.declared.network.Dir.TheVariants.{Up}
 use Rattle.ilk_net_check.specs.declared.ends.ResolvedEnd.{ResolvedEnd}
-use Rattle.ilk_net_check.specs.declared.bits.BitSet256.{BitSet256}
+use Rattle.ilk_base.specs.declared.bit_set.BitSet256.{BitSet256}
 use Rattle.ilk_net_check.specs.declared.rules.Network.{Network}
 
 -- Returns the end with the number of the neighbour in place of its name. `number` gives the number
@@ -37,13 +38,9 @@ ends_of_section all x = slice_index_or all x []
 abbrev pub is_up_neighbour : List (List ResolvedEnd) → ℕ → ℕ → Bool
 is_up_neighbour all x y = list_any (is_up_side_end_naming y) (ends_of_section all x)
 
--- Returns whether the flag of number `y` is set.
-abbrev pub has_flag : BitSet256 → ℕ → Bool
-has_flag flags y = if nat_lt y 128 then bit_at flags.low y == 1 else bit_at flags.high (y - 128) == 1
-
 -- Returns the entry of table `t` in row `x` and column `y`, or false if there is no row `x`.
 abbrev pub matrix_entry_or_false : List BitSet256 → ℕ → ℕ → Bool
-matrix_entry_or_false t x y = is_some_and (slice_get t x) (λ row. has_flag row y)
+matrix_entry_or_false t x y = is_some_and (slice_get t x) (λ row. bit_set_contains row y)
 
 -- Holds if the table has `n` rows, and each of their entries in a column below 256 is the result of
 -- `test` for row and column.
@@ -56,8 +53,8 @@ abbrev pub is_reachable_or_via_section : List BitSet256 → ℕ → ℕ → ℕ 
 is_reachable_or_via_section t k x y = matrix_entry_or_false t x y || (matrix_entry_or_false t x k && matrix_entry_or_false t k y)
 
 -- Returns whether the neighbour at an end is section `x`.
-abbrev pub names : ℕ → ResolvedEnd → Bool
-names x end = is_some_and end.section (λ y. y == x)
+abbrev pub refers_to : ℕ → ResolvedEnd → Bool
+refers_to x end = is_some_and end.section (λ y. y == x)
 
 -- Returns whether the neighbour at an end is not a section other than `x`: it is `x` itself, or
 -- does not exist.
@@ -66,7 +63,7 @@ names_no_other x end = not (is_some_and end.section (λ y. not (y == x)))
 
 -- Returns whether exactly one of these ends names section `x`, and that end is on side `d`.
 abbrev pub is_named_once_on_side : ℕ → Dir → List ResolvedEnd → Bool
-is_named_once_on_side x d ends = count_by (names x) ends == 1 && list_any (λ end. names x end && same_direction end.side d) ends
+is_named_once_on_side x d ends = count_by (refers_to x) ends == 1 && list_any (λ end. refers_to x end && same_direction end.side d) ends
 
 -- Returns whether an end of section `x` names another section that doesn't name `x` back: exactly
 -- once, and on the opposite side.

@@ -17,7 +17,7 @@ pub(crate) struct ResolvedEnd {
 
 impl ResolvedEnd {
     /// Returns whether the neighbour at this end is section `x`.
-    pub fn names(&self, x: u32) -> bool
+    pub fn refers_to(&self, x: u32) -> bool
         ensures { result ≡ is_some_and self.now.section (λ y. y == x) }
     {
         match self.section {

@@ -6,7 +6,6 @@
 //! table of bits for reachability that grows by one section at a time. The two are proved equal.
 #![tactic(auto)]
 
-mod bits;
 mod ends;
 mod examples;
 mod kinds;

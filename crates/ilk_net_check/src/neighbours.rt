@@ -1,7 +1,7 @@
 ghost use Rattle.std.specs.Prelude.{◌≡◌, ◌&&◌, count_by};
 ghost use Rattle.std.specs.List.{list_any};
 ghost use Rattle.ilk_plant.specs.Network.{same_direction};
-ghost use Rattle.ilk_net_check.specs.Numbers.{names, names_no_other, ends_of_section as ends_there, end_not_named_back_once, is_named_once_on_side};
+ghost use Rattle.ilk_net_check.specs.Numbers.{refers_to, names_no_other, ends_of_section as ends_there, end_not_named_back_once, is_named_once_on_side};
 
 use crate::ends::{ResolvedEnd, ends_of_section, opposite};
 use ilk_plant::{Dir, Row};
@@ -14,15 +14,15 @@ pub(crate) fn has_invalid_neighbour(ends: &[ResolvedEnd], x: u32) -> bool
 }
 
 fn count_naming(ends: &[ResolvedEnd], x: u32) -> usize
-    ensures { result ≡ count_by (names x) ends.now }
+    ensures { result ≡ count_by (refers_to x) ends.now }
 {
-    ends.iter().filter(|end| end.names(x)).count()
+    ends.iter().filter(|end| end.refers_to(x)).count()
 }
 
 fn names_from(ends: &[ResolvedEnd], x: u32, side: Dir) -> bool
-    ensures { result ≡ list_any (λ end. names x end && same_direction end.side side) ends.now }
+    ensures { result ≡ list_any (λ end. refers_to x end && same_direction end.side side) ends.now }
 {
-    ends.iter().any(|end| end.names(x) && end.side == side)
+    ends.iter().any(|end| end.refers_to(x) && end.side == side)
 }
 
 fn is_named_once_on_side(ends: &[ResolvedEnd], x: u32, side: Dir) -> bool

@@ -1,16 +1,17 @@
 ghost use Rattle.std.specs.Prelude.{ℕ, ◌≡◌, ◌≤◌, ◌<◌, ◌&&◌, ◌||◌, IfOk, length};
 ghost use Rattle.std.specs.List.{list_any};
+ghost use Rattle.ilk_base.specs.BitSet.{bit_set_contains};
 ghost use Rattle.ilk_plant.specs.NetworkRules.{reaches_via_below};
-ghost use Rattle.ilk_net_check.specs.Numbers.{IsMatrixOfTest, matrix_entry_or_false, has_flag, is_up_neighbour, is_reachable_or_via_section, is_up_side_end_naming};
+ghost use Rattle.ilk_net_check.specs.Numbers.{IsMatrixOfTest, matrix_entry_or_false, is_up_neighbour, is_reachable_or_via_section, is_up_side_end_naming};
 ghost use Rattle.ilk_plant.specs.declared.limits.TheConstants.{MAX_SECTIONS};
 
-use crate::bits::BitSet256;
 use crate::ends::{ResolvedEnd, ends_of_section};
+use ilk_base::BitSet256;
 use ilk_plant::{Dir, Row};
 use std::alloc::{AllocError, Global};
 
 fn row_at(table: &Row<BitSet256>, x: u32) -> BitSet256
-    ensures { (y : ℕ) → has_flag result y ≡ matrix_entry_or_false table.now x y }
+    ensures { (y : ℕ) → bit_set_contains result y ≡ matrix_entry_or_false table.now x y }
 {
     match table.as_slice().get(x as usize) {
         Some(row) => *row,
@@ -23,27 +24,27 @@ fn row_at(table: &Row<BitSet256>, x: u32) -> BitSet256
 pub(crate) fn matrix_entry_or_false(table: &Row<BitSet256>, x: u32, y: u32) -> bool
     ensures { result ≡ matrix_entry_or_false table.now x y }
 {
-    row_at(table, x).has(y)
+    row_at(table, x).contains(y)
 }
 
-fn with_end(flags: BitSet256, end: &ResolvedEnd) -> BitSet256
-    ensures { (y : ℕ) → y < 256 → has_flag result y
-        ≡ (has_flag flags y || is_up_side_end_naming y end.now) }
+fn with_end(found: BitSet256, end: &ResolvedEnd) -> BitSet256
+    ensures { (y : ℕ) → y < 256 → bit_set_contains result y
+        ≡ (bit_set_contains found y || is_up_side_end_naming y end.now) }
 {
     match end.section {
         Some(z) => {
-            if end.side == Dir::Up && z < 256 {
-                flags.with_flag(z)
+            if end.side == Dir::Up {
+                found.with(z)
             } else {
-                flags
+                found
             }
         }
-        None => flags,
+        None => found,
     }
 }
 
 fn next_of(ends: &[ResolvedEnd]) -> BitSet256
-    ensures { (y : ℕ) → y < 256 → has_flag result y ≡ list_any (is_up_side_end_naming y) ends.now }
+    ensures { (y : ℕ) → y < 256 → bit_set_contains result y ≡ list_any (is_up_side_end_naming y) ends.now }
 {
     let mut next = BitSet256::empty();
     for end in ends {
@@ -69,11 +70,15 @@ fn steps_up(
 // Returns row `x` after walks may also pass through `k`. `onward` is row `k`.
 fn row_by_way_of(leads: &Row<BitSet256>, onward: BitSet256, k: u32, x: u32) -> BitSet256
     ensures { (y : ℕ) →
-        has_flag result y ≡ (matrix_entry_or_false leads.now x y
-        || (matrix_entry_or_false leads.now x k && has_flag onward y)) }
+        bit_set_contains result y ≡ (matrix_entry_or_false leads.now x y
+        || (matrix_entry_or_false leads.now x k && bit_set_contains onward y)) }
 {
     let row = row_at(leads, x);
-    if row.has(k) { row.union(onward) } else { row }
+    if row.contains(k) {
+        row.union(onward)
+    } else {
+        row
+    }
 }
 
 // Lets walks also pass through section `k`. Row `k` itself doesn't change, so the rows can be

@@ -8,11 +8,11 @@ ghost use Rattle.ilk_net_check.specs.Numbers.{AgreesWithDraft};
 ghost use Rattle.ilk_plant.specs.declared.broken.Rule.TheVariants.{N7};
 ghost use Rattle.ilk_plant.specs.declared.limits.TheConstants.{MAX_SECTIONS};
 
-use crate::bits::BitSet256;
 use crate::ends::{ResolvedEnd, ends_of_section, resolved_ends_by_section};
 use crate::kinds::{has_board_to_nowhere, is_linear_without_neighbours, repeats_neighbour};
 use crate::neighbours::{has_invalid_neighbour, is_not_named_back_once};
 use crate::reach::{matrix_entry_or_false, up_reachability_matrix};
+use ilk_base::BitSet256;
 use ilk_plant::{Broken, KindDraft, NetDraft, NetNames, PlaceKind, Row, Rule, push_broken_if};
 use std::alloc::{AllocError, Global};
 

@@ -39,9 +39,9 @@ abbrev pub member_as_array : Name → Data → Option Items
 member_as_array name d = get name d >>= as_array
 
 -- Returns the items of an array as a list.
-abbrev pub items_as_list : Items → List Data
-items_as_list no_items = []
-items_as_list (item d ds) = d ∷ items_as_list ds
+abbrev pub items_to_list : Items → List Data
+items_to_list no_items = []
+items_to_list (item d ds) = d ∷ items_to_list ds
 
 -- Returns the items of an array, each converted by `kind`, if `kind` accepts all of them. Otherwise
 -- returns `None`.

@@ -12,7 +12,7 @@ use Rattle.ilk_net_read.specs.declared.fault.FormFault.{FormFault}
 use Rattle.ilk_net_read.specs.declared.fault.Place.TheVariants.{Document, Section}
 use Rattle.ilk_net_read.specs.Document.{VersionedDocument, as_document, has_allowed_section_route_counts, document_if_known_version}
 use Rattle.ilk_net_read.specs.Fault.{rule_fault_at_place, value_if_passes, or_fault}
-use Rattle.ilk_net_read.specs.Member.{items_as_list}
+use Rattle.ilk_net_read.specs.Member.{items_to_list}
 use Rattle.ilk_net_read.specs.Section.{as_section}
 
 -- Returns the JSON value of a text. Violates F2 if the bytes aren't the UTF-8 of a JSON text.
@@ -37,7 +37,7 @@ section_from_value i d = do
 -- Returns the network of a document, or the first violated rule of its sections in order.
 abbrev pub network_from_document : VersionedDocument → Result NetDraft FormFault
 network_from_document document = do
-  sections ← try_map_numbered section_from_value 0 (items_as_list document.sections)
+  sections ← try_map_numbered section_from_value 0 (items_to_list document.sections)
   Ok (record { sections = sections })
 
 -- Returns the network of a configuration, or the first violated rule of its document and then its

@@ -4,7 +4,7 @@ ghost use Rattle.serde_json.specs.View.{view, items_view};
 ghost use Rattle.ilk_plant.specs.Limits.{NetworkWithinLimits, are_names_in_section_valid};
 ghost use Rattle.ilk_net_read.specs.Fault.{MatchesUnlessOutOfMemory};
 ghost use Rattle.ilk_base.specs.Result.{try_map_numbered};
-ghost use Rattle.ilk_net_read.specs.Member.{items_as_list};
+ghost use Rattle.ilk_net_read.specs.Member.{items_to_list};
 ghost use Rattle.ilk_net_read.specs.Network.{network_from_document, network_from_conf_value, section_from_value};
 ghost use Rattle.ilk_net_read.specs.Seen.{HasAllowedCounts, document_view};
 
@@ -18,7 +18,7 @@ use std::alloc::Global;
 fn sections(alloc: Global, values: &[Value]) -> Result<Row<SectionDraft>, FormError>
     requires { length values.now ≤ MAX_SECTIONS }
     ensures exact { MatchesUnlessOutOfMemory result
-        (try_map_numbered section_from_value 0 (items_as_list (items_view values.now))) }
+        (try_map_numbered section_from_value 0 (items_to_list (items_view values.now))) }
     ensures count { IfOk result (λ sections. length sections ≡ length values.now) }
     ensures named { IfOk result (λ sections. list_all are_names_in_section_valid sections ≡ true) }
 {

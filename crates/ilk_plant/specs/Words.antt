@@ -33,10 +33,10 @@ abbrev pub aspect_word : Aspect → Name
 aspect_word Open = codes "open"
 aspect_word Closed = codes "closed"
 
-abbrev pub hold_word : Hold → Name
-hold_word FreeLock = codes "free"
-hold_word LockedLock = codes "locked"
-hold_word Used = codes "used"
+abbrev pub lock_state_word : Hold → Name
+lock_state_word FreeLock = codes "free"
+lock_state_word LockedLock = codes "locked"
+lock_state_word Used = codes "used"
 
 abbrev pub mode_word : Mode → Name
 mode_word Free = codes "free"
@@ -62,8 +62,8 @@ abbrev pub aspect_from_word : Name → Option Aspect
 aspect_from_word = first_value_with_word aspect_word (Open ∷ Closed ∷ [])
 
 -- The section lock whose word is the given text, or `None` if there is none.
-abbrev pub hold_from_word : Name → Option Hold
-hold_from_word = first_value_with_word hold_word (FreeLock ∷ LockedLock ∷ Used ∷ [])
+abbrev pub lock_state_from_word : Name → Option Hold
+lock_state_from_word = first_value_with_word lock_state_word (FreeLock ∷ LockedLock ∷ Used ∷ [])
 
 -- The route mode whose word is the given text, or `None` if there is none.
 abbrev pub mode_from_word : Name → Option Mode

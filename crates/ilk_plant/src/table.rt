@@ -17,7 +17,7 @@ pub struct Route {
     pub destination: Option<u32>,
     /// Its sections, in the order in which a train passes them.
     pub path: Row<u32>,
-    /// The sections beyond its end that are kept clear with it.
+    /// The sections beyond its destination that are locked with its path.
     pub overlap: Row<u32>,
     /// The points that it requires, with their positions.
     pub points: Row<Listed>,

@@ -97,9 +97,9 @@ impl Aspect {
 }
 
 impl HasWord for Hold {
-    ghost use Rattle.ilk_plant.specs.Words.{hold_word};
+    ghost use Rattle.ilk_plant.specs.Words.{lock_state_word};
 
-    ghost word_of = { hold_word };
+    ghost word_of = { lock_state_word };
 
     fn word(self) -> &'static str {
         match self {
@@ -113,7 +113,7 @@ impl HasWord for Hold {
 impl Hold {
     /// Returns the section lock whose word is `word`, or `None` if there is none.
     pub fn from_word(word: &[u8]) -> Option<Hold>
-        ensures { result ≡ words.hold_from_word word.now }
+        ensures { result ≡ words.lock_state_from_word word.now }
     {
         first_value_with_word(&[Hold::Free, Hold::Locked, Hold::Used], word)
     }

@@ -27,7 +27,7 @@ use Rattle.ilk_layout.specs.Conditions.{section_point_is_detected}
 use Rattle.ilk_layout.proofs.Valid.{section_point_is_detected-valid, occupancy_is-valid, train_at-valid, value-valid}
 use Rattle.ilk_props.specs.HazardForm.{hazard_in_section, hazard_tree}
 use Rattle.ilk_props.specs.StartForm.{start_tree}
-use Rattle.ilk_props.specs.WellformedForm.{continues_beyond, joined_by_train, section_leads_to_neighbour, section_demands, section_leads, neighbour_has_train_if_continuing, wellformed_tree}
+use Rattle.ilk_props.specs.WellformedForm.{continues_beyond, joined_by_train, track_leads_to_neighbour, section_demands, track_of_section_leads_to, neighbour_has_train_if_continuing, wellformed_tree}
 use Rattle.ilk_props.proofs.StartHolds.{start-in_ranges}
 
 range-at_value : (values ranges : List ℕ) (i c : ℕ) → in_ranges values ranges ≡ true → slice_get values i ≡ Some c → (range : ℕ) × (slice_get ranges i ≡ Some range) × (c < range)
@@ -69,14 +69,14 @@ module _ (p : PlantLists) (plant : IsPlant p) where
       and_from _ _ (occupancy_is-valid p x (Taken d false false) within)
       (and_from _ _ (occupancy_is-valid p x (if same_direction side d then Taken d true false else Taken d false true) within) refl)
 
-  section_leads_to_neighbour-valid : (x : ℕ) (side : Dir) (y : ℕ) → tree_valid (ranges_of_plant p) (section_leads_to_neighbour p x side y) ≡ true
-  section_leads_to_neighbour-valid x side y = by_section (slice_get p.sections x)
+  track_leads_to_neighbour-valid : (x : ℕ) (side : Dir) (y : ℕ) → tree_valid (ranges_of_plant p) (track_leads_to_neighbour p x side y) ≡ true
+  track_leads_to_neighbour-valid x side y = by_section (slice_get p.sections x)
     where
       by_side : (lies : Tree) (b : Bool) → tree_valid (ranges_of_plant p) lies ≡ true → tree_valid (ranges_of_plant p) (if b then lies else yes) ≡ true
       by_side lies true valid = valid
       by_side lies false valid = refl
 
-      by_section : (o : Option Section) → tree_valid (ranges_of_plant p) (unwrap_or (option_map (section_leads p x side y) o) no) ≡ true
+      by_section : (o : Option Section) → tree_valid (ranges_of_plant p) (unwrap_or (option_map (track_of_section_leads_to p x side y) o) no) ≡ true
       by_section None = refl
       by_section (Some (Linear down up b c)) = refl
       by_section (Some (Point stem plus minus faces)) =
@@ -84,8 +84,8 @@ module _ (p : PlantLists) (plant : IsPlant p) where
 
   joined-valid : (x : ℕ) (d side : Dir) (y : ℕ) → y < length p.sections → tree_valid (ranges_of_plant p) (joined_by_train p x d side y) ≡ true
   joined-valid x d side y within =
-      and_from _ _ (section_leads_to_neighbour-valid x side y)
-      (and_from _ _ (section_leads_to_neighbour-valid y (opposite_direction side) x)
+      and_from _ _ (track_leads_to_neighbour-valid x side y)
+      (and_from _ _ (track_leads_to_neighbour-valid y (opposite_direction side) x)
       (and_from _ _ (continues_beyond-valid y d (opposite_direction side) within) refl))
 
   next-valid : (x : ℕ) (d side : Dir) → tree_valid (ranges_of_plant p) (any_of (trees_from_list (map (joined_by_train p x d side) (next_to p x side)))) ≡ true

@@ -21,7 +21,7 @@ use Rattle.ilk_plant.proofs.Once.{numbers_differ-places}
 use Rattle.ilk_motion.specs.Ahead.{section_led_to, detected_leg}
 use Rattle.ilk_layout.specs.Wellformed.{section_ahead, mutual_section_ahead, detected_in_values, occupancy_in_values}
 use Rattle.ilk_layout.proofs.Plants.{ahead-neighbours_on}
-use Rattle.ilk_props.specs.WellformedForm.{continues_beyond, joined_by_train, section_leads_to_neighbour, section_leads}
+use Rattle.ilk_props.specs.WellformedForm.{continues_beyond, joined_by_train, track_leads_to_neighbour, track_of_section_leads_to}
 use Rattle.ilk_props.proofs.Leaves.{goes_on, goes_on-holds, section_point_is_detected-holds, same_lie}
 
 abbrev pub is_at : ℕ → ℕ → Bool
@@ -63,33 +63,33 @@ by_leg plus minus y lie differ has =
           ap (λ b. is_some_and lie (same_lie (if b then Plus else Minus))) there ∙ minus_leg plus minus y lie there other)
     ]
 
-section_leads-holds : (p : PlantLists) (values : List ℕ) (x : ℕ) (side : Dir) (y : ℕ) (section : Section) →
+track_of_section_leads_to-holds : (p : PlantLists) (values : List ℕ) (x : ℕ) (side : Dir) (y : ℕ) (section : Section) →
     ((stem plus minus : ℕ) (faces : Dir) → section ≡ Point stem plus minus faces → (minus == plus) ≡ false) →
     contains_section y (neighbours_on section side) ≡ true →
-    tree_holds values (section_leads p x side y section)
+    tree_holds values (track_of_section_leads_to p x side y section)
     ≡ is_some_and (section_led_to section side (detected_in_values p values x)) (is_at y)
-section_leads-holds p values x Down y (Linear None up b c) differ has = absurd (false≢true has)
-section_leads-holds p values x Down y (Linear (Some z) up b c) differ has = sym (only (z == y) has)
-section_leads-holds p values x Up y (Linear down None b c) differ has = absurd (false≢true has)
-section_leads-holds p values x Up y (Linear down (Some z) b c) differ has = sym (only (z == y) has)
-section_leads-holds p values x Up y (Point stem plus minus Up) differ has =
+track_of_section_leads_to-holds p values x Down y (Linear None up b c) differ has = absurd (false≢true has)
+track_of_section_leads_to-holds p values x Down y (Linear (Some z) up b c) differ has = sym (only (z == y) has)
+track_of_section_leads_to-holds p values x Up y (Linear down None b c) differ has = absurd (false≢true has)
+track_of_section_leads_to-holds p values x Up y (Linear down (Some z) b c) differ has = sym (only (z == y) has)
+track_of_section_leads_to-holds p values x Up y (Point stem plus minus Up) differ has =
     section_point_is_detected-holds p values x (if plus == y then Plus else Minus) ∙ by_leg plus minus y (detected_in_values p values x) (differ stem plus minus Up refl) has
-section_leads-holds p values x Down y (Point stem plus minus Down) differ has =
+track_of_section_leads_to-holds p values x Down y (Point stem plus minus Down) differ has =
     section_point_is_detected-holds p values x (if plus == y then Plus else Minus) ∙ by_leg plus minus y (detected_in_values p values x) (differ stem plus minus Down refl) has
-section_leads-holds p values x Down y (Point stem plus minus Up) differ has = sym (only (stem == y) has)
-section_leads-holds p values x Up y (Point stem plus minus Down) differ has = sym (only (stem == y) has)
+track_of_section_leads_to-holds p values x Down y (Point stem plus minus Up) differ has = sym (only (stem == y) has)
+track_of_section_leads_to-holds p values x Up y (Point stem plus minus Down) differ has = sym (only (stem == y) has)
 
-pub section_leads_to_neighbour-holds : (p : PlantLists) → IsPlant p → (values : List ℕ) (x : ℕ) (side : Dir) (y : ℕ) →
+pub track_leads_to_neighbour-holds : (p : PlantLists) → IsPlant p → (values : List ℕ) (x : ℕ) (side : Dir) (y : ℕ) →
     contains_section y (next_to p x side) ≡ true →
-    tree_holds values (section_leads_to_neighbour p x side y) ≡ is_some_and (section_ahead p (detected_in_values p values) x side) (is_at y)
-section_leads_to_neighbour-holds p plant values x side y has = by_section (slice_get p.sections x) refl
+    tree_holds values (track_leads_to_neighbour p x side y) ≡ is_some_and (section_ahead p (detected_in_values p values) x side) (is_at y)
+track_leads_to_neighbour-holds p plant values x side y has = by_section (slice_get p.sections x) refl
   where
-    by_section : (o : Option Section) → slice_get p.sections x ≡ o → tree_holds values (section_leads_to_neighbour p x side y) ≡ is_some_and (section_ahead p (detected_in_values p values) x side) (is_at y)
+    by_section : (o : Option Section) → slice_get p.sections x ≡ o → tree_holds values (track_leads_to_neighbour p x side y) ≡ is_some_and (section_ahead p (detected_in_values p values) x side) (is_at y)
     by_section None e = let none : false ≡ true = rw e at has in absurd (false≢true none)
     by_section (Some section) e =
         let there : contains_section y (neighbours_on section side) ≡ true = rw e at has in
-        ap (λ o. tree_holds values (unwrap_or (option_map (section_leads p x side y) o) no)) e
-        ∙ section_leads-holds p values x side y section (λ stem plus minus faces is. legs-apart p plant x stem plus minus faces (e ∙ ap Some is)) there
+        ap (λ o. tree_holds values (unwrap_or (option_map (track_of_section_leads_to p x side y) o) no)) e
+        ∙ track_of_section_leads_to-holds p values x side y section (λ stem plus minus faces is. legs-apart p plant x stem plus minus faces (e ∙ ap Some is)) there
         ∙ sym (ap (λ o. is_some_and (o >>= (λ k. section_led_to k side (detected_in_values p values x))) (is_at y)) e)
 
 only_at : (test : ℕ → Bool) (z : ℕ) (ys : List ℕ) → contains_section z ys ≡ true → list_any (λ y. (z == y) && test y) ys ≡ test z
@@ -138,10 +138,10 @@ module _ (p : PlantLists) (plant : IsPlant p) (values : List ℕ) (x : ℕ) (d s
   each : (i y : ℕ) → slice_get (next_to p x side) i ≡ Some y → tree_holds values (joined_by_train p x d side y) ≡ (is_some_and (section_ahead p (detected_in_values p values) x side) (is_at y) && leads_back y)
   each i y at =
       let has : contains_section y (next_to p x side) ≡ true = list_any-from (λ z. z == y) (next_to p x side) i y at (eq-eqb y y refl) in
-      let one = section_leads_to_neighbour-holds p plant values x side y has in
-      let two = section_leads_to_neighbour-holds p plant values y back x (other_side side x y has) in
+      let one = track_leads_to_neighbour-holds p plant values x side y has in
+      let two = track_leads_to_neighbour-holds p plant values y back x (other_side side x y has) in
       let three = goes_on-holds p values y d back in
-      ap (λ (b : Bool). b && (tree_holds values (section_leads_to_neighbour p y back x) && (tree_holds values (continues_beyond p y d back) && true))) one
+      ap (λ (b : Bool). b && (tree_holds values (track_leads_to_neighbour p y back x) && (tree_holds values (continues_beyond p y d back) && true))) one
       ∙ ap (λ (b : Bool). is_some_and (section_ahead p (detected_in_values p values) x side) (is_at y) && (b && (tree_holds values (continues_beyond p y d back) && true))) two
       ∙ ap (λ (b : Bool). is_some_and (section_ahead p (detected_in_values p values) x side) (is_at y) && (is_some_and (section_ahead p (detected_in_values p values) y back) (is_at x) && (b && true))) three
 

@@ -30,23 +30,23 @@ continues_beyond p x d side =
 
 -- The form "section `x` leads to `y`, its neighbour on side `side`". A point with its legs on this
 -- side has to be in position for leg `y`.
-abbrev pub section_leads : PlantLists → ℕ → Dir → ℕ → Section → Tree
-section_leads p x side y (Linear down up board_down board_up) = yes
-section_leads p x side y (Point stem plus minus faces) =
+abbrev pub track_of_section_leads_to : PlantLists → ℕ → Dir → ℕ → Section → Tree
+track_of_section_leads_to p x side y (Linear down up board_down board_up) = yes
+track_of_section_leads_to p x side y (Point stem plus minus faces) =
     if same_direction faces side then section_point_is_detected p x (if plus == y then Plus else Minus) else yes
 
 -- The form "section `x` leads to `y`, its neighbour on side `side`"; false if there is no section
 -- `x`.
-abbrev pub section_leads_to_neighbour : PlantLists → ℕ → Dir → ℕ → Tree
-section_leads_to_neighbour p x side y = unwrap_or (option_map (section_leads p x side y) (slice_get p.sections x)) no
+abbrev pub track_leads_to_neighbour : PlantLists → ℕ → Dir → ℕ → Tree
+track_leads_to_neighbour p x side y = unwrap_or (option_map (track_of_section_leads_to p x side y) (slice_get p.sections x)) no
 
 -- The form "`x` and `y`, its neighbour on side `side`, lead to each other, and `y` has a train in
 -- direction `d` that continues to `x`".
 abbrev pub joined_by_train : PlantLists → ℕ → Dir → Dir → ℕ → Tree
 joined_by_train p x d side y =
     all_of (trees_from_list (
-    section_leads_to_neighbour p x side y
-    ∷ section_leads_to_neighbour p y (opposite_direction side) x
+    track_leads_to_neighbour p x side y
+    ∷ track_leads_to_neighbour p y (opposite_direction side) x
     ∷ continues_beyond p y d (opposite_direction side)
     ∷ []))
 

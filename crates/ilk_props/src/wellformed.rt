@@ -53,7 +53,7 @@ fn goes_on_at(alloc: Global, plant: &Plant, x: u32, d: Dir, side: Dir) -> Result
 
 fn leads_by_lie(plant: &Plant, x: u32, side: Dir, y: u32) -> Form
     requires { x < length plant.now.sections }
-    ensures { tree_of result ≡ forms.section_leads_to_neighbour plant.now x side y }
+    ensures { tree_of result ≡ forms.track_leads_to_neighbour plant.now x side y }
 {
     match *plant.section(x) {
         Section::Linear { .. } => Form::Yes,

@@ -21,7 +21,7 @@ use Rattle.ilk_model.specs.declared.event.Event.{Event}
 use Rattle.ilk_layout.specs.Image.{image_of}
 use Rattle.ilk_layout.specs.Laws.{AreImageOfSafeState}
 use Rattle.ilk_behave.specs.Behaviour.{system_of_plant}
-use Rattle.ilk_unroll.specs.Goal.{CopyDemand, PlainGoalForms, demands_of, demand_form_fails_in_copy, form_demands_below_copy, demand_form_holds_in_copy, step_count}
+use Rattle.ilk_unroll.specs.Goal.{CopyDemand, PlainGoalForms, demands_of, demand_form_fails_in_copy, form_demands_below_copy, demand_form_holds_in_copy, query_step_count}
 use Rattle.ilk_unroll.specs.Run.{is_wanted_run, demand_is_met_by_run, run_firing_rules}
 use Rattle.ilk_unroll.specs.declared.queries.Wanted.{Wanted}
 use Rattle.ilk_unroll.specs.declared.queries.Wanted.TheVariants.{Hazard, Breach, Step}
@@ -60,8 +60,8 @@ module _ (p : PlantLists) (steps : RulesStepLikeEvents p) (g : PlainGoalForms) (
       }
 
   made : (q : Wanted) (s : State) (events : List Event) (states : List State) → HasShape p s →
-      states_from p s events ≡ Some states → length events ≡ step_count q →
-      list_all (state_has_no_hazard p) (take (step_count q) states) ≡ true →
+      states_from p s events ≡ Some states → length events ≡ query_step_count q →
+      list_all (state_has_no_hazard p) (take (query_step_count q) states) ≡ true →
       list_all (demand_is_met_by_run (map (image_of p) states)) (demands_of g q) ≡ true →
       (rules : List ℕ) × (is_wanted_run (system_of_plant p) g q (image_of p s) rules ≡ true)
   made q s events states shape is count safe met =
@@ -129,18 +129,18 @@ module _ (p : PlantLists) (steps : RulesStepLikeEvents p) (g : PlainGoalForms) (
     events : List Event
     states : List State
     by_rules : events_of_rule_numbers_or_none p rules ≡ Some events
-    count : length events ≡ step_count q
+    count : length events ≡ query_step_count q
     is : states_from p s events ≡ Some states
     shaped : AllHaveShape p states
     first : slice_get states 0 ≡ Some s
-    many : length states ≡ suc (step_count q)
+    many : length states ≡ suc (query_step_count q)
     met : list_all (demand_is_met_by_run (map (image_of p) states)) (demands_of g q) ≡ true
 
-  led : (q : Wanted) (s : State) (rules : List ℕ) → HasShape p s → (w : Wants (system_of_plant p) g q (image_of p s) rules) → list_all (form_holds_for_values g.wellformed) (take (step_count q) w.run) ≡ true → Led q s rules
+  led : (q : Wanted) (s : State) (rules : List ℕ) → HasShape p s → (w : Wants (system_of_plant p) g q (image_of p s) rules) → list_all (form_holds_for_values g.wellformed) (take (query_step_count q) w.run) ≡ true → Led q s rules
   led q s rules shape w well =
       let goes = to-events p steps g goal s rules w.run shape w.is (ap (λ n. list_all (form_holds_for_values g.wellformed) (take n w.run)) w.many ∙ well) in
-      let count : length goes.0 ≡ step_count q = goes.3 ∙ w.many in
-      let known = walked s goes.0 goes.1 (step_count q) shape goes.4 count in
+      let count : length goes.0 ≡ query_step_count q = goes.3 ∙ w.many in
+      let known = walked s goes.0 goes.1 (query_step_count q) shape goes.4 count in
       record {
         events = goes.0;
         states = goes.1;

@@ -16,7 +16,7 @@ use Rattle.ilk_props.specs.Laws.{HazardTreeIsCorrect, WellformedMeansHazardFreeI
 use Rattle.ilk_props.specs.StartForm.{start_tree}
 use Rattle.ilk_props.specs.WellformedForm.{wellformed_tree}
 use Rattle.ilk_unroll.specs.Goal.{goal_valid}
-use Rattle.ilk_queries.specs.Goal.{goal_of_plant}
+use Rattle.ilk_queries.specs.Goal.{goal_forms_of_plant}
 use Rattle.ilk_queries.specs.Lifting.{GoalFormsMatchPlant}
 use Rattle.ilk_model.specs.Meets.{meets_all_families}
 
@@ -24,7 +24,7 @@ all-kept : (p : PlantLists) → ((j : ℕ) → TreeMeansFamily p j (family_tree 
 all-kept p kept s calm =
     rw (kept 1 s calm, kept 2 s calm, kept 3 s calm, kept 4 s calm, kept 5 s calm, kept 6 s calm, kept 7 s calm, kept 8 s calm, kept 9 s calm) refl
 
-pub goal_is : (p : PlantLists) → ImagesAreInRange p → StartTreeIsCorrect p → WellformedMeansHazardFreeImage p → HazardTreeIsCorrect p → ((j : ℕ) → TreeMeansFamily p j (family_tree p j)) → GoalFormsMatchPlant p (goal_of_plant p)
+pub goal_is : (p : PlantLists) → ImagesAreInRange p → StartTreeIsCorrect p → WellformedMeansHazardFreeImage p → HazardTreeIsCorrect p → ((j : ℕ) → TreeMeansFamily p j (family_tree p j)) → GoalFormsMatchPlant p (goal_forms_of_plant p)
 goal_is p in_range begins wellformed hazards kept =
     record {
       begins = begins;
@@ -39,5 +39,5 @@ all-valid p valid = rw (valid 1, valid 2, valid 3, valid 4, valid 5, valid 6, va
 
 pub goal_fits : (p : PlantLists) → IsValidOverPlant p (start_tree p) → IsValidOverPlant p (hazard_tree p) →
     IsValidOverPlant p (wellformed_tree p) → ((j : ℕ) → tree_valid (ranges_of_plant p) (family_tree p j) ≡ true) →
-    IsTrue (goal_valid (ranges_of_plant p) (goal_of_plant p))
+    IsTrue (goal_valid (ranges_of_plant p) (goal_forms_of_plant p))
 goal_fits p start hazard wellformed families = and_from _ _ (and_from _ _ (and_from _ _ start hazard) wellformed) (all-valid p families)

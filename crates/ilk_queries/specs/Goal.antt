@@ -7,5 +7,5 @@ use Rattle.ilk_unroll.specs.Goal.{PlainGoalForms}
 
 -- The goal of a plant: forms for its initial state, its hazards, its well-formed states and the
 -- families of the invariant.
-abbrev pub goal_of_plant : PlantLists → PlainGoalForms
-goal_of_plant p = record { start = start_tree p; hazard = hazard_tree p; wellformed = wellformed_tree p; families = family_trees p }
+abbrev pub goal_forms_of_plant : PlantLists → PlainGoalForms
+goal_forms_of_plant p = record { start = start_tree p; hazard = hazard_tree p; wellformed = wellformed_tree p; families = family_trees p }

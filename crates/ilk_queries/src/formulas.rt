@@ -6,7 +6,7 @@ ghost use Rattle.ilk_layout.specs.Variables.{ranges_of_plant};
 ghost use Rattle.ilk_unroll.specs.Goal.{plain_goal, goal_valid, step_count_is_allowed};
 ghost use Rattle.ilk_unroll.specs.Query.{query_formula};
 ghost use Rattle.ilk_queries.specs.Asked.{HasQueriedRun};
-ghost use Rattle.ilk_queries.specs.Goal.{goal_of_plant};
+ghost use Rattle.ilk_queries.specs.Goal.{goal_forms_of_plant};
 ghost use Rattle.ilk_queries.specs.Lifting.{GoalFormsMatchPlant};
 ghost use Rattle.ilk_unroll.specs.Satisfied.{IsSatisfiable};
 
@@ -27,17 +27,18 @@ fn formula_of(
     q: Wanted,
 ) -> Result<Cnf, AllocError>
     requires system { plain_system system.now ≡ system_of_plant plant.now }
-    requires goal { plain_goal goal.now ≡ goal_of_plant plant.now }
+    requires goal { plain_goal goal.now ≡ goal_forms_of_plant plant.now }
     requires system_valid { IsTrue (system_valid (system_of_plant plant.now)) }
     requires steps { SystemMatchesEvents plant.now }
     requires goal_valid { IsTrue
-        (goal_valid (ranges_of_plant plant.now) (goal_of_plant plant.now)) }
-    requires means { GoalFormsMatchPlant plant.now (goal_of_plant plant.now) }
+        (goal_valid (ranges_of_plant plant.now) (goal_forms_of_plant plant.now)) }
+    requires means { GoalFormsMatchPlant plant.now (goal_forms_of_plant plant.now) }
     requires wanted { IsTrue (step_count_is_allowed q) }
     ensures formula { IfOk result
-        (λ cnf. cnf ≡ query_formula (system_of_plant plant.now) (goal_of_plant plant.now) q) }
+        (λ cnf. cnf ≡ query_formula (system_of_plant plant.now) (goal_forms_of_plant plant.now) q) }
     ensures satisfiable { OnOk result
-        (IsSatisfiable (query_formula (system_of_plant plant.now) (goal_of_plant plant.now) q) ↔
+        (IsSatisfiable
+        (query_formula (system_of_plant plant.now) (goal_forms_of_plant plant.now) q) ↔
         HasQueriedRun plant.now q) }
 {
     plant.prove_is_plant();
@@ -50,9 +51,10 @@ fn formula_of(
 pub fn formula(alloc: Global, plant: &Plant, q: Wanted) -> Result<Cnf, AllocError>
     requires { IsTrue (step_count_is_allowed q) }
     ensures formula { IfOk result
-        (λ cnf. cnf ≡ query_formula (system_of_plant plant.now) (goal_of_plant plant.now) q) }
+        (λ cnf. cnf ≡ query_formula (system_of_plant plant.now) (goal_forms_of_plant plant.now) q) }
     ensures satisfiable { OnOk result
-        (IsSatisfiable (query_formula (system_of_plant plant.now) (goal_of_plant plant.now) q) ↔
+        (IsSatisfiable
+        (query_formula (system_of_plant plant.now) (goal_forms_of_plant plant.now) q) ↔
         HasQueriedRun plant.now q) }
 {
     let system = behaviour(alloc, plant)?;

@@ -1,7 +1,7 @@
 ghost use Rattle.std.specs.Prelude.{◌≡◌, IfOk, IsTrue, OnOk};
 ghost use Rattle.ilk_layout.specs.Variables.{ranges_of_plant};
 ghost use Rattle.ilk_unroll.specs.Goal.{plain_goal, goal_valid};
-ghost use Rattle.ilk_queries.specs.Goal.{goal_of_plant};
+ghost use Rattle.ilk_queries.specs.Goal.{goal_forms_of_plant};
 ghost use Rattle.ilk_queries.specs.Lifting.{GoalFormsMatchPlant};
 
 use ilk_invs::{family_forms, family_forms_are_correct, family_forms_are_valid};
@@ -15,10 +15,10 @@ use std::alloc::{AllocError, Global};
 /// Returns the goal of `plant`: forms over the variables that encode a state, for the initial
 /// state, hazards, well-formed values and the nine families. Fails only if memory runs out.
 pub fn goal(alloc: Global, plant: &Plant) -> Result<Goal, AllocError>
-    ensures goal { IfOk result (λ made. plain_goal made ≡ goal_of_plant plant.now) }
+    ensures goal { IfOk result (λ made. plain_goal made ≡ goal_forms_of_plant plant.now) }
     ensures valid { OnOk result
-        (IsTrue (goal_valid (ranges_of_plant plant.now) (goal_of_plant plant.now))) }
-    ensures means { OnOk result (GoalFormsMatchPlant plant.now (goal_of_plant plant.now)) }
+        (IsTrue (goal_valid (ranges_of_plant plant.now) (goal_forms_of_plant plant.now))) }
+    ensures means { OnOk result (GoalFormsMatchPlant plant.now (goal_forms_of_plant plant.now)) }
 {
     images_are_in_range(plant);
     family_forms_are_correct(plant);

@@ -26,9 +26,9 @@ use Rattle.ilk_base.proofs.Lists.{item_at}
 use Rattle.ilk_base.proofs.Ranges.{range_within}
 use Rattle.ilk_replay.specs.RunText.{board_line, point_line, route_line, run_lines, run_text, section_line}
 use Rattle.ilk_replay.specs.StateLine.{board_from_line, lock_from_line, point_from_line, route_from_line, train_from_line}
-use Rattle.ilk_replay.specs.StateTold.{FirstStateAndEventLines, point_sections_in_order, full_state_from_lines}
+use Rattle.ilk_replay.specs.StateTold.{FirstStateAndEventLinesLeft, all_point_sections, full_state_from_lines}
 use Rattle.ilk_replay.specs.Told.{beginning_from_lines, events_from_lines, run_from_text, run_from_lines}
-use Rattle.ilk_replay.specs.Writable.{IsRunOfPlant}
+use Rattle.ilk_replay.specs.Writable.{IsWritableRunOfPlant}
 use Rattle.ilk_replay.specs.declared.told.Tale.{Tale}
 use Rattle.ilk_replay.specs.declared.told.Tale.TheVariants.{Told as IsTold, Bad}
 use Rattle.ilk_replay.specs.declared.told.Told.{Told}
@@ -56,7 +56,7 @@ events_by_line p first from_start n =
     ∙ (λ i. expect_first_line (codes "end") events.number events.lines >>= (λ more. bind-assoc (expect_end_of_text (events.number + 1) more bytes) (λ none. Ok events.values) (run_of first from_start) i)))) in
     subst (IsByLine n) (λ i lines bytes. same lines bytes i) (leading_by_line (event_from_line p) (codes "end") n next refl (λ events. end_by_line (told_of first from_start events)))
 
-abbrev with_events : PlantLists → Bytes → FirstStateAndEventLines → Result Told ℕ
+abbrev with_events : PlantLists → Bytes → FirstStateAndEventLinesLeft → Result Told ℕ
 with_events p bytes b = events_from_lines p b.number b.lines bytes >>= run_of b.first b.from_start
 
 abbrev trains_read : PlantLists → List RouteState → List PointState → List Aspect → ParsedPrefix Hold → Bytes → Result Told ℕ
@@ -70,7 +70,7 @@ abbrev boards_read : PlantLists → List RouteState → ParsedPrefix PointState 
 boards_read p routes points bytes = each_then (board_from_line p) (indices_of_list p.boards) points.number (locks_read p routes points.values) points.lines bytes
 
 abbrev points_read : PlantLists → ParsedPrefix RouteState → Bytes → Result Told ℕ
-points_read p routes bytes = each_then (point_from_line p) (point_sections_in_order p) routes.number (boards_read p routes.values) routes.lines bytes
+points_read p routes bytes = each_then (point_from_line p) (all_point_sections p) routes.number (boards_read p routes.values) routes.lines bytes
 
 abbrev state_read : PlantLists → Reader Told
 state_read p = each_then (route_from_line p) (indices_of_list p.routes) 3 (points_read p)
@@ -108,15 +108,15 @@ state_parts p lines bytes =
         ∙ (λ i. item_values_from_lines (board_from_line p) (indices_of_list p.boards) points.number points.lines >>= (λ boards. locks_part routes points.values boards i))
 
     points_part : (routes : ParsedPrefix RouteState) → ((do
-      points ← item_values_from_lines (point_from_line p) (point_sections_in_order p) routes.number routes.lines
+      points ← item_values_from_lines (point_from_line p) (all_point_sections p) routes.number routes.lines
       boards ← item_values_from_lines (board_from_line p) (indices_of_list p.boards) points.number points.lines
       locks ← item_values_from_lines (lock_from_line p) (indices_of_list p.sections) boards.number boards.lines
       trains ← Ok (parsed_prefix (train_from_line p) locks.number locks.lines)
       more ← expect_first_line (codes "events") trains.number trains.lines
       Ok (made routes.values points.values boards.values locks.values trains.values (trains.number + 1) more)) >>= with_events p bytes) ≡ points_read p routes bytes
     points_part routes =
-        bind-assoc (item_values_from_lines (point_from_line p) (point_sections_in_order p) routes.number routes.lines) _ (with_events p bytes)
-        ∙ (λ i. item_values_from_lines (point_from_line p) (point_sections_in_order p) routes.number routes.lines >>= (λ points. boards_part routes.values points i))
+        bind-assoc (item_values_from_lines (point_from_line p) (all_point_sections p) routes.number routes.lines) _ (with_events p bytes)
+        ∙ (λ i. item_values_from_lines (point_from_line p) (all_point_sections p) routes.number routes.lines >>= (λ points. boards_part routes.values points i))
 
 route_has_line : (p : PlantLists) → IsPlant p → (i x : ℕ) → slice_get (indices_of_list p.routes) i ≡ Some x → HasLine (route_from_line p) x
 route_has_line p plant i x at =
@@ -124,7 +124,7 @@ route_has_line p plant i x at =
     let route = item_at p.routes x place.1 in
     (route_line p x free_route_state, free_route_state, route_back p plant x route.0 free_route_state route.1 place.1 (seen_and_released_fit_path-from_counts route.0 free_route_state (omega arith) (omega arith)))
 
-point_has_line : (p : PlantLists) → IsPlant p → (i x : ℕ) → slice_get (point_sections_in_order p) i ≡ Some x → HasLine (point_from_line p) x
+point_has_line : (p : PlantLists) → IsPlant p → (i x : ℕ) → slice_get (all_point_sections p) i ≡ Some x → HasLine (point_from_line p) x
 point_has_line p plant i x at = (point_line p x plus_point_state, plus_point_state, point_back p plant x plus_point_state (point_known p i x at))
 
 board_has_line : (p : PlantLists) → IsPlant p → (i x : ℕ) → slice_get (indices_of_list p.boards) i ≡ Some x → HasLine (board_from_line p) x
@@ -136,7 +136,7 @@ lock_has_line p plant i x at = (section_line p x Free, Free, lock_back p plant x
 state_by_line : (p : PlantLists) → IsPlant p → IsByLine 3 (state_read p)
 state_by_line p plant =
     each_by_line (route_from_line p) (indices_of_list p.routes) 3 (points_read p) (route_has_line p plant) (λ routes.
-    each_by_line (point_from_line p) (point_sections_in_order p) _ (boards_read p routes) (point_has_line p plant) (λ points.
+    each_by_line (point_from_line p) (all_point_sections p) _ (boards_read p routes) (point_has_line p plant) (λ points.
     each_by_line (board_from_line p) (indices_of_list p.boards) _ (locks_read p routes points) (board_has_line p plant) (λ boards.
     each_by_line (lock_from_line p) (indices_of_list p.sections) _ (trains_read p routes points boards) (lock_has_line p plant) (λ locks.
     leading_by_line (train_from_line p) (codes "events") _ (λ trains. events_read p (record { routes = routes; points = points; boards = boards; locks = locks; trains = trains }) false) refl (λ trains n.
@@ -147,8 +147,8 @@ begin_read p lines bytes = beginning_from_lines p lines >>= with_events p bytes
 
 begins : (p : PlantLists) → Bytes → List Bytes → Bytes → Bool → Bool → Result Told ℕ
 begins p line more bytes is_start is_state =
-    cond {A = Result FirstStateAndEventLines ℕ} is_start (Ok (record { first = start p; from_start = true; number = 3; lines = more }))
-    (cond {A = Result FirstStateAndEventLines ℕ} is_state (full_state_from_lines p more) (Err 2)) >>= with_events p bytes
+    cond {A = Result FirstStateAndEventLinesLeft ℕ} is_start (Ok (record { first = start p; from_start = true; number = 3; lines = more }))
+    (cond {A = Result FirstStateAndEventLinesLeft ℕ} is_state (full_state_from_lines p more) (Err 2)) >>= with_events p bytes
 
 begin_by_line : (p : PlantLists) → IsPlant p → IsByLine 2 (begin_read p)
 unfolding begins
@@ -196,7 +196,7 @@ answered_bad : (r : Result Told ℕ) (n : ℕ) → answered r ≡ Bad n → r �
 answered_bad (Ok u) n e = cc
 answered_bad (Err m) n e = (let same : m ≡ n = cc in ap (λ k. Err k) same)
 
-reads_runs : (p : PlantLists) → IsPlant p → ReadsWritten (IsRunOfPlant p) (run_lines p) (run_from_lines p)
+reads_runs : (p : PlantLists) → IsPlant p → ReadsWritten (IsWritableRunOfPlant p) (run_lines p) (run_from_lines p)
 reads_runs p plant = record {
   back = λ t is. answered_ok (from_text (run_from_lines p) (run_text p t)) t (written-run_from_lines p plant t is);
   has = run_from_lines-of_plant p plant;
@@ -206,5 +206,5 @@ reads_runs p plant = record {
 
 pub bad_exactly : (p : PlantLists) → IsPlant p → (text : Bytes) (n : ℕ) → (run_from_text p text ≡ Bad n) ↔ IsFirstBadLineOfRun p text n
 bad_exactly p plant text n =
-    let law = first_exactly (IsRunOfPlant p) (run_lines p) (run_from_lines p) (reads_runs p plant) (told_by_line p plant) text n in
+    let law = first_exactly (IsWritableRunOfPlant p) (run_lines p) (run_from_lines p) (reads_runs p plant) (told_by_line p plant) text n in
     (λ e. law.0 (answered_bad (from_text (run_from_lines p) text) n e), λ first. ap answered (law.1 first))

@@ -23,9 +23,9 @@ use Rattle.ilk_replay.specs.EventLine.{event_from_line, point_named}
 use Rattle.ilk_replay.specs.EventSubjects.{event_with_keyword_and_subject}
 use Rattle.ilk_replay.specs.RunText.{run_text}
 use Rattle.ilk_replay.specs.StateLine.{board_from_line, lock_from_line, point_from_line, route_from_line, train_from_line}
-use Rattle.ilk_replay.specs.StateTold.{FirstStateAndEventLines, point_sections_in_order, full_state_from_lines}
+use Rattle.ilk_replay.specs.StateTold.{FirstStateAndEventLinesLeft, all_point_sections, full_state_from_lines}
 use Rattle.ilk_replay.specs.Told.{beginning_from_lines, events_from_lines, run_from_text, run_from_lines, run_from_start}
-use Rattle.ilk_replay.specs.Writable.{HasNoBadLine, IsSubjectOfPlant, IsEventSubjectOfPlant, IsRunOfPlant, IsRunText, IsTextOfRun}
+use Rattle.ilk_replay.specs.Writable.{HasNoBadLine, IsSubjectOfPlant, IsEventSubjectOfPlant, IsWritableRunOfPlant, IsRunText, IsTextOfRun}
 use Rattle.ilk_replay.specs.declared.event_line.Subject.{Subject}
 use Rattle.ilk_replay.specs.declared.event_line.Subject.TheVariants.{Route, Point, Section as AtSection}
 use Rattle.ilk_replay.specs.declared.told.Tale.{Tale}
@@ -82,16 +82,16 @@ events_from_lines-about p plant n lines bytes events e =
     let end = bind_ok (expect_end_of_text (n + length found + 1) v.0 bytes) _ events v.2 in
     subst (All (IsEventSubjectOfPlant p)) (ok_is end.2) (leading_all (event_from_line p) (IsEventSubjectOfPlant p) (event_from_line-about p plant) lines)
 
-abbrev BeginsWell : PlantLists → FirstStateAndEventLines → Type 0
+abbrev BeginsWell : PlantLists → FirstStateAndEventLinesLeft → Type 0
 BeginsWell p b = HasShape p b.first × (b.from_start ≡ true → b.first ≡ start p)
 
 from_neither : {P : Type 0} → false ≡ true → P
 from_neither e = cc
 
-full_state_from_lines-begins : (p : PlantLists) (lines : List Bytes) (b : FirstStateAndEventLines) → full_state_from_lines p lines ≡ Ok b → BeginsWell p b
+full_state_from_lines-begins : (p : PlantLists) (lines : List Bytes) (b : FirstStateAndEventLinesLeft) → full_state_from_lines p lines ≡ Ok b → BeginsWell p b
 full_state_from_lines-begins p lines b e =
     let r = bind_ok (item_values_from_lines (route_from_line p) (indices_of_list p.routes) 3 lines) _ b e in
-    let q = bind_ok (item_values_from_lines (point_from_line p) (point_sections_in_order p) r.0.number r.0.lines) _ b r.2 in
+    let q = bind_ok (item_values_from_lines (point_from_line p) (all_point_sections p) r.0.number r.0.lines) _ b r.2 in
     let m = bind_ok (item_values_from_lines (board_from_line p) (indices_of_list p.boards) q.0.number q.0.lines) _ b q.2 in
     let k = bind_ok (item_values_from_lines (lock_from_line p) (indices_of_list p.sections) m.0.number m.0.lines) _ b m.2 in
     let trains = leading_values (train_from_line p) k.0.lines in
@@ -103,44 +103,44 @@ full_state_from_lines-begins p lines b e =
     k.0.lines k.0.lines r.1 q.1 m.1 k.1 refl in
     subst (BeginsWell p) same (shape, λ other. from_neither other)
 
-beginning_from_lines-begins : (p : PlantLists) (lines : List Bytes) (b : FirstStateAndEventLines) → beginning_from_lines p lines ≡ Ok b → BeginsWell p b
+beginning_from_lines-begins : (p : PlantLists) (lines : List Bytes) (b : FirstStateAndEventLinesLeft) → beginning_from_lines p lines ≡ Ok b → BeginsWell p b
 beginning_from_lines-begins p [] b e = cc
 beginning_from_lines-begins p (line ∷ more) b e = by_start (bytes_eq line (codes "start")) e
   where
-    by_state : (c : Bool) → cond {A = Result FirstStateAndEventLines ℕ} c (full_state_from_lines p more) (Err 2) ≡ Ok b → BeginsWell p b
+    by_state : (c : Bool) → cond {A = Result FirstStateAndEventLinesLeft ℕ} c (full_state_from_lines p more) (Err 2) ≡ Ok b → BeginsWell p b
     by_state true that = full_state_from_lines-begins p more b that
     by_state false that = cc
 
-    starts : FirstStateAndEventLines
+    starts : FirstStateAndEventLinesLeft
     starts = record { first = start p; from_start = true; number = 3; lines = more }
 
-    by_start : (c : Bool) → cond {A = Result FirstStateAndEventLines ℕ} c (Ok starts) (cond {A = Result FirstStateAndEventLines ℕ} (bytes_eq line (codes "state")) (full_state_from_lines p more) (Err 2)) ≡ Ok b → BeginsWell p b
+    by_start : (c : Bool) → cond {A = Result FirstStateAndEventLinesLeft ℕ} c (Ok starts) (cond {A = Result FirstStateAndEventLinesLeft ℕ} (bytes_eq line (codes "state")) (full_state_from_lines p more) (Err 2)) ≡ Ok b → BeginsWell p b
     by_start true that = subst (BeginsWell p) (ok_is that) (start-shape p, λ from. refl)
     by_start false that = by_state (bytes_eq line (codes "state")) that
 
-pub run_from_lines-of_plant : (p : PlantLists) → IsPlant p → (lines : List Bytes) (bytes : Bytes) (t : Told) → run_from_lines p lines bytes ≡ Ok t → IsRunOfPlant p t
+pub run_from_lines-of_plant : (p : PlantLists) → IsPlant p → (lines : List Bytes) (bytes : Bytes) (t : Told) → run_from_lines p lines bytes ≡ Ok t → IsWritableRunOfPlant p t
 run_from_lines-of_plant p plant lines bytes t e =
     let a = bind_ok (expect_first_line (codes "run 1") 1 lines) _ t e in
     let b = bind_ok (beginning_from_lines p a.0) _ t a.2 in
     let c = bind_ok (events_from_lines p b.0.number b.0.lines bytes) _ t b.2 in
     let same : ◌≡◌ {A = Told} (record { first = b.0.first; from_start = b.0.from_start; events = c.0 }) t = ok_is c.2 in
     let begins = beginning_from_lines-begins p a.0 b.0 b.1 in
-    let here : IsRunOfPlant p (record { first = b.0.first; from_start = b.0.from_start; events = c.0 }) = record {
+    let here : IsWritableRunOfPlant p (record { first = b.0.first; from_start = b.0.from_start; events = c.0 }) = record {
       shape = begins.0;
       start = begins.1;
       events = events_from_lines-about p plant b.0.number b.0.lines bytes c.0 c.1;
     } in
-    subst (IsRunOfPlant p) same here
+    subst (IsWritableRunOfPlant p) same here
 
-run_from_text-of_plant : (p : PlantLists) → IsPlant p → (text : Bytes) (t : Told) → run_from_text p text ≡ IsTold t → IsRunOfPlant p t
+run_from_text-of_plant : (p : PlantLists) → IsPlant p → (text : Bytes) (t : Told) → run_from_text p text ≡ IsTold t → IsWritableRunOfPlant p t
 run_from_text-of_plant p plant text t e = by_answer (run_from_lines p (lines_of text) (unterminated_tail text)) refl e
   where
-    by_answer : (r : Result Told ℕ) → run_from_lines p (lines_of text) (unterminated_tail text) ≡ r → answered r ≡ IsTold t → IsRunOfPlant p t
+    by_answer : (r : Result Told ℕ) → run_from_lines p (lines_of text) (unterminated_tail text) ≡ r → answered r ≡ IsTold t → IsWritableRunOfPlant p t
     by_answer (Ok u) this that =
-        let same : u ≡ t = cc in subst (IsRunOfPlant p) same (run_from_lines-of_plant p plant (lines_of text) (unterminated_tail text) u this)
+        let same : u ≡ t = cc in subst (IsWritableRunOfPlant p) same (run_from_lines-of_plant p plant (lines_of text) (unterminated_tail text) u this)
     by_answer (Err n) this that = cc
 
-pub written-run_from_lines : (p : PlantLists) → IsPlant p → (t : Told) → IsRunOfPlant p t → run_from_text p (run_text p t) ≡ IsTold t
+pub written-run_from_lines : (p : PlantLists) → IsPlant p → (t : Told) → IsWritableRunOfPlant p t → run_from_text p (run_text p t) ≡ IsTold t
 written-run_from_lines p plant t is = by_start t.from_start refl
   where
     by_start : (b : Bool) → t.from_start ≡ b → run_from_text p (run_text p t) ≡ IsTold t

@@ -27,7 +27,7 @@ use Rattle.ilk_base.proofs.Options.{bind_some}
 use Rattle.ilk_base.proofs.Ranges.{range_get}
 use Rattle.ilk_lines.proofs.Leading.{leading_all}
 use Rattle.ilk_replay.specs.StateLine.{board_from_line, lock_from_line, point_from_line, route_state_from_words, route_from_line, rest_after_kind_and_name, sections_named, dir_and_names_from_words, train_from_line}
-use Rattle.ilk_replay.specs.StateTold.{point_sections_in_order}
+use Rattle.ilk_replay.specs.StateTold.{all_point_sections}
 use Rattle.ilk_plant.specs.Words.{mode_from_word}
 
 said_within : (limit : ℕ) (text : Bytes) (now : RouteState) → route_state_from_words limit text ≡ Some now → (now.seen ≤ limit) × (now.rel ≤ limit)
@@ -60,8 +60,8 @@ filter_length test (x ∷ xs) i same =
     let rest : length (filter test (range_with_len (i + 1) (length xs))) ≡ length (filter is_point xs) = filter_length test xs (i + 1) (λ k s at. ap test (omega arith) ∙ same (suc k) s at) in
     counted (is_point x) i x (filter test (range_with_len (i + 1) (length xs))) (filter is_point xs) (test i) here rest
 
-pub point_sections_in_order-length : (p : PlantLists) → length (point_sections_in_order p) ≡ point_count p
-point_sections_in_order-length p = filter_length (is_point_section p) p.sections 0 (λ k s at. ap (is_point_section p) (zero-add k) ∙ ap (λ (o : Option Section). is_some_and o is_point) at) ∙ length-filter is_point p.sections
+pub all_point_sections-length : (p : PlantLists) → length (all_point_sections p) ≡ point_count p
+all_point_sections-length p = filter_length (is_point_section p) p.sections 0 (λ k s at. ap (is_point_section p) (zero-add k) ∙ ap (λ (o : Option Section). is_some_and o is_point) at) ∙ length-filter is_point p.sections
 
 train_body : (p : PlantLists) → (line : Bytes) (train : Train) → train_from_line p line ≡ Some train → has_nonempty_connected_body p train ≡ true
 train_body p line train e =
@@ -75,7 +75,7 @@ pub shaped : (p : PlantLists) →
     (trains : List Train) (n1 m1 n2 m2 n3 m3 n4 m4 : ℕ) (l1 k1 l2 k2 l3 k3 l4 k4 l5 : List Bytes) →
     item_values_from_lines (route_from_line p) (indices_of_list p.routes) n1 l1
     ≡ Ok (record { values = routes; number = m1; lines = k1 }) →
-    item_values_from_lines (point_from_line p) (point_sections_in_order p) n2 l2
+    item_values_from_lines (point_from_line p) (all_point_sections p) n2 l2
     ≡ Ok (record { values = points; number = m2; lines = k2 }) →
     item_values_from_lines (board_from_line p) (indices_of_list p.boards) n3 l3
     ≡ Ok (record { values = boards; number = m3; lines = k3 }) →
@@ -85,12 +85,12 @@ pub shaped : (p : PlantLists) →
     HasShape p (record { routes = routes; points = points; boards = boards; locks = locks; trains = trains })
 shaped p routes points boards locks trains n1 m1 n2 m2 n3 m3 n4 m4 l1 k1 l2 k2 l3 k3 l4 k4 l5 a b c d e =
     let ra = each_ok (route_from_line p) (indices_of_list p.routes) n1 l1 (record { values = routes; number = m1; lines = k1 }) a in
-    let rb = each_ok (point_from_line p) (point_sections_in_order p) n2 l2 (record { values = points; number = m2; lines = k2 }) b in
+    let rb = each_ok (point_from_line p) (all_point_sections p) n2 l2 (record { values = points; number = m2; lines = k2 }) b in
     let rc = each_ok (board_from_line p) (indices_of_list p.boards) n3 l3 (record { values = boards; number = m3; lines = k3 }) c in
     let rd = each_ok (lock_from_line p) (indices_of_list p.sections) n4 l4 (record { values = locks; number = m4; lines = k4 }) d in
     record {
       routes = ra.1 ∙ length-range_with_len 0 (length p.routes);
-      points = rb.1 ∙ point_sections_in_order-length p;
+      points = rb.1 ∙ all_point_sections-length p;
       boards = rc.1 ∙ length-range_with_len 0 (length p.boards);
       locks = rd.1 ∙ length-range_with_len 0 (length p.sections);
       counts = λ r route now here at.

@@ -22,7 +22,7 @@ use Rattle.ilk_plant.specs.declared.state.RouteState.{RouteState}
 use Rattle.ilk_plant.specs.declared.state.Train.{Train}
 use Rattle.ilk_plant.specs.declared.table.Route.{Route}
 use Rattle.ilk_replay.specs.StateLine.{board_from_line, lock_from_line, point_state_from_words, point_from_line, route_state_from_words, route_from_line, rest_after_kind_and_name, sections_named, dir_and_names_from_words, train_from_line, train_from_connected_body}
-use Rattle.ilk_plant.specs.Words.{aspect_from_word, aspect_word, direction_from_word, direction_word, hold_from_word, hold_word, lie_from_word, lie_word, mode_from_word, mode_word, position_from_word, position_word}
+use Rattle.ilk_plant.specs.Words.{aspect_from_word, aspect_word, direction_from_word, direction_word, lock_state_from_word, lock_state_word, lie_from_word, lie_word, mode_from_word, mode_word, position_from_word, position_word}
 use Rattle.ilk_replay.specs.RunText.{board_line, name_at_index_or_empty, point_line, route_line, section_line, train_line}
 use Rattle.ilk_replay.proofs.PlainNames.{HasPlainNames}
 use Rattle.ilk_plant.proofs.Shapes.{seen_and_released_fit_path-counts}
@@ -97,8 +97,8 @@ board_back p plant m aspect within =
 pub lock_back : (p : PlantLists) → IsPlant p → (x : ℕ) (lock : Hold) → x < length p.sections → lock_from_line p x (section_line p x lock) ≡ Some lock
 lock_back p plant x lock within =
     let named = plant.sections_named in
-    ap (λ (o : Option Bytes). o >>= (λ name. rest_after_kind_and_name (codes "section") name (section_line p x lock) >>= hold_from_word)) (name_there p.section_names x (omega arith))
-    ∙ ap (λ (o : Option Bytes). o >>= hold_from_word) (said_back (codes "section") (name_at_index_or_empty p.section_names x) (hold_word lock)) ∙ hold_back lock
+    ap (λ (o : Option Bytes). o >>= (λ name. rest_after_kind_and_name (codes "section") name (section_line p x lock) >>= lock_state_from_word)) (name_there p.section_names x (omega arith))
+    ∙ ap (λ (o : Option Bytes). o >>= lock_state_from_word) (said_back (codes "section") (name_at_index_or_empty p.section_names x) (lock_state_word lock)) ∙ hold_back lock
 
 name_lacks : (names : List Bytes) (c i : ℕ) → All (LacksByte c) names → i < length names → LacksByte c (name_at_index_or_empty names i)
 name_lacks names c i plain within = subst (LacksByte c) (sym (ap (λ (o : Option Bytes). unwrap_or o []) (slice_get-get_or names i [] within))) (plain i [] within)

@@ -13,11 +13,11 @@ use Rattle.ilk_plant.specs.Shape.{HasShape, has_nonempty_connected_body}
 use Rattle.ilk_plant.specs.declared.state.State.{State}
 use Rattle.ilk_plant.specs.declared.state.Train.{Train}
 use Rattle.ilk_plant.specs.Words.{direction_word}
-use Rattle.ilk_replay.proofs.Shape.{point_sections_in_order-length}
+use Rattle.ilk_replay.proofs.Shape.{all_point_sections-length}
 use Rattle.ilk_replay.proofs.StateBack.{body_known}
 use Rattle.ilk_plant.specs.Plant.{IsPlant}
 use Rattle.ilk_replay.specs.RunText.{board_line, name_at_index_or_empty, point_line, route_line, section_line, full_state_lines, train_line}
-use Rattle.ilk_replay.specs.StateTold.{point_sections_in_order}
+use Rattle.ilk_replay.specs.StateTold.{all_point_sections}
 use Rattle.ilk_lines.proofs.TextLines.{text_of-append}
 
 abbrev pub lines_from : {A : Type 0} → (ℕ → A → Bytes) → List ℕ → List A → ℕ → Bytes
@@ -53,14 +53,14 @@ trains-are p (train ∷ trains) = ap (λ (t : Bytes). (train_line p train ++ 10 
 
 pub state_is : (p : PlantLists) (s : State) (start : Bytes) →
     ((((start ++ text_of (lines_of_items (route_line p) (indices_of_list p.routes) s.routes))
-    ++ text_of (lines_of_items (point_line p) (point_sections_in_order p) s.points))
+    ++ text_of (lines_of_items (point_line p) (all_point_sections p) s.points))
     ++ text_of (lines_of_items (board_line p) (indices_of_list p.boards) s.boards))
     ++ text_of (lines_of_items (section_line p) (indices_of_list p.sections) s.locks))
     ++ flat_map (λ train. train_line p train ++ 10 ∷ []) s.trains
     ≡ start ++ text_of (full_state_lines p s)
 state_is p s start =
     let a : List Bytes = lines_of_items (route_line p) (indices_of_list p.routes) s.routes in
-    let b : List Bytes = lines_of_items (point_line p) (point_sections_in_order p) s.points in
+    let b : List Bytes = lines_of_items (point_line p) (all_point_sections p) s.points in
     let c : List Bytes = lines_of_items (board_line p) (indices_of_list p.boards) s.boards in
     let d : List Bytes = lines_of_items (section_line p) (indices_of_list p.sections) s.locks in
     let e : List Bytes = map (train_line p) s.trains in
@@ -80,11 +80,11 @@ train_is p train start = regroup start (codes "train ") (direction_word train.di
     regroup : (z a b c d : Bytes) → ((z ++ (a ++ b)) ++ c) ++ d ≡ z ++ ((a ++ (b ++ c)) ++ d)
     regroup z a b c d = simp append_assoc
 
-pub point_known : (p : PlantLists) (n x : ℕ) → slice_get (point_sections_in_order p) n ≡ Some x → x < length p.sections
+pub point_known : (p : PlantLists) (n x : ℕ) → slice_get (all_point_sections p) n ≡ Some x → x < length p.sections
 point_known p n x at = let within = passing_within (is_point_section p) 0 (length p.sections) n x at in omega arith
 
-pub points_counted : (p : PlantLists) (s : State) → HasShape p s → length s.points ≡ length (point_sections_in_order p)
-points_counted p s shape = shape.points ∙ sym (point_sections_in_order-length p)
+pub points_counted : (p : PlantLists) (s : State) → HasShape p s → length s.points ≡ length (all_point_sections p)
+points_counted p s shape = shape.points ∙ sym (all_point_sections-length p)
 
 pub bodies_known : (p : PlantLists) (trains : List Train) → IsPlant p → list_all (has_nonempty_connected_body p) trains ≡ true → All (λ train. All (λ x. x < length p.sections) train.body) trains
 bodies_known p trains plant bodies = All-tested (has_nonempty_connected_body p) (λ train. All (λ x. x < length p.sections) train.body) (λ train body. body_known p plant train.dir train.body body) trains bodies

@@ -2,7 +2,7 @@
 use Rattle.std.proofs.Common.{◌≡◌, ℕ, true, Some, List, [], ◌∷◌, refl}
 use Rattle.ilk_lines.specs.Lines.{Bytes}
 use Rattle.ilk_lines.specs.Written.{LacksByte}
-use Rattle.ilk_plant.specs.Words.{aspect_from_word, aspect_word, direction_from_word, direction_word, hold_from_word, hold_word, lie_from_word, lie_word, mode_from_word, mode_word, position_from_word, position_word}
+use Rattle.ilk_plant.specs.Words.{aspect_from_word, aspect_word, direction_from_word, direction_word, lock_state_from_word, lock_state_word, lie_from_word, lie_word, mode_from_word, mode_word, position_from_word, position_word}
 use Rattle.ilk_plant.specs.declared.network.Dir.{Dir}
 use Rattle.ilk_plant.specs.declared.network.Dir.TheVariants.{Up, Down}
 use Rattle.ilk_plant.specs.declared.network.Position.{Position}
@@ -73,16 +73,16 @@ aspect_lacks c x all = word_lacks c aspect_word aspects x (aspect_back x) all
 abbrev holds : List Hold
 holds = FreeLock ∷ LockedLock ∷ Used ∷ []
 
-pub hold_back : (x : Hold) → hold_from_word (hold_word x) ≡ Some x
+pub hold_back : (x : Hold) → lock_state_from_word (lock_state_word x) ≡ Some x
 hold_back FreeLock = refl
 hold_back LockedLock = refl
 hold_back Used = refl
 
-pub hold_read : (word : Bytes) (x : Hold) → hold_from_word word ≡ Some x → word ≡ hold_word x
-hold_read word x e = first_value_with_word-word hold_word holds word x e
+pub hold_read : (word : Bytes) (x : Hold) → lock_state_from_word word ≡ Some x → word ≡ lock_state_word x
+hold_read word x e = first_value_with_word-word lock_state_word holds word x e
 
-pub hold_lacks : (c : ℕ) (x : Hold) → words_lack c hold_word holds ≡ true → LacksByte c (hold_word x)
-hold_lacks c x all = word_lacks c hold_word holds x (hold_back x) all
+pub hold_lacks : (c : ℕ) (x : Hold) → words_lack c lock_state_word holds ≡ true → LacksByte c (lock_state_word x)
+hold_lacks c x all = word_lacks c lock_state_word holds x (hold_back x) all
 
 abbrev directions : List Dir
 directions = Up ∷ Down ∷ []

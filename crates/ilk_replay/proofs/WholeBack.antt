@@ -29,13 +29,13 @@ use Rattle.ilk_base.specs.Result.{◌>>=◌}
 use Rattle.ilk_replay.specs.StateLine.{board_from_line, lock_from_line, point_from_line, route_from_line, train_from_line}
 use Rattle.ilk_replay.specs.Told.{events_from_lines, run_from_text, run_from_lines}
 use Rattle.ilk_replay.specs.Writable.{IsEventSubjectOfPlant}
-use Rattle.ilk_replay.specs.StateTold.{FirstStateAndEventLines, point_sections_in_order, full_state_from_lines}
-use Rattle.ilk_plant.specs.Words.{aspect_word, direction_word, hold_word, lie_word, mode_word, position_word}
+use Rattle.ilk_replay.specs.StateTold.{FirstStateAndEventLinesLeft, all_point_sections, full_state_from_lines}
+use Rattle.ilk_plant.specs.Words.{aspect_word, direction_word, lock_state_word, lie_word, mode_word, position_word}
 use Rattle.ilk_replay.specs.RunText.{board_line, event_line, name_at_index_or_empty, point_line, route_line, run_lines, run_text, section_line, full_state_lines, train_line}
 use Rattle.ilk_replay.specs.declared.told.Tale.TheVariants.{Told as IsTold}
 use Rattle.ilk_replay.specs.declared.told.Told.{Told}
 use Rattle.ilk_replay.proofs.PlainNames.{HasPlainNames}
-use Rattle.ilk_replay.proofs.Shape.{point_sections_in_order-length}
+use Rattle.ilk_replay.proofs.Shape.{all_point_sections-length}
 use Rattle.ilk_replay.proofs.StartedBack.{event_lines-plain, events_back, name_lacks}
 use Rattle.ilk_replay.proofs.StateBack.{board_back, lock_back, point_back, route_back, train_back}
 use Rattle.ilk_replay.proofs.StateWords.{aspect_lacks, direction_lacks, hold_lacks, lie_lacks, mode_lacks, position_lacks}
@@ -49,23 +49,23 @@ routes_hold p plant s shape i x v at here =
     let there : slice_get s.routes x ≡ Some v = ap (slice_get s.routes) place.0 ∙ here in
     route_back p plant x route.0 v route.1 place.1 (shape.counts x route.0 v route.1 there)
 
-abbrev with_locks : PlantLists → List RouteState → List PointState → List Aspect → ParsedPrefix Hold → Result FirstStateAndEventLines ℕ
+abbrev with_locks : PlantLists → List RouteState → List PointState → List Aspect → ParsedPrefix Hold → Result FirstStateAndEventLinesLeft ℕ
 with_locks p routes points boards locks = do
   trains ← Ok (parsed_prefix (train_from_line p) locks.number locks.lines)
   more ← expect_first_line (codes "events") trains.number trains.lines
   Ok (made routes points boards locks.values trains.values (trains.number + 1) more)
 
-abbrev with_boards : PlantLists → List RouteState → List PointState → ParsedPrefix Aspect → Result FirstStateAndEventLines ℕ
+abbrev with_boards : PlantLists → List RouteState → List PointState → ParsedPrefix Aspect → Result FirstStateAndEventLinesLeft ℕ
 with_boards p routes points boards = item_values_from_lines (lock_from_line p) (indices_of_list p.sections) boards.number boards.lines >>= with_locks p routes points boards.values
 
-abbrev with_points : PlantLists → List RouteState → ParsedPrefix PointState → Result FirstStateAndEventLines ℕ
+abbrev with_points : PlantLists → List RouteState → ParsedPrefix PointState → Result FirstStateAndEventLinesLeft ℕ
 with_points p routes points = item_values_from_lines (board_from_line p) (indices_of_list p.boards) points.number points.lines >>= with_boards p routes points.values
 
-abbrev with_routes : PlantLists → ParsedPrefix RouteState → Result FirstStateAndEventLines ℕ
-with_routes p routes = item_values_from_lines (point_from_line p) (point_sections_in_order p) routes.number routes.lines >>= with_points p routes.values
+abbrev with_routes : PlantLists → ParsedPrefix RouteState → Result FirstStateAndEventLinesLeft ℕ
+with_routes p routes = item_values_from_lines (point_from_line p) (all_point_sections p) routes.number routes.lines >>= with_points p routes.values
 
 abbrev number_past : PlantLists → State → ℕ
-number_past p s = 3 + length (indices_of_list p.routes) + length (point_sections_in_order p) + length (indices_of_list p.boards) + length (indices_of_list p.sections) + length s.trains
+number_past p s = 3 + length (indices_of_list p.routes) + length (all_point_sections p) + length (indices_of_list p.boards) + length (indices_of_list p.sections) + length s.trains
 
 state_back : (p : PlantLists) → IsPlant p → HasPlainNames p → (s : State) → HasShape p s →
     (rest : List Bytes) →
@@ -73,20 +73,20 @@ state_back : (p : PlantLists) → IsPlant p → HasPlainNames p → (s : State) 
     ≡ Ok (made s.routes s.points s.boards s.locks s.trains (number_past p s + 1) rest)
 state_back p plant plain s shape rest =
     let routes : List Bytes = lines_of_items (route_line p) (indices_of_list p.routes) s.routes in
-    let points : List Bytes = lines_of_items (point_line p) (point_sections_in_order p) s.points in
+    let points : List Bytes = lines_of_items (point_line p) (all_point_sections p) s.points in
     let boards : List Bytes = lines_of_items (board_line p) (indices_of_list p.boards) s.boards in
     let locks : List Bytes = lines_of_items (section_line p) (indices_of_list p.sections) s.locks in
     let trains : List Bytes = map (train_line p) s.trains in
     let last : List Bytes = codes "events" ∷ rest in
     let n1 : ℕ = 3 + length (indices_of_list p.routes) in
-    let n2 : ℕ = n1 + length (point_sections_in_order p) in
+    let n2 : ℕ = n1 + length (all_point_sections p) in
     let n3 : ℕ = n2 + length (indices_of_list p.boards) in
     let n4 : ℕ = n3 + length (indices_of_list p.sections) in
     ap (full_state_from_lines p) (sym (regroup routes points boards locks trains last))
     ∙ ap (λ (z : Result (ParsedPrefix RouteState) ℕ). z >>= with_routes p) (each_back (route_from_line p) (route_line p) (indices_of_list p.routes) s.routes 3 (points ++ (boards ++ (locks ++ (trains ++ last))))
     (shape.routes ∙ sym (length-range_with_len 0 (length p.routes))) (routes_hold p plant s shape))
-    ∙ ap (λ (z : Result (ParsedPrefix PointState) ℕ). z >>= with_points p s.routes) (each_back (point_from_line p) (point_line p) (point_sections_in_order p) s.points n1 (boards ++ (locks ++ (trains ++ last)))
-    (shape.points ∙ sym (point_sections_in_order-length p)) (λ i x v at here. point_back p plant x v (point_known p i x at)))
+    ∙ ap (λ (z : Result (ParsedPrefix PointState) ℕ). z >>= with_points p s.routes) (each_back (point_from_line p) (point_line p) (all_point_sections p) s.points n1 (boards ++ (locks ++ (trains ++ last)))
+    (shape.points ∙ sym (all_point_sections-length p)) (λ i x v at here. point_back p plant x v (point_known p i x at)))
     ∙ ap (λ (z : Result (ParsedPrefix Aspect) ℕ). z >>= with_boards p s.routes s.points) (each_back (board_from_line p) (board_line p) (indices_of_list p.boards) s.boards n2 (locks ++ (trains ++ last))
     (shape.boards ∙ sym (length-range_with_len 0 (length p.boards))) (λ i x v at here. board_back p plant x v ((range_within (length p.boards) i x at).1)))
     ∙ ap (λ (z : Result (ParsedPrefix Hold) ℕ). z >>= with_locks p s.routes s.points s.boards) (each_back (lock_from_line p) (section_line p) (indices_of_list p.sections) s.locks n3 (trains ++ last)
@@ -132,17 +132,17 @@ named_plain kind name text a b c = lacks_spaced kind (join_word_and_rest name te
 state_plain : (p : PlantLists) → IsPlant p → HasPlainNames p → (s : State) → HasShape p s → All (LacksByte 10) (full_state_lines p s)
 state_plain p plant plain s shape =
     let routes : List Bytes = lines_of_items (route_line p) (indices_of_list p.routes) s.routes in
-    let points : List Bytes = lines_of_items (point_line p) (point_sections_in_order p) s.points in
+    let points : List Bytes = lines_of_items (point_line p) (all_point_sections p) s.points in
     let boards : List Bytes = lines_of_items (board_line p) (indices_of_list p.boards) s.boards in
     let locks : List Bytes = lines_of_items (section_line p) (indices_of_list p.sections) s.locks in
     All-append (LacksByte 10) (routes ++ points ++ boards ++ locks) (map (train_line p) s.trains)
     (All-append (LacksByte 10) (routes ++ points ++ boards) locks (All-append (LacksByte 10) (routes ++ points) boards (All-append (LacksByte 10) routes points
     (each_plain (route_line p) (indices_of_list p.routes) s.routes (route_plain p plant plain s shape))
-    (each_plain (point_line p) (point_sections_in_order p) s.points (λ i x v at here. named_plain (codes "point") (name_at_index_or_empty p.section_names x) (join_word_and_rest (lie_word v.at) (position_word v.to)) refl
+    (each_plain (point_line p) (all_point_sections p) s.points (λ i x v at here. named_plain (codes "point") (name_at_index_or_empty p.section_names x) (join_word_and_rest (lie_word v.at) (position_word v.to)) refl
     (name_lacks 10 p.section_names x plain.sections)
     (lacks_spaced (lie_word v.at) (position_word v.to) (lie_lacks 10 v.at refl) (position_lacks 10 v.to refl)))))
     (each_plain (board_line p) (indices_of_list p.boards) s.boards (λ i x v at here. named_plain (codes "board") (name_at_index_or_empty p.board_names x) (aspect_word v) refl (name_lacks 10 p.board_names x plain.boards) (aspect_lacks 10 v refl))))
-    (each_plain (section_line p) (indices_of_list p.sections) s.locks (λ i x v at here. named_plain (codes "section") (name_at_index_or_empty p.section_names x) (hold_word v) refl (name_lacks 10 p.section_names x plain.sections)
+    (each_plain (section_line p) (indices_of_list p.sections) s.locks (λ i x v at here. named_plain (codes "section") (name_at_index_or_empty p.section_names x) (lock_state_word v) refl (name_lacks 10 p.section_names x plain.sections)
     (hold_lacks 10 v refl))))
     (train_plain p plain s.trains)
 
@@ -166,5 +166,5 @@ resumed_back p plant plain s shape events about =
     ap (λ (ls : List Bytes). run_from_text p (text_of ls)) same
     ∙ ap (λ (ls : List Bytes). answered (run_from_lines p ls (unterminated_tail (text_of lines)))) back.0
     ∙ ap (λ (bs : Bytes). answered (run_from_lines p lines bs)) back.1
-    ∙ ap (λ (r : Result FirstStateAndEventLines ℕ). answered (r >>= (λ b. events_from_lines p b.number b.lines [] >>= (λ es. Ok (record { first = b.first; from_start = b.from_start; events = es }))))) (state_back p plant plain s shape last)
+    ∙ ap (λ (r : Result FirstStateAndEventLinesLeft ℕ). answered (r >>= (λ b. events_from_lines p b.number b.lines [] >>= (λ es. Ok (record { first = b.first; from_start = b.from_start; events = es }))))) (state_back p plant plain s shape last)
     ∙ ap (λ (r : Result (List Event) ℕ). answered (r >>= (λ es. Ok (resumed s es)))) (events_back p plant (number_past p s + 1) events about)

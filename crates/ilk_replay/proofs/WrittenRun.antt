@@ -33,7 +33,7 @@ use Rattle.ilk_replay.specs.declared.told.Tale.{Tale}
 use Rattle.ilk_replay.specs.declared.told.Tale.TheVariants.{Told as IsTold, Bad}
 use Rattle.ilk_replay.specs.declared.told.Told.{Told}
 use Rattle.ilk_replay.specs.StateLine.{board_from_line, lock_from_line, point_state_from_words, point_from_line, route_state_from_words, route_from_line, rest_after_kind_and_name, sections_named, dir_and_names_from_words, train_from_line}
-use Rattle.ilk_replay.specs.StateTold.{FirstStateAndEventLines, point_sections_in_order, full_state_from_lines}
+use Rattle.ilk_replay.specs.StateTold.{FirstStateAndEventLinesLeft, all_point_sections, full_state_from_lines}
 use Rattle.ilk_plant.specs.Words.{direction_from_word, direction_word, lie_from_word, lie_word, mode_from_word, mode_word, position_from_word, position_word}
 use Rattle.ilk_replay.specs.Told.{beginning_from_lines, events_from_lines, run_from_lines, run_from_text}
 use Rattle.ilk_replay.specs.RunText.{beginning_lines, board_line, event_line, name_at_index_or_empty, point_line, route_line, run_lines, run_text, section_line, full_state_lines, train_line}
@@ -130,7 +130,7 @@ in_a_row : (l0 l1 l2 l3 l4 l5 a b c d e f : List Bytes) → l0 ≡ a ++ l1 → l
 in_a_row l0 l1 l2 l3 l4 l5 a b c d e f h0 h1 h2 h3 h4 h5 =
     h0 ∙ ap (λ ls. a ++ ls) (h1 ∙ ap (λ ls. b ++ ls) (h2 ∙ ap (λ ls. c ++ ls) (h3 ∙ ap (λ ls. d ++ ls) (h4 ∙ ap (λ ls. e ++ ls) h5)))) ∙ regroup a b c d e f
 
-abbrev pub made : List RouteState → List PointState → List Aspect → List Hold → List Train → ℕ → List Bytes → FirstStateAndEventLines
+abbrev pub made : List RouteState → List PointState → List Aspect → List Hold → List Train → ℕ → List Bytes → FirstStateAndEventLinesLeft
 made routes points boards locks trains number lines = record {
   first = record { routes = routes; points = points; boards = boards; locks = locks; trains = trains };
   from_start = false;
@@ -138,8 +138,8 @@ made routes points boards locks trains number lines = record {
   lines = lines;
 }
 
-last_part_or_empty : (p : PlantLists) → IsPlant p → (lines : List Bytes) (b : FirstStateAndEventLines) (r : ParsedPrefix RouteState) (q : ParsedPrefix PointState) (m : ParsedPrefix Aspect) (k : ParsedPrefix Hold)
-    → item_values_from_lines (route_from_line p) (indices_of_list p.routes) 3 lines ≡ Ok r → item_values_from_lines (point_from_line p) (point_sections_in_order p) r.number r.lines ≡ Ok q
+last_part_or_empty : (p : PlantLists) → IsPlant p → (lines : List Bytes) (b : FirstStateAndEventLinesLeft) (r : ParsedPrefix RouteState) (q : ParsedPrefix PointState) (m : ParsedPrefix Aspect) (k : ParsedPrefix Hold)
+    → item_values_from_lines (route_from_line p) (indices_of_list p.routes) 3 lines ≡ Ok r → item_values_from_lines (point_from_line p) (all_point_sections p) r.number r.lines ≡ Ok q
     → item_values_from_lines (board_from_line p) (indices_of_list p.boards) q.number q.lines ≡ Ok m → item_values_from_lines (lock_from_line p) (indices_of_list p.sections) m.number m.lines ≡ Ok k
     → (trains : List Train) → trains ≡ leading_values (train_from_line p) k.lines
     → (expect_first_line (codes "events") (k.number + length trains) (drop (length trains) k.lines) >>= (λ more. Ok (made r.values q.values m.values k.values trains (k.number + length trains + 1) more))) ≡ Ok b
@@ -151,44 +151,44 @@ last_part_or_empty p plant lines b r q m k er eq em ek trains et e =
     subst (λ (ts : List Train). k.lines ≡ map (train_line p) ts ++ drop (length ts) k.lines) (sym et) (leading_lines (train_from_line p) (train_line p) (train_from_line-line p) k.lines) in
     let written : lines ≡ full_state_lines p (record { routes = r.values; points = q.values; boards = m.values; locks = k.values; trains = trains }) ++ codes "events" ∷ v.0 =
     in_a_row lines r.lines q.lines m.lines k.lines (drop (length trains) k.lines)
-    (lines_of_items (route_line p) (indices_of_list p.routes) r.values) (lines_of_items (point_line p) (point_sections_in_order p) q.values) (lines_of_items (board_line p) (indices_of_list p.boards) m.values)
+    (lines_of_items (route_line p) (indices_of_list p.routes) r.values) (lines_of_items (point_line p) (all_point_sections p) q.values) (lines_of_items (board_line p) (indices_of_list p.boards) m.values)
     (lines_of_items (section_line p) (indices_of_list p.sections) k.values) (map (train_line p) trains) (codes "events" ∷ v.0)
     (told_lines (route_from_line p) (route_line p) (route_from_line-line p plant) (indices_of_list p.routes) 3 lines r er)
-    (told_lines (point_from_line p) (point_line p) (point_from_line-line p) (point_sections_in_order p) r.number r.lines q eq)
+    (told_lines (point_from_line p) (point_line p) (point_from_line-line p) (all_point_sections p) r.number r.lines q eq)
     (told_lines (board_from_line p) (board_line p) (board_from_line-line p) (indices_of_list p.boards) q.number q.lines m em)
     (told_lines (lock_from_line p) (section_line p) (lock_from_line-line p) (indices_of_list p.sections) m.number m.lines k ek)
     of_trains (expect_first_line-joins (codes "events") (k.number + length trains) (drop (length trains) k.lines) v.0 v.1) in
-    (ap (λ (z : FirstStateAndEventLines). z.from_start) (sym same), subst (λ (z : FirstStateAndEventLines). lines ≡ full_state_lines p z.first ++ codes "events" ∷ z.lines) same written)
+    (ap (λ (z : FirstStateAndEventLinesLeft). z.from_start) (sym same), subst (λ (z : FirstStateAndEventLinesLeft). lines ≡ full_state_lines p z.first ++ codes "events" ∷ z.lines) same written)
 
-full_state_from_lines-lines : (p : PlantLists) → IsPlant p → (lines : List Bytes) (b : FirstStateAndEventLines) → full_state_from_lines p lines ≡ Ok b → (b.from_start ≡ false) × (lines ≡ full_state_lines p b.first ++ codes "events" ∷ b.lines)
+full_state_from_lines-lines : (p : PlantLists) → IsPlant p → (lines : List Bytes) (b : FirstStateAndEventLinesLeft) → full_state_from_lines p lines ≡ Ok b → (b.from_start ≡ false) × (lines ≡ full_state_lines p b.first ++ codes "events" ∷ b.lines)
 full_state_from_lines-lines p plant lines b e =
     let r = bind_ok (item_values_from_lines (route_from_line p) (indices_of_list p.routes) 3 lines) _ b e in
-    let q = bind_ok (item_values_from_lines (point_from_line p) (point_sections_in_order p) r.0.number r.0.lines) _ b r.2 in
+    let q = bind_ok (item_values_from_lines (point_from_line p) (all_point_sections p) r.0.number r.0.lines) _ b r.2 in
     let m = bind_ok (item_values_from_lines (board_from_line p) (indices_of_list p.boards) q.0.number q.0.lines) _ b q.2 in
     let k = bind_ok (item_values_from_lines (lock_from_line p) (indices_of_list p.sections) m.0.number m.0.lines) _ b m.2 in
     last_part_or_empty p plant lines b r.0 q.0 m.0 k.0 r.1 q.1 m.1 k.1 (leading_values (train_from_line p) k.0.lines) refl k.2
 
-abbrev begins : PlantLists → List Bytes → FirstStateAndEventLines → Type 0
+abbrev begins : PlantLists → List Bytes → FirstStateAndEventLinesLeft → Type 0
 begins p lines b = lines ≡ beginning_lines p b.from_start b.first ++ b.lines
 
-from_state : (p : PlantLists) (more : List Bytes) (b : FirstStateAndEventLines) → (b.from_start ≡ false) × (more ≡ full_state_lines p b.first ++ codes "events" ∷ b.lines) → begins p (codes "state" ∷ more) b
+from_state : (p : PlantLists) (more : List Bytes) (b : FirstStateAndEventLinesLeft) → (b.from_start ≡ false) × (more ≡ full_state_lines p b.first ++ codes "events" ∷ b.lines) → begins p (codes "state" ∷ more) b
 from_state p more b (from, written) =
     ap (λ ls. codes "state" ∷ ls) (written ∙ sym (append_assoc (full_state_lines p b.first) (codes "events" ∷ []) b.lines)) ∙ ap (λ f. beginning_lines p f b.first ++ b.lines) (sym from)
 
-beginning_from_lines-lines : (p : PlantLists) → IsPlant p → (lines : List Bytes) (b : FirstStateAndEventLines) → beginning_from_lines p lines ≡ Ok b → begins p lines b
+beginning_from_lines-lines : (p : PlantLists) → IsPlant p → (lines : List Bytes) (b : FirstStateAndEventLinesLeft) → beginning_from_lines p lines ≡ Ok b → begins p lines b
 beginning_from_lines-lines p plant [] b e = cc
 beginning_from_lines-lines p plant (line ∷ more) b e = by_start (bytes_eq line (codes "start")) refl e
   where
-    by_state : (c : Bool) → bytes_eq line (codes "state") ≡ c → cond {A = Result FirstStateAndEventLines ℕ} c (full_state_from_lines p more) (Err 2) ≡ Ok b → begins p (line ∷ more) b
+    by_state : (c : Bool) → bytes_eq line (codes "state") ≡ c → cond {A = Result FirstStateAndEventLinesLeft ℕ} c (full_state_from_lines p more) (Err 2) ≡ Ok b → begins p (line ∷ more) b
     by_state true same that = subst (λ (l : Bytes). begins p (l ∷ more) b) (sym ((bytes_eq-Decides line (codes "state")).0 same)) (from_state p more b (full_state_from_lines-lines p plant more b that))
     by_state false differs that = cc
 
-    starts : FirstStateAndEventLines
+    starts : FirstStateAndEventLinesLeft
     starts = record { first = start p; from_start = true; number = 3; lines = more }
 
     by_start : (c : Bool) → bytes_eq line (codes "start") ≡ c →
-        cond {A = Result FirstStateAndEventLines ℕ} c (Ok starts) (cond {A = Result FirstStateAndEventLines ℕ} (bytes_eq line (codes "state")) (full_state_from_lines p more) (Err 2)) ≡ Ok b → begins p (line ∷ more) b
-    by_start true same that = subst (λ (z : FirstStateAndEventLines). begins p (line ∷ more) z) (ok_is that) (ap (λ l. l ∷ more) ((bytes_eq-Decides line (codes "start")).0 same))
+        cond {A = Result FirstStateAndEventLinesLeft ℕ} c (Ok starts) (cond {A = Result FirstStateAndEventLinesLeft ℕ} (bytes_eq line (codes "state")) (full_state_from_lines p more) (Err 2)) ≡ Ok b → begins p (line ∷ more) b
+    by_start true same that = subst (λ (z : FirstStateAndEventLinesLeft). begins p (line ∷ more) z) (ok_is that) (ap (λ l. l ∷ more) ((bytes_eq-Decides line (codes "start")).0 same))
     by_start false differs that = by_state (bytes_eq line (codes "state")) refl that
 
 events_from_lines-lines : (p : PlantLists) (n : ℕ) (lines : List Bytes) (bytes : Bytes) (events : List Event) → events_from_lines p n lines bytes ≡ Ok events → (lines ≡ map (event_line p) events ++ codes "end" ∷ []) × (bytes ≡ [])

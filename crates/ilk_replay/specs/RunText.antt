@@ -14,8 +14,8 @@ use Rattle.ilk_plant.specs.declared.state.Train.{Train}
 use Rattle.ilk_model.specs.declared.event.Event.{Event}
 use Rattle.ilk_model.specs.EventWords.{event_word}
 use Rattle.ilk_replay.specs.EventSubjects.{subject}
-use Rattle.ilk_replay.specs.StateTold.{point_sections_in_order}
-use Rattle.ilk_plant.specs.Words.{aspect_word, direction_word, hold_word, lie_word, mode_word, position_word}
+use Rattle.ilk_replay.specs.StateTold.{all_point_sections}
+use Rattle.ilk_plant.specs.Words.{aspect_word, direction_word, lock_state_word, lie_word, mode_word, position_word}
 use Rattle.ilk_replay.specs.declared.event_line.Subject.{Subject}
 use Rattle.ilk_replay.specs.declared.event_line.Subject.TheVariants.{Route, Point, Section}
 use Rattle.ilk_replay.specs.declared.told.Told.{Told}
@@ -48,7 +48,7 @@ board_line p m aspect = join_word_and_rest (codes "board") (join_word_and_rest (
 
 -- Returns a section's line: `section`, its name and its lock.
 abbrev pub section_line : PlantLists → ℕ → Hold → Bytes
-section_line p x lock = join_word_and_rest (codes "section") (join_word_and_rest (name_at_index_or_empty p.section_names x) (hold_word lock))
+section_line p x lock = join_word_and_rest (codes "section") (join_word_and_rest (name_at_index_or_empty p.section_names x) (lock_state_word lock))
 
 -- Returns a train's line: `train`, its direction, and the names of its sections from tail to head.
 abbrev pub train_line : PlantLists → Train → Bytes
@@ -58,7 +58,7 @@ train_line p train = join_word_and_rest (codes "train") (direction_word train.di
 abbrev pub full_state_lines : PlantLists → State → List Bytes
 full_state_lines p s =
     lines_of_items (route_line p) (indices_of_list p.routes) s.routes
-    ++ lines_of_items (point_line p) (point_sections_in_order p) s.points
+    ++ lines_of_items (point_line p) (all_point_sections p) s.points
     ++ lines_of_items (board_line p) (indices_of_list p.boards) s.boards
     ++ lines_of_items (section_line p) (indices_of_list p.sections) s.locks
     ++ map (train_line p) s.trains

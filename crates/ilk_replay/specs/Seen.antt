@@ -12,8 +12,8 @@ use Rattle.ilk_replay.specs.declared.seen.Seen.TheVariants.{NotARun, NoHazard, H
 
 -- Returns the number, from 1, of the first event that isn't enabled or follows a hazard, if the
 -- events from state `s` aren't a run. Otherwise returns 0.
-abbrev pub first_event_breaking_run : PlantLists → State → List Event → ℕ
-first_event_breaking_run p s events =
+abbrev pub first_non_run_event_number : PlantLists → State → List Event → ℕ
+first_non_run_event_number p s events =
     unwrap_or (find (λ n. is_none (run p s (take n events))) (range_with_len 1 (length events))) 0
 
 -- Returns the result of replaying these events from state `s`: the hazard of the last state, or no
@@ -27,5 +27,5 @@ replay_result p s events = after (run p s events)
     shown (Some at) = Hazard at
 
     after : Option State → Seen
-    after None = NotARun (first_event_breaking_run p s events)
+    after None = NotARun (first_non_run_event_number p s events)
     after (Some t) = shown (hazard p t)

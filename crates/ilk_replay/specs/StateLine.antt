@@ -12,7 +12,7 @@ use Rattle.ilk_plant.specs.declared.state.Hold.{Hold}
 use Rattle.ilk_plant.specs.declared.state.PointState.{PointState}
 use Rattle.ilk_plant.specs.declared.state.RouteState.{RouteState}
 use Rattle.ilk_plant.specs.declared.state.Train.{Train}
-use Rattle.ilk_plant.specs.Words.{aspect_from_word, direction_from_word, hold_from_word, lie_from_word, mode_from_word, position_from_word}
+use Rattle.ilk_plant.specs.Words.{aspect_from_word, direction_from_word, lock_state_from_word, lie_from_word, mode_from_word, position_from_word}
 
 -- Returns the rest of a line after the words `kind` and `name`, each followed by a space. Returns
 -- `None` if the line doesn't begin so.
@@ -72,7 +72,7 @@ abbrev pub lock_from_line : PlantLists → ℕ → Bytes → Option Hold
 lock_from_line p x line = do
   name ← slice_get p.section_names x
   text ← rest_after_kind_and_name (codes "section") name line
-  hold_from_word text
+  lock_state_from_word text
 
 -- Returns the numbers of the sections with these names. Returns `None` if some name is unknown.
 abbrev pub sections_named : PlantLists → List Bytes → Option (List ℕ)

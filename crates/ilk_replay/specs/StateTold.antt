@@ -8,12 +8,12 @@ use Rattle.ilk_base.specs.Result.{◌>>=◌}
 use Rattle.ilk_replay.specs.StateLine.{board_from_line, lock_from_line, point_from_line, route_from_line, train_from_line}
 
 -- Returns the numbers of the sections with a point, in order.
-abbrev pub point_sections_in_order : PlantLists → List ℕ
-point_sections_in_order p = filter (is_point_section p) (indices_of_list p.sections)
+abbrev pub all_point_sections : PlantLists → List ℕ
+all_point_sections p = filter (is_point_section p) (indices_of_list p.sections)
 
 -- The beginning of a run text: the first state, whether the text says `start`, and the lines after
 -- it, which are those of the events. The first of them has this number.
-pub record FirstStateAndEventLines : Type 0 where
+pub record FirstStateAndEventLinesLeft : Type 0 where
   pub first : State
   pub from_start : Bool
   pub number : ℕ
@@ -22,10 +22,10 @@ pub record FirstStateAndEventLines : Type 0 where
 -- Returns the beginning of a run text from its lines after `state`, from line 3 on, or the number
 -- of the first bad line. The lines are one for each route, each point in the order of sections,
 -- each board, each section and each train, then `events`.
-abbrev pub full_state_from_lines : PlantLists → List Bytes → Result FirstStateAndEventLines ℕ
+abbrev pub full_state_from_lines : PlantLists → List Bytes → Result FirstStateAndEventLinesLeft ℕ
 full_state_from_lines p lines = do
   routes ← item_values_from_lines (route_from_line p) (indices_of_list p.routes) 3 lines
-  points ← item_values_from_lines (point_from_line p) (point_sections_in_order p) routes.number routes.lines
+  points ← item_values_from_lines (point_from_line p) (all_point_sections p) routes.number routes.lines
   boards ← item_values_from_lines (board_from_line p) (indices_of_list p.boards) points.number points.lines
   locks ← item_values_from_lines (lock_from_line p) (indices_of_list p.sections) boards.number boards.lines
   trains ← Ok (parsed_prefix (train_from_line p) locks.number locks.lines)

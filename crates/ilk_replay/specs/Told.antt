@@ -8,7 +8,7 @@ use Rattle.ilk_base.specs.Result.{◌>>=◌}
 use Rattle.ilk_lines.specs.Lines.{Bytes, unterminated_tail, lines_of}
 use Rattle.ilk_lines.specs.Reading.{expect_first_line, expect_end_of_text, parsed_prefix}
 use Rattle.ilk_replay.specs.EventLine.{event_from_line}
-use Rattle.ilk_replay.specs.StateTold.{FirstStateAndEventLines, full_state_from_lines}
+use Rattle.ilk_replay.specs.StateTold.{FirstStateAndEventLinesLeft, full_state_from_lines}
 use Rattle.ilk_replay.specs.declared.told.Tale.{Tale}
 use Rattle.ilk_replay.specs.declared.told.Tale.TheVariants.{Told as IsTold, Bad}
 use Rattle.ilk_replay.specs.declared.told.Told.{Told}
@@ -24,7 +24,7 @@ events_from_lines p n lines bytes = do
 
 -- Returns the beginning of a run text from its lines after `run 1`, or the number of the first bad
 -- line. It is the line `start`, or the line `state` and the state.
-abbrev pub beginning_from_lines : PlantLists → List Bytes → Result FirstStateAndEventLines ℕ
+abbrev pub beginning_from_lines : PlantLists → List Bytes → Result FirstStateAndEventLinesLeft ℕ
 beginning_from_lines p [] = Err 2
 beginning_from_lines p (line ∷ more) =
     if bytes_eq line (codes "start") then Ok (record { first = start p; from_start = true; number = 3; lines = more }) else

@@ -25,14 +25,14 @@ IsEventSubjectOfPlant p event = IsSubjectOfPlant p (subject event)
 
 -- Holds if a text can describe this run. Its first state is well-formed for the plant, and is the
 -- initial state if the text says `start`. The plant has the subjects of its events.
-pub record IsRunOfPlant (p : PlantLists) (told : Told) : Type 0 where
+pub record IsWritableRunOfPlant (p : PlantLists) (told : Told) : Type 0 where
   pub shape : HasShape p told.first
   pub start : told.from_start ≡ true → told.first ≡ start p
   pub events : All (IsEventSubjectOfPlant p) told.events
 
 -- Holds if a text can describe this run, and this is the text written for it.
 abbrev pub IsTextOfRun : PlantLists → Told → Bytes → Type 0
-IsTextOfRun p told text = IsRunOfPlant p told × (text ≡ run_text p told)
+IsTextOfRun p told text = IsWritableRunOfPlant p told × (text ≡ run_text p told)
 
 -- Holds if the reader reports no line of the text as bad.
 abbrev pub HasNoBadLine : PlantLists → Bytes → Type 0

@@ -2,7 +2,7 @@ ghost use Rattle.std.specs.Prelude.{◌≡◌, ◌++◌, ◌∷◌, [], All, fla
 ghost use Rattle.ilk_lines.specs.Written.{text_of};
 ghost use Rattle.ilk_replay.specs.EventSubjects.{subject};
 ghost use Rattle.ilk_replay.specs.RunText.{beginning_lines, event_line, run_text, subject_name};
-ghost use Rattle.ilk_replay.specs.Writable.{IsSubjectOfPlant, IsEventSubjectOfPlant, IsRunOfPlant};
+ghost use Rattle.ilk_replay.specs.Writable.{IsSubjectOfPlant, IsEventSubjectOfPlant, IsWritableRunOfPlant};
 
 use crate::Told;
 use crate::event_line::Subject;
@@ -72,7 +72,7 @@ fn push_beginning(
     plant: &Plant,
     told: &Told,
 ) -> Result<(), AllocError>
-    requires { IsRunOfPlant plant.now told.now }
+    requires { IsWritableRunOfPlant plant.now told.now }
     ensures { OnOk result
         (string_bytes text.new
         ≡ string_bytes text.old
@@ -90,7 +90,7 @@ fn push_beginning(
 /// Returns the text of the run `told`, which `read_run` reads as the same run. Fails only if memory
 /// runs out.
 pub fn write_run(alloc: Global, plant: &Plant, told: &Told) -> Result<Vec<u8>, AllocError>
-    requires { IsRunOfPlant plant.now told.now }
+    requires { IsWritableRunOfPlant plant.now told.now }
     ensures { IfOk result (λ text. text.items ≡ run_text plant.now told.now) }
 {
     let mut text = String::from_str(alloc, "run 1\n")?;

@@ -4,7 +4,7 @@ ghost use Rattle.ilk_lines.specs.Answers.{PrefixMatchesUnlessOutOfMemory, parsed
 ghost use Rattle.ilk_lines.specs.Reading.{item_values_from_lines, parsed_prefix, indices_of_list};
 ghost use Rattle.ilk_plant.specs.Shape.{HasShape};
 ghost use Rattle.ilk_replay.specs.StateLine.{board_from_line, lock_from_line, point_from_line, route_from_line, train_from_line};
-ghost use Rattle.ilk_replay.specs.StateTold.{point_sections_in_order, full_state_from_lines};
+ghost use Rattle.ilk_replay.specs.StateTold.{all_point_sections, full_state_from_lines};
 ghost use Rattle.ilk_replay.specs.Reading.{StateReadMatchesDefinition};
 
 use crate::state_line::{
@@ -27,8 +27,8 @@ fn numbers_below(alloc: Global, count: u32) -> Result<Row<u32>, AllocError>
 
 #[tactic(auto, using(crate::proofs::Items::listed_more, crate::proofs::Items::listed_same))]
 /// Returns the numbers of the point sections, in order.
-pub(crate) fn point_sections_in_order(alloc: Global, plant: &Plant) -> Result<Row<u32>, AllocError>
-    ensures { IfOk result (λ numbers. numbers ≡ point_sections_in_order plant.now) }
+pub(crate) fn all_point_sections(alloc: Global, plant: &Plant) -> Result<Row<u32>, AllocError>
+    ensures { IfOk result (λ numbers. numbers ≡ all_point_sections plant.now) }
 {
     let mut numbers = Row::new(alloc);
     for x in 0..plant.sections() {
@@ -66,11 +66,11 @@ fn read_points(
 ) -> Result<Row<PointState>, LineFault>
     ensures told { PrefixMatchesUnlessOutOfMemory
         (item_values_from_lines (point_from_line plant.now)
-        (point_sections_in_order plant.now) lines.old.number
+        (all_point_sections plant.now) lines.old.number
         lines.old.lines) lines.new result }
     ensures after { OnOk result (lines.new.after ≡ lines.old.after) }
 {
-    let points = point_sections_in_order(alloc, plant)?;
+    let points = all_point_sections(alloc, plant)?;
     read_one_line_per_item(
         alloc,
         lines,

@@ -3,9 +3,9 @@ ghost use Rattle.ilk_lines.specs.Reading.{indices_of_list};
 ghost use Rattle.ilk_lines.specs.Written.{lines_of_items, text_of};
 ghost use Rattle.ilk_plant.specs.Shape.{HasShape};
 ghost use Rattle.ilk_replay.specs.RunText.{board_line, name_at_index_or_empty, point_line, route_line, section_line, full_state_lines, train_line};
-ghost use Rattle.ilk_replay.specs.StateTold.{point_sections_in_order};
+ghost use Rattle.ilk_replay.specs.StateTold.{all_point_sections};
 
-use crate::state_reading::point_sections_in_order;
+use crate::state_reading::all_point_sections;
 use ilk_base::HasWord;
 use ilk_plant::{Aspect, Hold, Plant, PointState, RouteState, Row, State, Train};
 use std::alloc::{AllocError, Global};
@@ -103,14 +103,14 @@ fn push_points(
     plant: &Plant,
     points: &Row<PointState>,
 ) -> Result<(), AllocError>
-    requires { length points.now ≡ length (point_sections_in_order plant.now) }
+    requires { length points.now ≡ length (all_point_sections plant.now) }
     ensures { OnOk result
         (string_bytes text.new
         ≡ string_bytes text.old
         ++ text_of
-        (lines_of_items (point_line plant.now) (point_sections_in_order plant.now) points.now)) }
+        (lines_of_items (point_line plant.now) (all_point_sections plant.now) points.now)) }
 {
-    let sections = point_sections_in_order(alloc, plant)?;
+    let sections = all_point_sections(alloc, plant)?;
     for n in 0..sections.len() {
         push_point(text, plant, *sections.at(n), points.at(n))?;
     }

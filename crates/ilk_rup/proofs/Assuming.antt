@@ -15,7 +15,7 @@ use Rattle.ilk_trail.proofs.Entries.{lits_of-push}
 use Rattle.ilk_learn.proofs.Latest.{take-one-more}
 use Rattle.ilk_watches.proofs.Entries.{length-kept}
 use Rattle.ilk_learn.proofs.Members.{var-of}
-use Rattle.ilk_rup.specs.Needs.{AssumesNegatedLit, known, new_one, AssumesNegatedLits}
+use Rattle.ilk_rup.specs.Needs.{TrailAssumesNegatedLit, known, new_one, TrailAssumesNegatedLits}
 use Rattle.ilk_rup.proofs.Needing.{push-old, push-new, pushed-lit}
 
 set-pushed : (es : List Entry) (e : Entry) (v : ℕ) → is_set es v ≡ true → is_set (es ++ e ∷ []) v ≡ true
@@ -26,9 +26,9 @@ set-pushed es e v h =
 set-new : (es : List Entry) (e : Entry) → is_set (es ++ e ∷ []) e.lit.var ≡ true
 set-new es e = has-var e.lit (lits_of (es ++ e ∷ [])) (ap (has_lit e.lit) (lits_of-push es e) ∙ push-new (lits_of es) e.lit)
 
-pub assumed-next : (set : List Literal) (old mid new : List Entry) (l : Literal) → AssumesNegatedLits set old mid → AssumesNegatedLit l mid new → AssumesNegatedLits (set ++ l ∷ []) old new
+pub assumed-next : (set : List Literal) (old mid new : List Entry) (l : Literal) → TrailAssumesNegatedLits set old mid → TrailAssumesNegatedLit l mid new → TrailAssumesNegatedLits (set ++ l ∷ []) old new
 assumed-next set old mid new l k (known e h) =
-    let P : List Entry → Type 0 = λ xs. AssumesNegatedLits (set ++ l ∷ []) old xs in
+    let P : List Entry → Type 0 = λ xs. TrailAssumesNegatedLits (set ++ l ∷ []) old xs in
     subst P (sym e) (record {
       kept = k.kept;
       levels = λ i x le s. (let v = k.levels i x le s in (v.0, v.1, push-old set l (negated_lit x.lit) v.2));
@@ -36,7 +36,7 @@ assumed-next set old mid new l k (known e h) =
       covered = λ m q. elim (pushed-lit set l m q) [ inl t ↦ k.covered m t | inr is ↦ ap (λ (x : Literal). is_set mid x.var) is ∙ h ];
     })
 assumed-next set old mid new l k (new_one e is lit level) =
-    let P : List Entry → Type 0 = λ xs. AssumesNegatedLits (set ++ l ∷ []) old xs in
+    let P : List Entry → Type 0 = λ xs. TrailAssumesNegatedLits (set ++ l ∷ []) old xs in
     let now : level_of (mid ++ e ∷ []) ≡ e.level = last_level_or-push 0 mid e in
     subst P (sym is) (record {
       kept = take-append-le (length old) mid (e ∷ []) (length-kept old mid k.kept) ∙ k.kept;

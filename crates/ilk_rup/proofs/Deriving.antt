@@ -31,10 +31,10 @@ use Rattle.ilk_watches.proofs.Queues.{all-covered}
 use Rattle.ilk_learn.proofs.Derived.{false-at, negated_lit-of}
 use Rattle.ilk_learn.proofs.Members.{same-var, var-of}
 use Rattle.ilk_rup.specs.Accepted.{FollowsBySomeHints}
-use Rattle.ilk_rup.specs.Needs.{IsClauseFalseApartFromSet, AssumesNegatedLits, IsClauseOfExactlyLiterals}
+use Rattle.ilk_rup.specs.Needs.{IsClauseFalseApartFromSet, TrailAssumesNegatedLits, IsClauseOfExactlyLiterals}
 use Rattle.ilk_rup.proofs.Signs.{var-either}
 
-pub queue-assumed : (a : ArenaContent) (es fs : List Entry) (h s : ℕ) (set : List Literal) → IsPropagationInvariant a es h s → AreValidNumberedClauses a → s ≡ length a.clauses → h ≡ length es → AssumesNegatedLits set es fs
+pub queue-assumed : (a : ArenaContent) (es fs : List Entry) (h s : ℕ) (set : List Literal) → IsPropagationInvariant a es h s → AreValidNumberedClauses a → s ≡ length a.clauses → h ≡ length es → TrailAssumesNegatedLits set es fs
     → IsPropagationInvariant a fs h s
 queue-assumed a es fs h s set k cl all here p =
     let v = all-covered a es h s k cl all in
@@ -49,7 +49,7 @@ queue-assumed a es fs h s set k cl all here p =
 
 assumed-false : (set : List Literal) (es fs : List Entry) (m : Literal) → has_distinct_vars set ≡ true →
     has_distinct_vars (lits_of fs) ≡ true →
-    ((l : Literal) → has_lit l set ≡ true → has_lit l (lits_of es) ≡ false) → AssumesNegatedLits set es fs →
+    ((l : Literal) → has_lit l set ≡ true → has_lit l (lits_of es) ≡ false) → TrailAssumesNegatedLits set es fs →
     has_lit m set ≡ true → has_lit (negated_lit m) (lits_of fs) ≡ true
 assumed-false set es fs m differ once untrue p h =
     let x = var-of (lits_of fs) m.var (p.covered m h) in
@@ -76,7 +76,7 @@ none-follows n cs es set closed false_all c of follows =
 pub assumed-none : (n : ℕ) (cs : List (List Literal)) (es fs gs : List Entry) (set : List Literal) →
     is_saturated cs (lits_of gs) ≡ true → has_distinct_vars set ≡ true → has_distinct_vars (lits_of fs) ≡ true →
     take (length fs) gs ≡ fs → ((l : Literal) → has_lit l set ≡ true → has_lit l (lits_of es) ≡ false) →
-    AssumesNegatedLits set es fs → (c : List Literal) → IsClauseOfExactlyLiterals n set c → FollowsBySomeHints n cs c → ⊥
+    TrailAssumesNegatedLits set es fs → (c : List Literal) → IsClauseOfExactlyLiterals n set c → FollowsBySomeHints n cs c → ⊥
 assumed-none n cs es fs gs set closed differ once kept untrue p = none-follows n cs gs set closed (λ m h. lit-kept fs gs (negated_lit m) kept (assumed-false set es fs m differ once untrue p h))
 
 pub kept-join : (es fs gs : List Entry) → take (length es) fs ≡ es → take (length fs) gs ≡ fs → take (length es) gs ≡ es
@@ -84,7 +84,7 @@ kept-join es fs gs a b = ap (take (length es)) (sym (take-append-drop (length fs
 
 pub derive-explains : (cs : List (List Literal)) (es fs gs : List Entry) (set : List Literal) (c : ℕ) →
     is_conflict cs (lits_of gs) c ≡ true → has_distinct_vars (lits_of gs) ≡ true →
-    ((l : Literal) → has_lit l set ≡ true → has_lit l (lits_of es) ≡ false) → AssumesNegatedLits set es fs →
+    ((l : Literal) → has_lit l set ≡ true → has_lit l (lits_of es) ≡ false) → TrailAssumesNegatedLits set es fs →
     ExtendsByPropagation cs fs gs → IsClauseFalseApartFromSet cs gs set c (length fs) (length gs) (length es)
 derive-explains cs es fs gs set c h once untrue p q =
     let t = and_parts (nat_lt c (length cs)) (is_falsified (lits_of gs) (nth_clause_or_empty cs c)) h in
@@ -131,7 +131,8 @@ back-level es gs p climb level f =
     ap (entries_up_to 0) (sym whole) ∙ filter-append (λ (e : Entry). nat_le e.level 0) es (drop (length es) gs) ∙ ap (λ (xs : List Entry). entries_up_to 0 es ++ xs) rest ∙ append-nil (entries_up_to 0 es)
     ∙ entries_up_to-all 0 0 es climb (omega (arith, level))
 
-above-level : (cs : List (List Literal)) (es fs gs : List Entry) (set : List Literal) → length es < length fs → AssumesNegatedLits set es fs → ExtendsByPropagation cs fs gs → (i : ℕ) (e : Entry) → length es ≤ i → slice_get gs i ≡ Some e → 0 < e.level
+above-level : (cs : List (List Literal)) (es fs gs : List Entry) (set : List Literal) → length es < length fs → TrailAssumesNegatedLits set es fs → ExtendsByPropagation cs fs gs → (i : ℕ) (e : Entry) → length es ≤ i → slice_get gs i ≡ Some e
+    → 0 < e.level
 above-level cs es fs gs set more p q i e le at =
     elim (below_or_past i (length fs)) [
       | inl b ↦ (let v = p.levels i e le (at-old fs gs i e q.kept b at) in omega (arith, v.1))
@@ -141,11 +142,11 @@ above-level cs es fs gs set more p q i e le at =
           omega (arith, v.0, v.1, w))
     ]
 
-pub back-known : (cs : List (List Literal)) (es fs gs : List Entry) (set : List Literal) → each_may_follow_level 0 es ≡ true → level_of es ≡ 0 → length es < length fs → AssumesNegatedLits set es fs → ExtendsByPropagation cs fs gs →
+pub back-known : (cs : List (List Literal)) (es fs gs : List Entry) (set : List Literal) → each_may_follow_level 0 es ≡ true → level_of es ≡ 0 → length es < length fs → TrailAssumesNegatedLits set es fs → ExtendsByPropagation cs fs gs →
     entries_up_to 0 gs ≡ es
 back-known cs es fs gs set climb level more p q = back-level es gs (kept-join es fs gs p.kept q.kept) climb level (above-level cs es fs gs set more p q)
 
-pub some-unset : (set : List Literal) (es fs : List Entry) → length es < length fs → has_distinct_vars (lits_of fs) ≡ true → AssumesNegatedLits set es fs → (l : Literal) × (has_lit l set ≡ true) × (is_set es l.var ≡ false)
+pub some-unset : (set : List Literal) (es fs : List Entry) → length es < length fs → has_distinct_vars (lits_of fs) ≡ true → TrailAssumesNegatedLits set es fs → (l : Literal) × (has_lit l set ≡ true) × (is_set es l.var ≡ false)
 some-unset set es fs more once p =
     let x = item_at fs (length es) more in
     let v = p.levels (length es) x.0 (omega arith) x.1 in (

@@ -13,13 +13,13 @@ use Rattle.ilk_trail.specs.Laws.{lits_of}
 use Rattle.ilk_trail.proofs.Entries.{entry-lit}
 use Rattle.ilk_watches.proofs.Entries.{entry-of-lit}
 use Rattle.ilk_learn.proofs.Members.{same-var}
-use Rattle.ilk_rup.specs.Needs.{HintsDeriveClauseOfLiterals, IsClauseFalseApartFromSet, AreUnitHintsByVar, AreNeededLitsAfterClause, HintsFalsifyGivenNeededLits, unit_hints_of_needed}
+use Rattle.ilk_rup.specs.Needs.{HintsDeriveClauseOfLiterals, IsClauseFalseApartFromSet, AreUnitHintsByVar, AreNeededLitsAfterClauseExamined, HintsFalsifyGivenNeededLits, unit_hints_of_needed}
 use Rattle.ilk_rup.proofs.Explaining.{not-in, shows-start, shows-end}
 use Rattle.ilk_rup.proofs.Passing.{lits-taken, once-taken}
 
 pub shown-first : (f : Formula) (es : List Entry) (set needed : List Literal) (c from top known : ℕ) →
     IsFormula f → has_distinct_vars (lits_of es) ≡ true → IsClauseFalseApartFromSet f.clauses es set c from top known →
-    AreNeededLitsAfterClause set (nth_clause_or_empty f.clauses c) [] needed →
+    AreNeededLitsAfterClauseExamined set (nth_clause_or_empty f.clauses c) [] needed →
     HintsFalsifyGivenNeededLits f.clauses (lits_of (take top es)) (lits_of (take top es)) set needed ((c + 1) ∷ [])
 shown-first f es set needed c from top known k once x n =
     let P : ℕ → Type 0 = λ h. HintsFalsifyGivenNeededLits f.clauses (lits_of (take top es)) (lits_of (take top es)) set needed (h ∷ []) in

@@ -10,7 +10,7 @@ use Rattle.ilk_log.specs.Derived.{hints_end_in_conflict, negated_clause}
 use Rattle.ilk_log.specs.Fresh.{other_lits}
 use Rattle.ilk_learn.proofs.Derived.{false-from, false-at, unit-one, has-negated_lit, negated_lit-of}
 use Rattle.ilk_learn.proofs.Members.{kept-at, no-var, same-var, var-of}
-use Rattle.ilk_rup.specs.Needs.{AreNeededLitsAfterClause, HintsFalsifyGivenNeededLits, unit_hints_of_needed}
+use Rattle.ilk_rup.specs.Needs.{AreNeededLitsAfterClauseExamined, HintsFalsifyGivenNeededLits, unit_hints_of_needed}
 use Rattle.ilk_rup.proofs.Alike.{ends-first}
 use Rattle.ilk_rup.proofs.Signs.{var-either}
 
@@ -26,7 +26,7 @@ not-in m xs f = elim (cases_Bool (has_lit m xs)) [ inl t ↦ absurd (f t) | inr 
 pub shows-start : (cs : List (List Literal)) (all set d needed : List Literal) (i : ℕ) →
     slice_get cs i ≡ Some d → has_distinct_vars all ≡ true →
     ((m : Literal) → has_lit m d ≡ true → (has_lit m set ≡ true) ⊎ (has_lit (negated_lit m) all ≡ true)) →
-    AreNeededLitsAfterClause set d [] needed → HintsFalsifyGivenNeededLits cs all all set needed (suc i ∷ [])
+    AreNeededLitsAfterClauseExamined set d [] needed → HintsFalsifyGivenNeededLits cs all all set needed (suc i ∷ [])
 shows-start cs all set d needed i at differ f n = record {
   apart = λ x h. elim (n.made x h) [ inl y ↦ absurd (true≢false (sym y)) | inr y ↦ y.1 ];
   within = within;
@@ -71,7 +71,7 @@ pub shows-step :
     Next before more l → has_lit l needed ≡ true → slice_get cs r ≡ Some d → has_distinct_vars d ≡ true →
     has_lit l d ≡ true → is_falsified before (other_lits l d) ≡ true → has_var l.var set ≡ false →
     has_distinct_vars all ≡ true → ((m : Literal) → has_lit m before ≡ true → has_lit m all ≡ true) →
-    AreNeededLitsAfterClause set d needed next → HintsFalsifyGivenNeededLits cs all more set needed hints →
+    AreNeededLitsAfterClauseExamined set d needed next → HintsFalsifyGivenNeededLits cs all more set needed hints →
     HintsFalsifyGivenNeededLits cs all before set next (suc r ∷ hints)
 shows-step cs all before more set needed next d l r hints n u at differ own falsified away once inside k s = record {
   apart = λ x h. elim (k.made x h) [ inl y ↦ s.apart x y | inr y ↦ y.1 ];

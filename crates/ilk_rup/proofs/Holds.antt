@@ -29,7 +29,7 @@ use Rattle.ilk_rup.specs.declared.base.DerivationState.{DerivationState}
 use Rattle.ilk_rup.specs.Alike.{AreEquivalent}
 use Rattle.ilk_rup.specs.LitSet.{LitSetList}
 use Rattle.ilk_rup.specs.Needs.{IsClauseFalseApartFromSet, EntryHasReason, AreUnitHintsByVar}
-use Rattle.ilk_rup.specs.Standing.{IsBaseInvariant, HasSameFormulaAndConsequences, AreFormulaAndDerivedClauses, KeepsConsequencesTrailAndConflicts, IsValidClosedOrNot, IsClosedOrRefuted}
+use Rattle.ilk_rup.specs.Standing.{IsBaseInvariant, HasSameFormulaAndConsequences, AreFormulaAndDerivedClauses, KeepsConsequencesTrailAndConflicts, IsValidMaybeUnpropagated, IsClosedOrRefuted}
 use Rattle.ilk_rup.proofs.Keeping.{forced-more, known-more, logged-more}
 
 take-kept : (es fs : List Entry) (i : ℕ) → take (length es) fs ≡ es → i ≤ length es → take i fs ≡ take i es
@@ -71,10 +71,10 @@ held-propagated f a b t u q r units named log h same is p queue =
       logged = subst L cs h.logged;
     }
 
-pub loose-propagated : (k : DerivationState) (b : ArenaContent) (u : TrailList) (r : PropagationProgress) → IsValidClosedOrNot k →
+pub loose-propagated : (k : DerivationState) (b : ArenaContent) (u : TrailList) (r : PropagationProgress) → IsValidMaybeUnpropagated k →
     SameClauses k.clauses b → u ≡ record k.trail { entries = u.entries } →
     ExtendsByPropagation k.clauses.clauses k.trail.entries u.entries → IsPropagationInvariant b u.entries r.head r.settled →
-    IsValidClosedOrNot (record k { clauses = b; trail = u; queue = r })
+    IsValidMaybeUnpropagated (record k { clauses = b; trail = u; queue = r })
 loose-propagated k b u r h same is p queue = record {
   held = held-propagated k.formula.now k.clauses b k.trail u k.queue r k.explainer.units.items k.explainer.named k.log h.held same is p queue;
   needed_vars = h.needed_vars;

@@ -8,7 +8,7 @@ use Rattle.ilk_cnf.proofs.Gates.{negated_lit-negated_lit}
 use Rattle.ilk_cnf.proofs.SameLiterals.{same-lit, lit-is, has-var}
 use Rattle.ilk_learn.proofs.Latest.{take-one-more}
 use Rattle.ilk_learn.proofs.Members.{var-of}
-use Rattle.ilk_rup.specs.Needs.{AreNeededLitsAfterClause, AreNeededLitsAfterLit, stays, grows}
+use Rattle.ilk_rup.specs.Needs.{AreNeededLitsAfterClauseExamined, AreNeededLitsAfterLitExamined, stays, grows}
 
 pub one-more : (P : List Literal → Type 0) (ls : List Literal) (i : ℕ) (l : Literal) → slice_get ls i ≡ Some l → P (take i ls ++ l ∷ []) → P (take (i + 1) ls)
 one-more P ls i l at h = subst P (sym (ap (λ (n : ℕ). take n ls) (add-one i) ∙ take-one-more ls i l at)) h
@@ -33,9 +33,9 @@ push-var ls l v h =
     let x = var-of ls v h in
     ap (λ (w : ℕ). has_var w (ls ++ l ∷ [])) (sym x.1) ∙ has-var x.0 (ls ++ l ∷ []) (push-old ls l x.0 x.2)
 
-pub needed-next : (set c old mid new : List Literal) (l : Literal) → AreNeededLitsAfterClause set c old mid → AreNeededLitsAfterLit set l mid new → AreNeededLitsAfterClause set (c ++ l ∷ []) old new
+pub needed-next : (set c old mid new : List Literal) (l : Literal) → AreNeededLitsAfterClauseExamined set c old mid → AreNeededLitsAfterLitExamined set l mid new → AreNeededLitsAfterClauseExamined set (c ++ l ∷ []) old new
 needed-next set c old mid new l k (stays e o) =
-    let P : List Literal → Type 0 = λ xs. AreNeededLitsAfterClause set (c ++ l ∷ []) old xs in
+    let P : List Literal → Type 0 = λ xs. AreNeededLitsAfterClauseExamined set (c ++ l ∷ []) old xs in
     subst P (sym e) (record {
       kept = k.kept;
       covered = λ m h. elim (pushed-lit c l m h) [
@@ -48,7 +48,7 @@ needed-next set c old mid new l k (stays e o) =
       made = λ x h. elim (k.made x h) [ inl t ↦ inl t | inr t ↦ inr (push-old c l (negated_lit x) t.0, t.1, t.2) ];
     })
 needed-next set c old mid new l k (grows e a b) =
-    let P : List Literal → Type 0 = λ xs. AreNeededLitsAfterClause set (c ++ l ∷ []) old xs in
+    let P : List Literal → Type 0 = λ xs. AreNeededLitsAfterClauseExamined set (c ++ l ∷ []) old xs in
     let o = negated_lit l in
     subst P (sym e) (record {
       kept = λ x h. push-old mid o x (k.kept x h);

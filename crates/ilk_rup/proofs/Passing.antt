@@ -20,7 +20,7 @@ use Rattle.ilk_watches.proofs.Entries.{entry-of-lit, one-entry}
 use Rattle.ilk_learn.proofs.Latest.{entry-at, take-one-more}
 use Rattle.ilk_learn.proofs.Members.{var-of}
 use Rattle.ilk_learn.proofs.Walk.{stands}
-use Rattle.ilk_rup.specs.Needs.{AreNeededLitsAfterClause, HintsWorkWithoutEntry, HintsFalsifyGivenNeededLits, unit_hints_of_needed}
+use Rattle.ilk_rup.specs.Needs.{AreNeededLitsAfterClauseExamined, HintsWorkWithoutEntry, HintsFalsifyGivenNeededLits, unit_hints_of_needed}
 use Rattle.ilk_rup.proofs.Explaining.{Next, shows-skip, shows-step}
 use Rattle.ilk_rup.proofs.Needing.{pushed-lit, push-old, push-new}
 
@@ -93,7 +93,7 @@ pub passed-step :
     → IsFormula f →
     slice_get es i ≡ Some e → has_distinct_vars (lits_of es) ≡ true → has_lit e.lit needed ≡ true →
     clause_forces_lit f.clauses (lits_of (take i es)) e.lit r ≡ true → has_var e.lit.var set ≡ false →
-    AreNeededLitsAfterClause set (nth_clause_or_empty f.clauses r) needed next →
+    AreNeededLitsAfterClauseExamined set (nth_clause_or_empty f.clauses r) needed next →
     HintsWorkWithoutEntry f.clauses es set i needed (reverse reasons) next (reverse (reasons ++ (r + 1) ∷ []))
 passed-step f es set needed next i r e reasons k at once u reason away n = λ top b le s.
     (let cs = f.clauses in

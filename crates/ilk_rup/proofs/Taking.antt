@@ -26,7 +26,7 @@ use Rattle.ilk_learn.proofs.Members.{differ-kept, each-within, kept-at, kept-fro
 use Rattle.ilk_rup.specs.Accepted.{FollowsBySomeHints}
 use Rattle.ilk_rup.specs.Alike.{AreEquivalent}
 use Rattle.ilk_rup.specs.Needs.{IsClauseOfExactlyLiterals, EntryHasReason, AreUnitHintsByVar, unset_literals_first}
-use Rattle.ilk_rup.specs.Standing.{CurrentClauseFollowsAndIsAdded, HasSameFormulaAndConsequences, IsStepForCurrentLiterals, AreFormulaAndDerivedClauses, IsClauseAddedWithStep, IsValidClosedOrNot, IsClosedOrRefuted}
+use Rattle.ilk_rup.specs.Standing.{CurrentClauseFollowsAndIsAdded, HasSameFormulaAndConsequences, IsStepForCurrentLiterals, AreFormulaAndDerivedClauses, IsClauseAddedWithStep, IsValidMaybeUnpropagated, IsClosedOrRefuted}
 use Rattle.ilk_rup.specs.declared.base.DerivationState.{DerivationState}
 use Rattle.ilk_rup.proofs.Alike.{alike-ended, alike-join, alike-known, alike-same, follows-any, follows-known}
 use Rattle.ilk_rup.proofs.Holds.{added-clauses}
@@ -131,7 +131,7 @@ taken-clause k s step w d =
 pub loose-taken : (k : DerivationState) (b : ArenaContent) (s : Step) → IsStepForCurrentLiterals k s →
     IsClauseOfExactlyLiterals k.formula.now.vars k.set.lits s.clause → AreValidNumberedClauses k.clauses → AreValidNumberedClauses b →
     IsClauseAdded k.clauses s.clause b → IsTrail k.trail →
-    IsValidClosedOrNot (record k { clauses = b; log = k.log ++ s ∷ [] })
+    IsValidMaybeUnpropagated (record k { clauses = b; log = k.log ++ s ∷ [] })
 loose-taken k b s step own ka kb added trail =
     let f = k.formula.now in
     let a = k.clauses in

@@ -13,14 +13,14 @@ abbrev pub FollowsBySomeHints : ℕ → List (List Literal) → List Literal →
 FollowsBySomeHints n clauses c = (hints : List ℕ) × IsTrue (is_derived n clauses (record { clause = c; hints = hints }))
 
 -- Holds if each of the clauses follows from `clauses` by some hints.
-abbrev pub AllFollowBySomeHints : ℕ → List (List Literal) → List (List Literal) → Type 0
-AllFollowBySomeHints n clauses [] = Unit {0}
-AllFollowBySomeHints n clauses (c ∷ cs) = FollowsBySomeHints n clauses c × AllFollowBySomeHints n clauses cs
+abbrev pub EachClauseFollowsBySomeHints : ℕ → List (List Literal) → List (List Literal) → Type 0
+EachClauseFollowsBySomeHints n clauses [] = Unit {0}
+EachClauseFollowsBySomeHints n clauses (c ∷ cs) = FollowsBySomeHints n clauses c × EachClauseFollowsBySomeHints n clauses cs
 
 -- Holds if the item is well-formed, and the clause that it adds, if any, follows from `clauses`
 -- over the variables 1 to `n`.
 abbrev pub IsRightItem : ℕ → List (List Literal) → List Bytes → Type 0
-IsRightItem n clauses item = (cs : List (List Literal)) × (clause_added_by_item n item ≡ Some cs) × AllFollowBySomeHints n clauses cs
+IsRightItem n clauses item = (cs : List (List Literal)) × (clause_added_by_item n item ≡ Some cs) × EachClauseFollowsBySomeHints n clauses cs
 
 -- Returns `clauses` with the clause that the item adds, if any, at the end.
 abbrev pub with_clause_added_by_item : ℕ → List (List Literal) → List Bytes → List (List Literal)

@@ -12,13 +12,13 @@ use Rattle.ilk_trail.specs.Laws.{is_set, lits_of}
 
 -- Holds if `new` are the needed literals after literal `l` of a false clause was examined. The
 -- opposite of `l` is added to `old`, unless `set` has `l` or `old` has its variable.
-pub data AreNeededLitsAfterLit (set : List Literal) (l : Literal) (old new : List Literal) : Type 0 where
-  stays : new ≡ old → (has_lit l set ≡ true) ⊎ (has_var l.var old ≡ true) → AreNeededLitsAfterLit set l old new
-  grows : new ≡ old ++ negated_lit l ∷ [] → has_lit l set ≡ false → has_var l.var old ≡ false → AreNeededLitsAfterLit set l old new
+pub data AreNeededLitsAfterLitExamined (set : List Literal) (l : Literal) (old new : List Literal) : Type 0 where
+  stays : new ≡ old → (has_lit l set ≡ true) ⊎ (has_var l.var old ≡ true) → AreNeededLitsAfterLitExamined set l old new
+  grows : new ≡ old ++ negated_lit l ∷ [] → has_lit l set ≡ false → has_var l.var old ≡ false → AreNeededLitsAfterLitExamined set l old new
 
 -- Holds if `new` are the needed literals after each literal of the false clause `d` was examined,
 -- starting from `old`.
-pub record AreNeededLitsAfterClause (set d old new : List Literal) : Type 0 where
+pub record AreNeededLitsAfterClauseExamined (set d old new : List Literal) : Type 0 where
   pub kept : (x : Literal) → has_lit x old ≡ true → has_lit x new ≡ true
   pub covered : (m : Literal) → has_lit m d ≡ true → (has_lit m set ≡ true) ⊎ (has_var m.var new ≡ true)
   pub made : (x : Literal) → has_lit x new ≡ true → (has_lit x old ≡ true) ⊎ ((has_lit (negated_lit x) d ≡ true) × (has_lit (negated_lit x) set ≡ false) × (has_var x.var old ≡ false))
@@ -94,13 +94,13 @@ HintsDeriveClauseOfLiterals cs set hints = (c : List Literal) → has_distinct_v
 
 -- Holds if `new` is the trail `old` with the opposite of `l` added at level 1, unless the variable
 -- of `l` is already set.
-pub data AssumesNegatedLit (l : Literal) (old new : List Entry) : Type 0 where
-  known : new ≡ old → is_set old l.var ≡ true → AssumesNegatedLit l old new
-  new_one : (e : Entry) → new ≡ old ++ e ∷ [] → e.lit ≡ negated_lit l → e.level ≡ 1 → AssumesNegatedLit l old new
+pub data TrailAssumesNegatedLit (l : Literal) (old new : List Entry) : Type 0 where
+  known : new ≡ old → is_set old l.var ≡ true → TrailAssumesNegatedLit l old new
+  new_one : (e : Entry) → new ≡ old ++ e ∷ [] → e.lit ≡ negated_lit l → e.level ≡ 1 → TrailAssumesNegatedLit l old new
 
 -- Holds if each literal of `set` has a set variable in `new`, which is `old` with opposites of such
 -- literals added at level 1.
-pub record AssumesNegatedLits (set : List Literal) (old new : List Entry) : Type 0 where
+pub record TrailAssumesNegatedLits (set : List Literal) (old new : List Entry) : Type 0 where
   pub kept : take (length old) new ≡ old
   pub levels : (i : ℕ) (e : Entry) → length old ≤ i → slice_get new i ≡ Some e → (e.level ≡ level_of new) × (e.level ≡ 1) × (has_lit (negated_lit e.lit) set ≡ true)
   pub low : level_of new ≤ 1

@@ -37,7 +37,7 @@ pub record IsBaseInvariant (f : Formula) (clauses : ArenaContent) (trail : Trail
   pub logged : AreFormulaAndDerivedClauses f clauses.clauses log
 
 -- Holds if the base is valid, also if propagation hasn't ended (`IsBaseInvariant`).
-pub record IsValidClosedOrNot (k : DerivationState) : Type 0 where
+pub record IsValidMaybeUnpropagated (k : DerivationState) : Type 0 where
   pub held : IsBaseInvariant k.formula.now k.clauses k.trail k.queue k.explainer.units.items k.explainer.named k.log
   pub needed_vars : k.explainer.needed.vars ≡ k.formula.now.vars
   pub set_vars : k.set.vars ≡ k.formula.now.vars
@@ -45,7 +45,7 @@ pub record IsValidClosedOrNot (k : DerivationState) : Type 0 where
 -- Holds if the base is valid, propagation has ended without a conflict, and each entry has a unit
 -- clause.
 pub record IsPropagatedWithoutConflict (k : DerivationState) : Type 0 where
-  pub loose : IsValidClosedOrNot k
+  pub loose : IsValidMaybeUnpropagated k
   pub closed : is_saturated k.clauses.clauses (lits_of k.trail.entries) ≡ true
   pub head : k.queue.head ≡ length k.trail.entries
   pub settled : k.queue.settled ≡ length k.clauses.clauses
@@ -89,7 +89,7 @@ NoHintsDeriveClause k = (c : List Literal) → IsClauseOfExactlyLiterals k.formu
 -- Holds if step `s` derives the clause of the literals in `k.set`, the unset ones first. None of
 -- them is true, and at least one is unset.
 pub record IsStepForCurrentLiterals (k : DerivationState) (s : Step) : Type 0 where
-  pub loose : IsValidClosedOrNot k
+  pub loose : IsValidMaybeUnpropagated k
   pub clause : s.clause ≡ unset_literals_first k.trail.entries k.set.lits
   pub hints : HintsDeriveClauseOfLiterals k.clauses.clauses k.set.lits s.hints
   pub untrue : (m : Literal) → has_lit m k.set.lits ≡ true → has_lit m (lits_of k.trail.entries) ≡ false

@@ -6,14 +6,14 @@ use Rattle.ilk_lines.specs.Lines.{Bytes}
 use Rattle.ilk_log.specs.Derived.{is_refutation}
 use Rattle.ilk_rup.specs.Accepted.{ItemsAreRightAndRefute, IsFirstBadAmong, FollowsBySomeHints, IsRightItem, with_clause_added_by_item, text_items}
 use Rattle.ilk_rup.specs.Alike.{AreEquivalent}
-use Rattle.ilk_rup.specs.Checker.{CheckerLists}
+use Rattle.ilk_rup.specs.Checker.{FormulaAndStoredClauses}
 use Rattle.ilk_rup.specs.RefutationText.{split_words_into_items}
 use Rattle.ilk_rup.specs.declared.next.Next.{Next}
 use Rattle.ilk_rup.specs.declared.next.Next.TheVariants.{Right, Bad, Refuted}
 
 -- Holds if the first item of the words `old` is right, `left` are the words after it, and `new` has
 -- the consequences of `k` with its clause.
-pub record HasAcceptedItem (k : CheckerLists) (old left : List Bytes) (new : CheckerLists) : Type 0 where
+pub record HasAcceptedItem (k : FormulaAndStoredClauses) (old left : List Bytes) (new : FormulaAndStoredClauses) : Type 0 where
   pub item : List Bytes
   pub is : split_words_into_items old ≡ item ∷ split_words_into_items left
   pub right : IsRightItem k.formula.vars k.clauses item
@@ -24,7 +24,7 @@ pub record HasAcceptedItem (k : CheckerLists) (old left : List Bytes) (new : Che
 -- Holds if the result for the next item is right. `Right`: the item is right. `Bad`: it is bad, or
 -- none is left and the empty clause doesn't follow. `Refuted`: none is left, and the log refutes
 -- the formula.
-abbrev pub IsItemCheckResult : CheckerLists → List Bytes → List Bytes → Next → Type 0
+abbrev pub IsItemCheckResult : FormulaAndStoredClauses → List Bytes → List Bytes → Next → Type 0
 IsItemCheckResult k old left (Right new) = HasAcceptedItem k old left new
 IsItemCheckResult k old left Bad = IsFirstBadAmong k.formula.vars k.clauses (split_words_into_items old) 1
 IsItemCheckResult k old left (Refuted log) = (old ≡ []) × FollowsBySomeHints k.formula.vars k.clauses [] × IsTrue (is_refutation k.formula log)

@@ -6,7 +6,7 @@ ghost use Rattle.ilk_cnf.specs.Formula.{is_lit_over};
 ghost use Rattle.ilk_trail.specs.Trail.{level_of};
 ghost use Rattle.ilk_cnf.specs.Literal.{has_lit};
 ghost use Rattle.ilk_trail.specs.Laws.{is_set, lits_of};
-ghost use Rattle.ilk_rup.specs.Needs.{AssumesNegatedLit, AssumesNegatedLits, unset_literals_first};
+ghost use Rattle.ilk_rup.specs.Needs.{TrailAssumesNegatedLit, TrailAssumesNegatedLits, unset_literals_first};
 
 use crate::set::LitSet;
 use ilk_cnf::{Lit, Lits};
@@ -19,7 +19,7 @@ fn assume_one(trail: &mut Trail, l: Lit)
     requires within { IsTrue (is_lit_over trail.old.vars l) }
     requires low { level_of trail.old.entries ≤ 1 }
     ensures trail { trail.new ≡ record trail.old { entries = trail.new.entries } }
-    ensures assumed { AssumesNegatedLit l trail.old.entries trail.new.entries }
+    ensures assumed { TrailAssumesNegatedLit l trail.old.entries trail.new.entries }
 {
     if is_set(trail, l) {
         return;
@@ -60,7 +60,7 @@ pub(crate) fn assume_negations(trail: &mut Trail, set: &LitSet)
     requires vars { set.now.vars ≡ trail.old.vars }
     requires level { level_of trail.old.entries ≡ 0 }
     ensures trail { trail.new ≡ record trail.old { entries = trail.new.entries } }
-    ensures assumed { AssumesNegatedLits set.now.lits trail.old.entries trail.new.entries }
+    ensures assumed { TrailAssumesNegatedLits set.now.lits trail.old.entries trail.new.entries }
 {
     for i in 0..set.len() {
         assume_one(trail, set.at(i));

@@ -5,7 +5,7 @@ ghost use Rattle.ilk_cnf.specs.Formula.{is_clause_over};
 ghost use Rattle.ilk_cnf.specs.Literal.{Literal, has_lit, has_distinct_vars};
 ghost use Rattle.ilk_watches.specs.Reasons.{is_conflict};
 ghost use Rattle.ilk_trail.specs.Laws.{lits_of};
-ghost use Rattle.ilk_rup.specs.Standing.{HasSameFormulaAndConsequences, IsStepForCurrentLiterals, KeepsConsequencesTrailAndConflicts, IsClauseAddedWithStep, IsTryAddResult, IsValidClosedOrNot, NoHintsDeriveClause, IsPropagatedWithoutConflict, IsClosedOrRefuted};
+ghost use Rattle.ilk_rup.specs.Standing.{HasSameFormulaAndConsequences, IsStepForCurrentLiterals, KeepsConsequencesTrailAndConflicts, IsClauseAddedWithStep, IsTryAddResult, IsValidMaybeUnpropagated, NoHintsDeriveClause, IsPropagatedWithoutConflict, IsClosedOrRefuted};
 
 use crate::assume::{assume_negations, is_true, unset_literals_first};
 use crate::explain::{Conflict, Explainer, reason_index_of_entry};
@@ -43,7 +43,7 @@ fn alone(alloc: Global, l: Lit) -> Result<Lits, AllocError>
 impl<'a> DerivationState<'a> {
     /// Creates the base of the formula `cnf`: no clause derived, nothing set.
     pub fn new(alloc: Global, cnf: &'a Cnf) -> Result<DerivationState<'a>, AllocError>
-        ensures loose { IfOk result (λ k. IsValidClosedOrNot k) }
+        ensures loose { IfOk result (λ k. IsValidMaybeUnpropagated k) }
         ensures formula { IfOk result (λ k. k.formula.now ≡ cnf.now) }
         ensures clauses { IfOk result (λ k. k.clauses.clauses ≡ cnf.now.clauses) }
         ensures going { IfOk result (λ k. k.refuted ≡ false) }
@@ -81,9 +81,9 @@ impl<'a> DerivationState<'a> {
 
     // Adds the unit clause for the first entry that has none.
     fn name(&mut self, alloc: Global) -> Result<(), AllocError>
-        requires loose { IsValidClosedOrNot self.old }
+        requires loose { IsValidMaybeUnpropagated self.old }
         requires below { self.old.explainer.named < length self.old.trail.entries }
-        ensures loose { OnOk result (IsValidClosedOrNot self.new) }
+        ensures loose { OnOk result (IsValidMaybeUnpropagated self.new) }
         ensures same { OnOk result (KeepsConsequencesTrailAndConflicts self.old self.new) }
         ensures named { OnOk result (self.new.explainer.named ≡ self.old.explainer.named + 1) }
     {
@@ -109,8 +109,8 @@ impl<'a> DerivationState<'a> {
     }
 
     fn name_all(&mut self, alloc: Global) -> Result<(), AllocError>
-        requires { IsValidClosedOrNot self.old }
-        ensures loose { OnOk result (IsValidClosedOrNot self.new) }
+        requires { IsValidMaybeUnpropagated self.old }
+        ensures loose { OnOk result (IsValidMaybeUnpropagated self.new) }
         ensures same { OnOk result (KeepsConsequencesTrailAndConflicts self.old self.new) }
         ensures named { OnOk result (self.new.explainer.named ≡ length self.new.trail.entries) }
     {
@@ -123,7 +123,7 @@ impl<'a> DerivationState<'a> {
     /// Assigns the literals that the clauses force at level 0, and adds a unit clause for each. If
     /// a clause becomes false, derives the empty clause and sets `refuted`.
     pub fn propagate_units(&mut self, alloc: Global) -> Result<(), AllocError>
-        requires loose { IsValidClosedOrNot self.old }
+        requires loose { IsValidMaybeUnpropagated self.old }
         requires going { self.old.refuted ≡ false }
         ensures stands { OnOk result (IsClosedOrRefuted self.new) }
         ensures same { OnOk result (HasSameFormulaAndConsequences self.old self.new) }
@@ -148,7 +148,7 @@ impl<'a> DerivationState<'a> {
     // Derives the empty clause, if clause `conflict` is false at level 0, and each entry has a unit
     // clause.
     fn refute(&mut self, alloc: Global, conflict: u64) -> Result<(), AllocError>
-        requires loose { IsValidClosedOrNot self.old }
+        requires loose { IsValidMaybeUnpropagated self.old }
         requires named { self.old.explainer.named ≡ length self.old.trail.entries }
         requires conflict { IsTrue
             (is_conflict self.old.clauses.clauses (lits_of self.old.trail.entries) conflict) }

@@ -19,12 +19,12 @@ pub(crate) struct Checker<'a> {
 }
 
 impl<'a> Model for Checker<'a> {
-    ghost use Rattle.ilk_rup.specs.Checker.{CheckerLists, checker_lists_of_base};
+    ghost use Rattle.ilk_rup.specs.Checker.{FormulaAndStoredClauses, formula_and_clauses_of_base};
     ghost use Rattle.ilk_rup.specs.Standing.{IsClosedOrRefuted};
 
-    ghost Value = { CheckerLists };
+    ghost Value = { FormulaAndStoredClauses };
 
-    ghost view = { λ k. checker_lists_of_base k.base };
+    ghost view = { λ k. formula_and_clauses_of_base k.base };
 
     ghost invariant = { λ k. IsClosedOrRefuted k.base };
 }

@@ -6,7 +6,7 @@ ghost use Rattle.ilk_watches.specs.Reasons.{nth_clause_or_empty};
 ghost use Rattle.std.specs.List.{filter};
 ghost use Rattle.ilk_trail.specs.Laws.{lits_of};
 ghost use Rattle.ilk_rup.specs.Explained.{IsReadyToExplainConflict, IsEmptyExplainer};
-ghost use Rattle.ilk_rup.specs.Needs.{HintsDeriveClauseOfLiterals, EntriesForcedWithVarsNotInSet, EntryHasReason, AreNeededLitsAfterClause, HintsWorkWithoutEntry, IsReasonAt, AreNeededLitsAfterLit, HintsFalsifyGivenNeededLits, unit_hints_of_needed};
+ghost use Rattle.ilk_rup.specs.Needs.{HintsDeriveClauseOfLiterals, EntriesForcedWithVarsNotInSet, EntryHasReason, AreNeededLitsAfterClauseExamined, HintsWorkWithoutEntry, IsReasonAt, AreNeededLitsAfterLitExamined, HintsFalsifyGivenNeededLits, unit_hints_of_needed};
 
 use crate::set::LitSet;
 use ilk_cnf::Lit;
@@ -19,7 +19,7 @@ use std::alloc::{AllocError, Global};
 fn need_one(needed: &mut LitSet, set: &LitSet, l: Lit)
     requires within { IsTrue (is_lit_over needed.old.vars l) }
     requires vars { set.now.vars ≡ needed.old.vars }
-    ensures needed { AreNeededLitsAfterLit set.now.lits l needed.old.lits needed.new.lits }
+    ensures needed { AreNeededLitsAfterLitExamined set.now.lits l needed.old.lits needed.new.lits }
     ensures vars { needed.new.vars ≡ needed.old.vars }
 {
     if set.has(l) || needed.has_var(l) {
@@ -32,7 +32,7 @@ fn need(needed: &mut LitSet, clauses: &NumberedClauses, set: &LitSet, c: u64)
     requires known { c < length clauses.now.clauses }
     requires vars { needed.old.vars ≡ clauses.now.vars }
     requires set { set.now.vars ≡ clauses.now.vars }
-    ensures needed { AreNeededLitsAfterClause set.now.lits
+    ensures needed { AreNeededLitsAfterClauseExamined set.now.lits
         (nth_clause_or_empty clauses.now.clauses c) needed.old.lits
         needed.new.lits }
     ensures vars { needed.new.vars ≡ needed.old.vars }

@@ -198,7 +198,7 @@ impl Search {
 
     /// Returns the step that derives the empty clause. All literals of clause `conflict` must be
     /// false, and the current level 0.
-    pub fn refute(&self, alloc: Global, conflict: u64) -> Result<Step, AllocError>
+    pub fn empty_clause_step(&self, alloc: Global, conflict: u64) -> Result<Step, AllocError>
         requires conflict { IsTrue
             (is_conflict (all_clauses self.now) (lits_of self.now.view.trail.entries) conflict) }
         requires level { level_of self.now.view.trail.entries ≡ 0 }

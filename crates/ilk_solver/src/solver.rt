@@ -96,7 +96,7 @@ impl Solver {
                 }
                 Some(conflict) => {
                     if search.level() == 0 {
-                        let last = search.refute(alloc, conflict)?;
+                        let last = search.empty_clause_step(alloc, conflict)?;
                         let mut log = search.into_log();
                         log.push(last)?;
                         return Ok(Outcome {

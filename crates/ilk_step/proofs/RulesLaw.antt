@@ -19,7 +19,7 @@ use Rattle.ilk_ir.specs.Tree.{is, tree_holds, tree_valid, value_valid, is_value_
 use Rattle.ilk_ir.specs.System.{PlainRule, rule_valid, sets_distinct_vars}
 use Rattle.ilk_ir.specs.declared.system.Setting.{Setting}
 use Rattle.ilk_forms.specs.declared.copy.VarValueAndBoundLits.{VarValueAndBoundLits}
-use Rattle.ilk_forms.specs.Leaf.{has_lits_within_vars, ranges_of}
+use Rattle.ilk_forms.specs.Leaf.{has_lits_within_vars, ranges_of_copy_lits}
 use Rattle.ilk_forms.specs.Demand.{some_lit_or_form_part, some_lit_or_form_bits}
 use Rattle.ilk_forms.proofs.Reading.{Reads, reads-more, has_lits_within_vars-more}
 use Rattle.ilk_forms.proofs.DemandLaw.{PartFits, some_lit_or_form-fits, some_lit_or_form-law}
@@ -56,31 +56,31 @@ rule_valid-settings ranges r h = (and_parts (tree_valid ranges r.guard) (setting
 same : (n : ℕ) → n ≤ n
 same n = omega arith
 
-pub settings-fits : (sets : List Setting) (next : List VarValueAndBoundLits) (skip : Literal) (n : ℕ) → has_lits_within_vars n next ≡ true → is_clause_over n (skip ∷ []) ≡ true → settings_valid (ranges_of next) sets ≡ true →
+pub settings-fits : (sets : List Setting) (next : List VarValueAndBoundLits) (skip : Literal) (n : ℕ) → has_lits_within_vars n next ≡ true → is_clause_over n (skip ∷ []) ≡ true → settings_valid (ranges_of_copy_lits next) sets ≡ true →
     PartFits n (settings_unless_skipped_part next skip sets n)
 settings-fits [] next skip n h f k = record { low = same n; inside = refl }
 settings-fits (s ∷ sets) next skip n h f k =
-    let parts = and_parts (value_valid (ranges_of next) s.var s.value) (settings_valid (ranges_of next) sets) k in
+    let parts = and_parts (value_valid (ranges_of_copy_lits next) s.var s.value) (settings_valid (ranges_of_copy_lits next) sets) k in
     then-fits n (some_lit_or_form_part next (skip ∷ []) (is s.var s.value) n) (settings_unless_skipped_part next skip sets) (some_lit_or_form-fits (is s.var s.value) next (skip ∷ []) n h f parts.0) (settings-fits sets next skip n h f parts.1)
 
 pub rule-fits : (r : PlainRule) (now next : List VarValueAndBoundLits) (skip : Literal) (n : ℕ) → has_lits_within_vars n now ≡ true →
-    has_lits_within_vars n next ≡ true → ranges_of next ≡ ranges_of now → is_clause_over n (skip ∷ []) ≡ true →
-    rule_valid (ranges_of now) r ≡ true → PartFits n (rule_unless_skipped_part now next skip r n)
+    has_lits_within_vars n next ≡ true → ranges_of_copy_lits next ≡ ranges_of_copy_lits now → is_clause_over n (skip ∷ []) ≡ true →
+    rule_valid (ranges_of_copy_lits now) r ≡ true → PartFits n (rule_unless_skipped_part now next skip r n)
 rule-fits r now next skip n hn hx same_ranges f k =
     let p = some_lit_or_form_part now (skip ∷ []) r.guard n in
-    let one = some_lit_or_form-fits r.guard now (skip ∷ []) n hn f (rule_valid-guard (ranges_of now) r k) in
-    let sets : settings_valid (ranges_of next) r.sets ≡ true = ap (λ (u : List ℕ). settings_valid u r.sets) same_ranges ∙ rule_valid-settings (ranges_of now) r k in
+    let one = some_lit_or_form-fits r.guard now (skip ∷ []) n hn f (rule_valid-guard (ranges_of_copy_lits now) r k) in
+    let sets : settings_valid (ranges_of_copy_lits next) r.sets ≡ true = ap (λ (u : List ℕ). settings_valid u r.sets) same_ranges ∙ rule_valid-settings (ranges_of_copy_lits now) r k in
     then-fits n p (settings_unless_skipped_part next skip r.sets) one (settings-fits r.sets next skip p.vars (has_lits_within_vars-more n p.vars next one.low hx) (is_clause_over-more n p.vars (skip ∷ []) one.low f) sets)
 
 pub skip-in : (k n : ℕ) → 0 < k → k ≤ n → is_clause_over n (positive_lit k ∷ []) ≡ true
 skip-in k n low high = and_from _ _ (and_from _ _ (lt-ltb 0 k low) (le-leb k n high)) refl
 
 pub rules-fits : (rs : List PlainRule) (now next : List VarValueAndBoundLits) (k n : ℕ) → has_lits_within_vars n now ≡ true →
-    has_lits_within_vars n next ≡ true → ranges_of next ≡ ranges_of now → 0 < k → k + length rs ≤ n + 1 →
-    list_all (rule_valid (ranges_of now)) rs ≡ true → PartFits n (rules_part now next k rs n)
+    has_lits_within_vars n next ≡ true → ranges_of_copy_lits next ≡ ranges_of_copy_lits now → 0 < k → k + length rs ≤ n + 1 →
+    list_all (rule_valid (ranges_of_copy_lits now)) rs ≡ true → PartFits n (rules_part now next k rs n)
 rules-fits [] now next k n hn hx same_ranges low high valid = record { low = same n; inside = refl }
 rules-fits (r ∷ rs) now next k n hn hx same_ranges low high valid =
-    let parts = and_parts (rule_valid (ranges_of now) r) (list_all (rule_valid (ranges_of now)) rs) valid in
+    let parts = and_parts (rule_valid (ranges_of_copy_lits now) r) (list_all (rule_valid (ranges_of_copy_lits now)) rs) valid in
     let p = rule_unless_skipped_part now next (positive_lit k) r n in
     let one = rule-fits r now next (positive_lit k) n hn hx same_ranges (skip-in k n low (omega arith)) parts.0 in
     let grows = one.low in
@@ -93,12 +93,12 @@ also false h rest = refl
 pub settings-law :
     (sets : List Setting) (next : List VarValueAndBoundLits) (ranges xs : List ℕ) (skip : Literal) (a : List Bool) (n : ℕ) →
     length a ≡ n → Reads a next ranges xs → has_lits_within_vars n next ≡ true → is_clause_over n (skip ∷ []) ≡ true →
-    settings_valid (ranges_of next) sets ≡ true →
+    settings_valid (ranges_of_copy_lits next) sets ≡ true →
     ExtensionsAreExactly a (settings_unless_skipped_part next skip sets n).vars (settings_unless_skipped_part next skip sets n).clauses
     (PassesAndEqualsGivenValues (is_true a skip || list_all (λ s. is_value_of_var xs s.var s.value) sets) [])
 settings-law [] next ranges xs skip a n size r h f k = no_more_if a n [] (is_true a skip || true) size (sym (or-true (is_true a skip)))
 settings-law (s ∷ sets) next ranges xs skip a n size r h f k =
-    let parts = and_parts (value_valid (ranges_of next) s.var s.value) (settings_valid (ranges_of next) sets) k in
+    let parts = and_parts (value_valid (ranges_of_copy_lits next) s.var s.value) (settings_valid (ranges_of_copy_lits next) sets) k in
     let p = some_lit_or_form_part next (skip ∷ []) (is s.var s.value) n in
     let rest = settings_unless_skipped_part next skip sets n in
     let x = is_true a skip in
@@ -116,9 +116,9 @@ settings-law (s ∷ sets) next ranges xs skip a n size r h f k =
 
 pub rule-law :
     (r : PlainRule) (now next : List VarValueAndBoundLits) (ws xs : List ℕ) (skip : Literal) (a : List Bool) (n : ℕ) →
-    length a ≡ n → Reads a now (ranges_of now) ws → Reads a next (ranges_of now) xs →
-    has_lits_within_vars n now ≡ true → has_lits_within_vars n next ≡ true → ranges_of next ≡ ranges_of now →
-    is_clause_over n (skip ∷ []) ≡ true → rule_valid (ranges_of now) r ≡ true →
+    length a ≡ n → Reads a now (ranges_of_copy_lits now) ws → Reads a next (ranges_of_copy_lits now) xs →
+    has_lits_within_vars n now ≡ true → has_lits_within_vars n next ≡ true → ranges_of_copy_lits next ≡ ranges_of_copy_lits now →
+    is_clause_over n (skip ∷ []) ≡ true → rule_valid (ranges_of_copy_lits now) r ≡ true →
     ExtensionsAreExactly a (rule_unless_skipped_part now next skip r n).vars (rule_unless_skipped_part now next skip r n).clauses
     (PassesAndEqualsGivenValues (is_true a skip || rule_met ws xs r) (some_lit_or_form_bits now (skip ∷ []) r.guard a))
 rule-law r now next ws xs skip a n size rn rx hn hx same_ranges f k =
@@ -127,10 +127,10 @@ rule-law r now next ws xs skip a n size rn rx hn hx same_ranges f k =
     let m = p.vars in
     let rest = settings_unless_skipped_part next skip r.sets m in
     let x = is_true a skip in
-    let guard_valid = rule_valid-guard (ranges_of now) r k in
+    let guard_valid = rule_valid-guard (ranges_of_copy_lits now) r k in
     let one = some_lit_or_form-fits r.guard now (skip ∷ []) n hn f guard_valid in
     let grows = one.low in
-    let sets : settings_valid (ranges_of next) r.sets ≡ true = ap (λ (u : List ℕ). settings_valid u r.sets) same_ranges ∙ rule_valid-settings (ranges_of now) r k in
+    let sets : settings_valid (ranges_of_copy_lits next) r.sets ≡ true = ap (λ (u : List ℕ). settings_valid u r.sets) same_ranges ∙ rule_valid-settings (ranges_of_copy_lits now) r k in
     let met = list_all (λ (s : Setting). is_value_of_var xs s.var s.value) r.sets in
     let next_in = has_lits_within_vars-more n m next grows hx in
     let skip_in = is_clause_over-more n m (skip ∷ []) grows f in
@@ -138,10 +138,10 @@ rule-law r now next ws xs skip a n size rn rx hn hx same_ranges f k =
     let old : is_true (a ++ e) skip ≡ x = is_true-left a e skip skip_var in
     let second : length (a ++ e) ≡ m → ExtensionsAreExactly (a ++ e) rest.vars rest.clauses (PassesAndEqualsGivenValues (x || met) []) = λ long.
     subst (λ (b : Bool). ExtensionsAreExactly (a ++ e) rest.vars rest.clauses (PassesAndEqualsGivenValues (b || met) [])) old
-    (settings-law r.sets next (ranges_of now) xs skip (a ++ e) m long (reads-more a e next (ranges_of now) xs (longer a e) rx) next_in skip_in sets) in
+    (settings-law r.sets next (ranges_of_copy_lits now) xs skip (a ++ e) m long (reads-more a e next (ranges_of_copy_lits now) xs (longer a e) rx) next_in skip_in sets) in
     let both = then-law a e [] ((x || false) || rule_guard) (x || met) n p (settings_unless_skipped_part next skip r.sets)
     size one (settings-fits r.sets next skip m next_in skip_in sets)
-    (some_lit_or_form-law r.guard now (ranges_of now) ws (skip ∷ []) a n size rn f guard_valid) second in
+    (some_lit_or_form-law r.guard now (ranges_of_copy_lits now) ws (skip ∷ []) a n size rn f guard_valid) second in
     let said = subst (λ (b : Bool). ExtensionsAreExactly a rest.vars (p.clauses ++ rest.clauses) (PassesAndEqualsGivenValues b (e ++ []))) (also x rule_guard met) both in
     subst (λ (d : List Bool). ExtensionsAreExactly a rest.vars (p.clauses ++ rest.clauses) (PassesAndEqualsGivenValues (x || rule_met ws xs r) d)) (append-nil e) said
   where
@@ -161,14 +161,14 @@ all_met-left (r ∷ rs) a e k ws xs h =
 
 pub rules-law :
     (rs : List PlainRule) (now next : List VarValueAndBoundLits) (ws xs : List ℕ) (k : ℕ) (a : List Bool) (n : ℕ) →
-    length a ≡ n → Reads a now (ranges_of now) ws → Reads a next (ranges_of now) xs →
-    has_lits_within_vars n now ≡ true → has_lits_within_vars n next ≡ true → ranges_of next ≡ ranges_of now → 0 < k →
-    k + length rs ≤ n + 1 → list_all (rule_valid (ranges_of now)) rs ≡ true →
+    length a ≡ n → Reads a now (ranges_of_copy_lits now) ws → Reads a next (ranges_of_copy_lits now) xs →
+    has_lits_within_vars n now ≡ true → has_lits_within_vars n next ≡ true → ranges_of_copy_lits next ≡ ranges_of_copy_lits now → 0 < k →
+    k + length rs ≤ n + 1 → list_all (rule_valid (ranges_of_copy_lits now)) rs ≡ true →
     ExtensionsAreExactly a (rules_part now next k rs n).vars (rules_part now next k rs n).clauses
     (PassesAndEqualsGivenValues (all_met a k ws xs rs) (rules_bits now k rs a))
 rules-law [] now next ws xs k a n size rn rx hn hx same_ranges low high valid = no_more_if a n [] true size refl
 rules-law (r ∷ rs) now next ws xs k a n size rn rx hn hx same_ranges low high valid =
-    let parts = and_parts (rule_valid (ranges_of now) r) (list_all (rule_valid (ranges_of now)) rs) valid in
+    let parts = and_parts (rule_valid (ranges_of_copy_lits now) r) (list_all (rule_valid (ranges_of_copy_lits now)) rs) valid in
     let p = rule_unless_skipped_part now next (positive_lit k) r n in
     let m = p.vars in
     let e = some_lit_or_form_bits now (positive_lit k ∷ []) r.guard a in
@@ -186,8 +186,8 @@ rules-law (r ∷ rs) now next ws xs k a n size rn rx hn hx same_ranges low high 
     (λ (b : Bool). ExtensionsAreExactly (a ++ e) rest.vars rest.clauses (PassesAndEqualsGivenValues b (rules_bits now (k + 1) rs (a ++ e))))
     old
     (rules-law rs now next ws xs (k + 1) (a ++ e) m long
-    (reads-more a e now (ranges_of now) ws (longer a e) rn)
-    (reads-more a e next (ranges_of now) xs (longer a e) rx) now_in next_in same_ranges more fits
+    (reads-more a e now (ranges_of_copy_lits now) ws (longer a e) rn)
+    (reads-more a e next (ranges_of_copy_lits now) xs (longer a e) rx) now_in next_in same_ranges more fits
     parts.1) in
     then-law a e (rules_bits now (k + 1) rs (a ++ e)) (value a k || rule_met ws xs r)
     (all_met a (k + 1) ws xs rs) n p (rules_part now next (k + 1) rs) size one

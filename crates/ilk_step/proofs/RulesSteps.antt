@@ -12,7 +12,7 @@ use Rattle.ilk_ir.specs.declared.system.Rule.{Rule}
 use Rattle.ilk_ir.specs.declared.system.Setting.{Setting}
 use Rattle.ilk_forms.specs.declared.copy.VarValueAndBoundLits.{VarValueAndBoundLits}
 use Rattle.ilk_forms.specs.Demand.{some_lit_or_form_part}
-use Rattle.ilk_forms.specs.Leaf.{has_lits_within_vars, ranges_of}
+use Rattle.ilk_forms.specs.Leaf.{has_lits_within_vars, ranges_of_copy_lits}
 use Rattle.ilk_forms.proofs.Reading.{has_lits_within_vars-more}
 use Rattle.ilk_step.specs.Choice.{choice_part}
 use Rattle.ilk_step.specs.Rules.{settings_unless_skipped_part, rule_unless_skipped_part, rules_part}
@@ -79,8 +79,8 @@ choice_room f g rs made = let vars = ap (λ (u : Formula). u.vars) made in let l
 pub rules_room : (f g h : Formula) (rs : List PlainRule) (now next : List VarValueAndBoundLits) →
     g ≡ with_part f (choice_part (length rs) f.vars) →
     h ≡ with_part g (rules_part now next (f.vars + 1) rs g.vars) → has_lits_within_vars f.vars now ≡ true →
-    has_lits_within_vars f.vars next ≡ true → ranges_of next ≡ ranges_of now →
-    list_all (rule_valid (ranges_of now)) rs ≡ true → g.vars ≤ h.vars
+    has_lits_within_vars f.vars next ≡ true → ranges_of_copy_lits next ≡ ranges_of_copy_lits now →
+    list_all (rule_valid (ranges_of_copy_lits now)) rs ≡ true → g.vars ≤ h.vars
 rules_room f g h rs now next choice asked hn hx same valid =
     let room = choice_room f g rs choice in
     let more : f.vars ≤ g.vars = omega arith in

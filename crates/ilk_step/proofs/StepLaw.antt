@@ -19,7 +19,7 @@ use Rattle.ilk_ints.proofs.OneOfLaw.{map-left}
 use Rattle.ilk_ir.specs.System.{PlainRule, rule_valid, after_rule, in_ranges}
 use Rattle.ilk_forms.specs.declared.copy.VarValueAndBoundLits.{VarValueAndBoundLits}
 use Rattle.ilk_forms.specs.Copy.{LiteralsEncode}
-use Rattle.ilk_forms.specs.Leaf.{has_lits_within_vars, ranges_of}
+use Rattle.ilk_forms.specs.Leaf.{has_lits_within_vars, ranges_of_copy_lits}
 use Rattle.ilk_forms.proofs.Reading.{Reads, reads, has_lits_within_vars-more}
 use Rattle.ilk_forms.proofs.DemandLaw.{PartFits}
 use Rattle.ilk_step.specs.Choice.{chosen_lits, choice_part, choice_bits, AreChoiceBits}
@@ -48,9 +48,9 @@ pub record Copies (a : List Bool) (n : ℕ) (now next : List VarValueAndBoundLit
   pub size : length a ≡ n
   pub now_in : has_lits_within_vars n now ≡ true
   pub next_in : has_lits_within_vars n next ≡ true
-  pub same : ranges_of next ≡ ranges_of now
-  pub now_say : LiteralsEncode a now (ranges_of now) ws
-  pub next_say : LiteralsEncode a next (ranges_of now) xs
+  pub same : ranges_of_copy_lits next ≡ ranges_of_copy_lits now
+  pub now_say : LiteralsEncode a now (ranges_of_copy_lits now) ws
+  pub next_say : LiteralsEncode a next (ranges_of_copy_lits now) xs
 
 copies-left : (a e : List Bool) (n m : ℕ) (now next : List VarValueAndBoundLits) (ws xs : List ℕ) → n ≤ m → length (a ++ e) ≡ m → Copies a n now next ws xs → Copies (a ++ e) m now next ws xs
 copies-left a e n m now next ws xs le size c = record {
@@ -58,8 +58,8 @@ copies-left a e n m now next ws xs le size c = record {
   now_in = has_lits_within_vars-more n m now le c.now_in;
   next_in = has_lits_within_vars-more n m next le c.next_in;
   same = c.same;
-  now_say = says-left now (ranges_of now) ws a e n c.size c.now_in c.now_say;
-  next_say = says-left next (ranges_of now) xs a e n c.size c.next_in c.next_say;
+  now_say = says-left now (ranges_of_copy_lits now) ws a e n c.size c.now_in c.now_say;
+  next_say = says-left next (ranges_of_copy_lits now) xs a e n c.size c.next_in c.next_say;
 }
 
 frame_axioms-fits : (rs : List PlainRule) (now next : List VarValueAndBoundLits) (k n : ℕ) → 0 < k → k + length rs ≤ n + 1 → has_lits_within_vars n now ≡ true → has_lits_within_vars n next ≡ true → PartFits n (frame_axioms_part rs k now next n)
@@ -72,8 +72,8 @@ abbrev pub leads : List ℕ → List ℕ → PlainRule → Bool
 leads ws xs rule = rule_met ws xs rule && kept (λ v. sets_variable v rule.sets) 0 ws xs
 
 after-fits : (rs : List PlainRule) (now next : List VarValueAndBoundLits) (k m : ℕ) → has_lits_within_vars m now ≡ true →
-    has_lits_within_vars m next ≡ true → ranges_of next ≡ ranges_of now → 0 < k → k + length rs ≤ m + 1 →
-    list_all (rule_valid (ranges_of now)) rs ≡ true → PartFits m (after_choice rs now next k m)
+    has_lits_within_vars m next ≡ true → ranges_of_copy_lits next ≡ ranges_of_copy_lits now → 0 < k → k + length rs ≤ m + 1 →
+    list_all (rule_valid (ranges_of_copy_lits now)) rs ≡ true → PartFits m (after_choice rs now next k m)
 after-fits rs now next k m hn hx same low high valid =
     let p = rules_part now next k rs m in
     let one = rules-fits rs now next k m hn hx same low high valid in
@@ -85,8 +85,8 @@ after-law :
     (rs : List PlainRule) (now next : List VarValueAndBoundLits) (ws xs : List ℕ) (a : List Bool) (k m r : ℕ)
     (rule : PlainRule) →
     Copies a m now next ws xs → 0 < k → k + length rs ≤ m + 1 →
-    list_all (rule_valid (ranges_of now)) rs ≡ true → in_ranges ws (ranges_of now) ≡ true →
-    in_ranges xs (ranges_of now) ≡ true →
+    list_all (rule_valid (ranges_of_copy_lits now)) rs ≡ true → in_ranges ws (ranges_of_copy_lits now) ≡ true →
+    in_ranges xs (ranges_of_copy_lits now) ≡ true →
     map (is_true a) (chosen_lits k (length rs)) ≡ one_hot_bits r 0 (length rs) → slice_get rs r ≡ Some rule →
     ExtensionsAreExactly a (after_choice rs now next k m).vars (after_choice rs now next k m).clauses
     (PassesAndEqualsGivenValues (leads ws xs rule) (rules_bits now k rs a))
@@ -98,8 +98,8 @@ after-law rs now next ws xs a k m r rule c low high valid hw hx chosen at =
     let one = rules-fits rs now next k m c.now_in c.next_in c.same low high valid in
     let grows = one.low in
     let fits : k + length rs ≤ p.vars + 1 = omega arith in
-    let rn : Reads a now (ranges_of now) ws = reads a now (ranges_of now) ws m c.size c.now_in c.now_say hw in
-    let rx : Reads a next (ranges_of now) xs = reads a next (ranges_of now) xs m c.size c.next_in c.next_say hx in
+    let rn : Reads a now (ranges_of_copy_lits now) ws = reads a now (ranges_of_copy_lits now) ws m c.size c.now_in c.now_say hw in
+    let rx : Reads a next (ranges_of_copy_lits now) xs = reads a next (ranges_of_copy_lits now) xs m c.size c.next_in c.next_say hx in
     let place : r ≡ 0 + r = omega arith in
     let here : map (is_true a) (chosen_lits k (length rs)) ≡ one_hot_bits (0 + r) 0 (length rs) = chosen ∙ ap (λ (i : ℕ). one_hot_bits i 0 (length rs)) place in
     let first : ExtensionsAreExactly a p.vars p.clauses (PassesAndEqualsGivenValues met e) = subst
@@ -110,10 +110,10 @@ after-law rs now next ws xs a k m r rule c low high valid hw hx chosen at =
     let inside : is_clause_over m (chosen_lits k (length rs)) ≡ true = chosen_lits-in (length rs) k m low high in
     let size = c.size in
     let still : map (is_true (a ++ e)) (chosen_lits k (length rs)) ≡ one_hot_bits (0 + r) 0 (length rs) = map-left a e (chosen_lits k (length rs)) (rw size inside) ∙ here in
-    let now_long : length now ≡ length (ranges_of now) = sym (length-map now (λ (column : VarValueAndBoundLits). length column.values)) in
-    let next_long : length next ≡ length (ranges_of now) = sym (length-map next (λ (column : VarValueAndBoundLits). length column.values)) ∙ ap length c.same in
+    let now_long : length now ≡ length (ranges_of_copy_lits now) = sym (length-map now (λ (column : VarValueAndBoundLits). length column.values)) in
+    let next_long : length next ≡ length (ranges_of_copy_lits now) = sym (length-map next (λ (column : VarValueAndBoundLits). length column.values)) ∙ ap length c.same in
     let says : satisfies (a ++ e) (frame_axioms rs k 0 now next) ≡ keeps =
-    frame_axioms-say now next (ranges_of now) ws xs (a ++ e) rs k 0 now_long next_long hw hx d.now_say
+    frame_axioms-say now next (ranges_of_copy_lits now) ws xs (a ++ e) rs k 0 now_long next_long hw hx d.now_say
     d.next_say
     ∙ kept-congr (λ u. is_clause_true (a ++ e) (setter_lits u k rs)) (λ u. sets_variable u rule.sets) 0 ws xs
     (λ u. setter_lits-say rs (a ++ e) u k r 0 rule still at) in
@@ -123,8 +123,8 @@ after-law rs now next ws xs a k m r rule c low high valid hw hx chosen at =
     subst (λ (d : List Bool). ExtensionsAreExactly a p.vars (p.clauses ++ frame_axioms rs k 0 now next) (PassesAndEqualsGivenValues (met && keeps) d)) (append-nil e) both
 
 pub step-fits : (rules : List PlainRule) (now next : List VarValueAndBoundLits) (n : ℕ) → has_lits_within_vars n now ≡ true →
-    has_lits_within_vars n next ≡ true → ranges_of next ≡ ranges_of now →
-    list_all (rule_valid (ranges_of now)) rules ≡ true → PartFits n (step_part rules now next n)
+    has_lits_within_vars n next ≡ true → ranges_of_copy_lits next ≡ ranges_of_copy_lits now →
+    list_all (rule_valid (ranges_of_copy_lits now)) rules ≡ true → PartFits n (step_part rules now next n)
 step-fits rules now next n hn hx same valid =
     let count = length rules in
     let p = choice_part count n in
@@ -135,8 +135,8 @@ step-fits rules now next n hn hx same valid =
     (after-fits rules now next (n + 1) p.vars (has_lits_within_vars-more n p.vars now more hn) (has_lits_within_vars-more n p.vars next more hx) same (omega arith) (omega (arith, grows)) valid)
 
 pub step-law : (rules : List PlainRule) (now next : List VarValueAndBoundLits) (ws xs : List ℕ) (a : List Bool) (n : ℕ) →
-    Copies a n now next ws xs → list_all (rule_valid (ranges_of now)) rules ≡ true →
-    in_ranges ws (ranges_of now) ≡ true → in_ranges xs (ranges_of now) ≡ true →
+    Copies a n now next ws xs → list_all (rule_valid (ranges_of_copy_lits now)) rules ≡ true →
+    in_ranges ws (ranges_of_copy_lits now) ≡ true → in_ranges xs (ranges_of_copy_lits now) ≡ true →
     ExtensionsAreExactly a (step_part rules now next n).vars (step_part rules now next n).clauses
     (AreStepBits now rules a ws xs)
 step-law rules now next ws xs a n c valid hw hx =
@@ -184,7 +184,7 @@ step-law rules now next ws xs a n c valid hw hx =
         let r = h.3.0 in
         let item = item_at rules r h.3.1 in
         let parts = and_parts (rule_met ws xs item.0) (kept (λ v. sets_variable v item.0.sets) 0 ws xs) h.4.0 in
-        let fires : after_rule item.0 ws ≡ Some xs = met-after_rule item.0 ws xs (ranges_of now) hw hx parts.0 parts.1 in
+        let fires : after_rule item.0 ws ≡ Some xs = met-after_rule item.0 ws xs (ranges_of_copy_lits now) hw hx parts.0 parts.1 in
         (r, ap (λ (o : Option PlainRule). option_and_then (λ rule. after_rule rule ws) o) item.1 ∙ fires, h.2 ∙ ap (λ (u : List Bool). h.0 ++ u) h.4.1 ∙ ap (λ (u : List Bool). u ++ rules_bits now (n + 1) rules (a ++ u)) h.3.2 ∙ sym (rules_at r))
 
     from : (d : List Bool) → AreStepBits now rules a ws xs d → AreValuesOfConsecutiveParts (AreChoiceBits count) after d
@@ -197,7 +197,7 @@ step-law rules now next ws xs a n c valid hw hx =
             let item = item_at rules h.0 less in
             let same : rule ≡ item.0 = same_Some rule item.0 (sym is ∙ item.1) in
             let fires_too : after_rule item.0 ws ≡ Some xs = ap (λ (u : PlainRule). after_rule u ws) (sym same) ∙ fires in
-            let both = after_rule-met item.0 ws xs (ranges_of now) hw (list_all-slice_get (rule_valid (ranges_of now)) rules h.0 item.0 valid item.1) fires_too in
+            let both = after_rule-met item.0 ws xs (ranges_of_copy_lits now) hw (list_all-slice_get (rule_valid (ranges_of_copy_lits now)) rules h.0 item.0 valid item.1) fires_too in
             (choice_bits count h.0, rules_bits now (n + 1) rules (a ++ choice_bits count h.0), h.2 ∙ rules_at h.0, (h.0, less, refl), (and_from _ _ both.0 both.1, refl))
 
 pub step-says : (now : List VarValueAndBoundLits) (rules : List PlainRule) (a c : List Bool) (n r : ℕ) → length a ≡ n → map (is_true (a ++ (step_bits now rules a r ++ c))) (chosen_lits (n + 1) (length rules)) ≡ one_hot_bits r 0 (length rules)

@@ -2,7 +2,7 @@ ghost use Rattle.std.specs.Prelude.{◌≡◌, ◌+◌, ◌≤◌, ◌<◌, ◌^
 ghost use Rattle.ilk_cnf.specs.Formula.{with_var_count_and_clauses, clause_unless_tautology, is_clause_over};
 ghost use Rattle.ilk_cnf.specs.Part.{with_part, clauses_from_lists};
 ghost use Rattle.ilk_ir.specs.System.{plain_rule};
-ghost use Rattle.ilk_forms.specs.Leaf.{has_lits_within_vars, ranges_of};
+ghost use Rattle.ilk_forms.specs.Leaf.{has_lits_within_vars, ranges_of_copy_lits};
 ghost use Rattle.ilk_step.specs.Frame.{sets_variable, setter_lits, equal_unless_any_true, value_lits_to_carry_over, frame_axiom, frame_axioms_part};
 
 use ilk_cnf::{Cnf, Lit, Lits};
@@ -131,7 +131,7 @@ pub(crate) fn add_frame_axioms(
 ) -> Result<(), AllocError>
     requires now { IsTrue (has_lits_within_vars cnf.old.vars now.now) }
     requires next { IsTrue (has_lits_within_vars cnf.old.vars next.now) }
-    requires same { ranges_of next.now ≡ ranges_of now.now }
+    requires same { ranges_of_copy_lits next.now ≡ ranges_of_copy_lits now.now }
     requires from_1 { 0 < first }
     requires numbered { first + length rules.now ≤ cnf.old.vars + 1 }
     ensures { OnOk result

@@ -5,7 +5,7 @@ ghost use Rattle.ilk_cnf.specs.Part.{with_part};
 ghost use Rattle.ilk_ir.specs.System.{plain_rule, rule_valid};
 ghost use Rattle.ilk_ir.specs.Form.{tree_of};
 ghost use Rattle.ilk_ir.specs.Tree.{is, value_valid};
-ghost use Rattle.ilk_forms.specs.Leaf.{has_lits_within_vars, ranges_of};
+ghost use Rattle.ilk_forms.specs.Leaf.{has_lits_within_vars, ranges_of_copy_lits};
 ghost use Rattle.ilk_step.specs.Rules.{settings_unless_skipped_part, rule_unless_skipped_part, rules_part};
 
 use ilk_cnf::{Cnf, Lit};
@@ -29,7 +29,7 @@ fn add_settings(
     requires next { IsTrue (has_lits_within_vars cnf.old.vars next.now) }
     requires skip { IsTrue (is_clause_over cnf.old.vars (skip ∷ [])) }
     requires valid { IsTrue
-        (list_all (λ s. value_valid (ranges_of next.now) s.var s.value) sets.now) }
+        (list_all (λ s. value_valid (ranges_of_copy_lits next.now) s.var s.value) sets.now) }
     ensures { OnOk result
         (cnf.new ≡ with_part cnf.old (settings_unless_skipped_part next.now skip sets.now
         cnf.old.vars)) }
@@ -50,9 +50,9 @@ fn add_rule(
 ) -> Result<(), AllocError>
     requires now { IsTrue (has_lits_within_vars cnf.old.vars now.now) }
     requires next { IsTrue (has_lits_within_vars cnf.old.vars next.now) }
-    requires same { ranges_of next.now ≡ ranges_of now.now }
+    requires same { ranges_of_copy_lits next.now ≡ ranges_of_copy_lits now.now }
     requires skip { IsTrue (is_clause_over cnf.old.vars (skip ∷ [])) }
-    requires valid { IsTrue (rule_valid (ranges_of now.now) (plain_rule rule.now)) }
+    requires valid { IsTrue (rule_valid (ranges_of_copy_lits now.now) (plain_rule rule.now)) }
     ensures { OnOk result
         (cnf.new
         ≡ with_part cnf.old
@@ -76,10 +76,11 @@ pub(crate) fn add_rules(
 ) -> Result<(), AllocError>
     requires now { IsTrue (has_lits_within_vars cnf.old.vars now.now) }
     requires next { IsTrue (has_lits_within_vars cnf.old.vars next.now) }
-    requires same { ranges_of next.now ≡ ranges_of now.now }
+    requires same { ranges_of_copy_lits next.now ≡ ranges_of_copy_lits now.now }
     requires from_1 { 0 < first }
     requires numbered { first + length rules.now ≤ cnf.old.vars + 1 }
-    requires valid { IsTrue (list_all (rule_valid (ranges_of now.now)) (map plain_rule rules.now)) }
+    requires valid { IsTrue
+        (list_all (rule_valid (ranges_of_copy_lits now.now)) (map plain_rule rules.now)) }
     ensures { OnOk result
         (cnf.new
         ≡ with_part cnf.old

@@ -4,7 +4,7 @@ ghost use Rattle.ilk_cnf.specs.Extends.{PartExtensionsAreExactly};
 ghost use Rattle.ilk_cnf.specs.Part.{with_part};
 ghost use Rattle.ilk_ir.specs.System.{plain_rule, rule_valid, in_ranges};
 ghost use Rattle.ilk_forms.specs.Copy.{LiteralsEncode};
-ghost use Rattle.ilk_forms.specs.Leaf.{has_lits_within_vars, ranges_of};
+ghost use Rattle.ilk_forms.specs.Leaf.{has_lits_within_vars, ranges_of_copy_lits};
 ghost use Rattle.ilk_step.specs.Choice.{Chooses};
 ghost use Rattle.ilk_step.specs.Size.{total_guard_tree_size, settings_count, value_and_bound_lits_count};
 ghost use Rattle.ilk_step.specs.Step.{step_part, step_bits, values_after_rule_number, AreStepBits};
@@ -31,9 +31,10 @@ pub fn add_step(
 ) -> Result<Choice, AllocError>
     requires now { IsTrue (has_lits_within_vars cnf.old.vars now.now) }
     requires next { IsTrue (has_lits_within_vars cnf.old.vars next.now) }
-    requires same { ranges_of next.now ≡ ranges_of now.now }
+    requires same { ranges_of_copy_lits next.now ≡ ranges_of_copy_lits now.now }
     requires few { length rules.now < 2 ^ 32 }
-    requires valid { IsTrue (list_all (rule_valid (ranges_of now.now)) (map plain_rule rules.now)) }
+    requires valid { IsTrue
+        (list_all (rule_valid (ranges_of_copy_lits now.now)) (map plain_rule rules.now)) }
     ensures choice { IfOk result
         (λ choice. choice ≡ record { first = cnf.old.vars + 1; rules = length rules.now }) }
     ensures made { OnOk result
@@ -45,10 +46,10 @@ pub fn add_step(
     // that leads from `ws` to `xs`.
     ensures law { OnOk result
         ((a : List Bool) (ws xs : List ℕ) → length a ≡ cnf.old.vars →
-        LiteralsEncode a now.now (ranges_of now.now) ws →
-        LiteralsEncode a next.now (ranges_of now.now) xs →
-        IsTrue (in_ranges ws (ranges_of now.now)) →
-        IsTrue (in_ranges xs (ranges_of now.now)) →
+        LiteralsEncode a now.now (ranges_of_copy_lits now.now) ws →
+        LiteralsEncode a next.now (ranges_of_copy_lits now.now) xs →
+        IsTrue (in_ranges ws (ranges_of_copy_lits now.now)) →
+        IsTrue (in_ranges xs (ranges_of_copy_lits now.now)) →
         PartExtensionsAreExactly a
         (step_part (map plain_rule rules.now) now.now next.now cnf.old.vars)
         (AreStepBits now.now (map plain_rule rules.now) a ws xs)) }

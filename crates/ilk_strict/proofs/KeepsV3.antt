@@ -21,7 +21,7 @@ use Rattle.ilk_routes.proofs.Shape.{beside-known}
 use Rattle.ilk_routes.specs.Claims.{sections_outside_path}
 use Rattle.ilk_routes.specs.Locks.{with_locks}
 use Rattle.ilk_routes.specs.Modes.{same_mode}
-use Rattle.ilk_model.specs.Families.{meets_v3_locks_match_routes, path_section_lock}
+use Rattle.ilk_model.specs.Families.{meets_v3_locks_match_routes, required_path_section_lock}
 use Rattle.ilk_model.specs.Holding.{holds_section, is_holding_state}
 use Rattle.ilk_strict.proofs.After.{after-cases, before-change, given-lock, other-lock, same-here, v3-reads}
 use Rattle.ilk_model.proofs.Alike.{one_mode}
@@ -35,7 +35,7 @@ use Rattle.ilk_strict.proofs.Table.{beside-locked_for, locked_for-cases, path-ap
 use Rattle.ilk_strict.proofs.TrainFacts.{Keeps}
 
 pub record HasItsLocks (t : State) (route : Route) (new : RouteState) : Type 0 where
-  pub on_path : (i x : ℕ) → new.rel ≤ i → slice_get route.path i ≡ Some x → slice_get t.locks x ≡ Some (path_section_lock new i)
+  pub on_path : (i x : ℕ) → new.rel ≤ i → slice_get route.path i ≡ Some x → slice_get t.locks x ≡ Some (required_path_section_lock new i)
   pub beside : (x : ℕ) → contains_section x (sections_outside_path route) ≡ true → slice_get t.locks x ≡ Some LockedLock
 
 module _ (p : PlantLists) (plant : IsPlant p) (s t : State) (keeps : Keeps p s) (shape : HasShape p t) (n : ℕ) where
@@ -49,7 +49,7 @@ module _ (p : PlantLists) (plant : IsPlant p) (s t : State) (keeps : Keeps p s) 
         | inl here ↦ same-here
             (λ u v. is_holding_state v ≡ true →
             ((i x : ℕ) → v.rel ≤ i → slice_get u.path i ≡ Some x →
-            slice_get t.locks x ≡ Some (path_section_lock v i)) ×
+            slice_get t.locks x ≡ Some (required_path_section_lock v i)) ×
             ((x : ℕ) → contains_section x (sections_outside_path u) ≡ true →
             slice_get t.locks x ≡ Some LockedLock)) one route its new here.1 here.2
             (λ h. let all = mine h in (all.on_path, all.beside)) holds
@@ -93,7 +93,7 @@ module _ (p : PlantLists) (plant : IsPlant p) (s t : State) (keeps : Keeps p s) 
           let count = keeps.shape.locks in
           ap (λ (l : List Hold). slice_get l x) it.locks ∙ given-lock s.locks (sections_locked_for it.route) LockedLock x among (omega (arith, count, within))
 
-      unseen : (i : ℕ) → path_section_lock new i ≡ LockedLock
+      unseen : (i : ℕ) → required_path_section_lock new i ≡ LockedLock
       unseen i =
           let counts = idle p s keeps.v1 n it.route it.now (before-change p s t n it.route it.now new it.changes) (rw it.was refl) in
           none_seen it.now.seen counts.0
@@ -148,7 +148,7 @@ module _ (p : PlantLists) (plant : IsPlant p) (s t : State) (keeps : Keeps p s) 
       seen-here : (i seen : ℕ) → i ≡ seen → UsedLock ≡ (if nat_lt i (seen + 1) then UsedLock else LockedLock)
       seen-here i seen same = let less : nat_lt i (seen + 1) ≡ true = grind (arith, nat_tests) in rw less refl
 
-      on_path : (i y : ℕ) → new.rel ≤ i → slice_get it.route.path i ≡ Some y → slice_get t.locks y ≡ Some (path_section_lock new i)
+      on_path : (i y : ℕ) → new.rel ≤ i → slice_get it.route.path i ≡ Some y → slice_get t.locks y ≡ Some (required_path_section_lock new i)
       on_path i y least at = elim (cases_eq i it.now.seen) [
         | inl here ↦
             (let same : y ≡ it.x = same_Some y it.x (sym at ∙ ap (slice_get it.route.path) here ∙ it.next) in

@@ -19,7 +19,7 @@ use Rattle.ilk_plant.specs.declared.table.Route.{Route}
 use Rattle.ilk_plant.proofs.InLists.{section-at, section-from}
 use Rattle.ilk_routes.specs.Claims.{sections_outside_path}
 use Rattle.ilk_routes.specs.Modes.{same_mode}
-use Rattle.ilk_model.specs.Families.{has_required_locks, meets_v1_consistent_counts, meets_v2_sections_held_once, meets_v3_locks_match_routes, meets_v4_allocating_paths_vacant, path_section_lock}
+use Rattle.ilk_model.specs.Families.{has_required_locks, meets_v1_consistent_counts, meets_v2_sections_held_once, meets_v3_locks_match_routes, meets_v4_allocating_paths_vacant, required_path_section_lock}
 use Rattle.ilk_model.specs.Holding.{all_path_indices_pass_test, holds_section, is_holding_state, is_unreleased_on_path, is_locked_or_occupied, is_vacant, route_holds}
 use Rattle.ilk_model.proofs.Alike.{one_mode}
 use Rattle.ilk_strict.proofs.Reading.{RouteIn, is_true_for_all_below-at, is_true_for_all_below-from, all_path_indices_pass_test-at, all_path_indices_pass_test-from, all_routes_pass_test-at, all_routes_pass_test-from, has_lock_state-at, has_lock_state-from, kept-at, kept-from, passes-at, passes-from}
@@ -154,15 +154,15 @@ module _ (p : PlantLists) (s : State) where
       ]
 
   pub lock-path : meets_v3_locks_match_routes p s ≡ true → (r : ℕ) (route : Route) (now : RouteState) → RouteIn p s r route now → is_holding_state now ≡ true → (i x : ℕ) → now.rel ≤ i → slice_get route.path i ≡ Some x
-      → slice_get s.locks x ≡ Some (path_section_lock now i)
+      → slice_get s.locks x ≡ Some (required_path_section_lock now i)
   lock-path kept r route now it holds i x least at =
       let locks : has_required_locks s route now
       ≡ true = if-passes (is_holding_state now) (has_required_locks s route now) (all_routes_pass_test-at p s (λ route now. if is_holding_state now then has_required_locks s route now else true) kept r route now it)
       holds in
-      let places = (and_parts (all_path_indices_pass_test route (λ i x. not (nat_le now.rel i) || has_lock_state s x (path_section_lock now i))) (list_all (λ x. has_lock_state s x LockedLock) (sections_outside_path route)) locks).0 in
+      let places = (and_parts (all_path_indices_pass_test route (λ i x. not (nat_le now.rel i) || has_lock_state s x (required_path_section_lock now i))) (list_all (λ x. has_lock_state s x LockedLock) (sections_outside_path route)) locks).0 in
       let test : nat_le now.rel i ≡ true = grind (arith, nat_tests) in
-      has_lock_state-at s x (path_section_lock now i)
-      (counted (nat_le now.rel i) (has_lock_state s x (path_section_lock now i)) test (all_path_indices_pass_test-at route (λ i x. not (nat_le now.rel i) || has_lock_state s x (path_section_lock now i)) places i x at))
+      has_lock_state-at s x (required_path_section_lock now i)
+      (counted (nat_le now.rel i) (has_lock_state s x (required_path_section_lock now i)) test (all_path_indices_pass_test-at route (λ i x. not (nat_le now.rel i) || has_lock_state s x (required_path_section_lock now i)) places i x at))
     where
       counted : (a b : Bool) → a ≡ true → (not a || b) ≡ true → b ≡ true
       counted a b e h = rw e at h
@@ -173,14 +173,14 @@ module _ (p : PlantLists) (s : State) where
       let locks : has_required_locks s route now
       ≡ true = if-passes (is_holding_state now) (has_required_locks s route now) (all_routes_pass_test-at p s (λ route now. if is_holding_state now then has_required_locks s route now else true) kept r route now it)
       holds in
-      let others = (and_parts (all_path_indices_pass_test route (λ i x. not (nat_le now.rel i) || has_lock_state s x (path_section_lock now i))) (list_all (λ x. has_lock_state s x LockedLock) (sections_outside_path route)) locks).1 in
+      let others = (and_parts (all_path_indices_pass_test route (λ i x. not (nat_le now.rel i) || has_lock_state s x (required_path_section_lock now i))) (list_all (λ x. has_lock_state s x LockedLock) (sections_outside_path route)) locks).1 in
       let found = section-at x (sections_outside_path route) beside in
       has_lock_state-at s x LockedLock (list_all-slice_get (λ x. has_lock_state s x LockedLock) (sections_outside_path route) found.0 x others found.1)
 
   pub locks-from : length s.routes ≡ length p.routes →
       ((r : ℕ) (route : Route) (now : RouteState) → RouteIn p s r route now → is_holding_state now ≡ true →
       ((i x : ℕ) → now.rel ≤ i → slice_get route.path i ≡ Some x →
-      slice_get s.locks x ≡ Some (path_section_lock now i)) ×
+      slice_get s.locks x ≡ Some (required_path_section_lock now i)) ×
       ((x : ℕ) → contains_section x (sections_outside_path route) ≡ true →
       slice_get s.locks x ≡ Some LockedLock)) →
       meets_v3_locks_match_routes p s ≡ true
@@ -188,9 +188,9 @@ module _ (p : PlantLists) (s : State) where
       all_routes_pass_test-from p s (λ route now. if is_holding_state now then has_required_locks s route now else true) count (λ r route now it.
       passes-if (is_holding_state now) (has_required_locks s route now) (λ holds.
       let both = each r route now it holds in
-      and_from (all_path_indices_pass_test route (λ i x. not (nat_le now.rel i) || has_lock_state s x (path_section_lock now i))) (list_all (λ x. has_lock_state s x LockedLock) (sections_outside_path route))
-      (all_path_indices_pass_test-from route (λ i x. not (nat_le now.rel i) || has_lock_state s x (path_section_lock now i))
-      (λ i x at. at_place now.rel i (has_lock_state s x (path_section_lock now i)) (λ least. has_lock_state-from s x (path_section_lock now i) (both.0 i x least at))))
+      and_from (all_path_indices_pass_test route (λ i x. not (nat_le now.rel i) || has_lock_state s x (required_path_section_lock now i))) (list_all (λ x. has_lock_state s x LockedLock) (sections_outside_path route))
+      (all_path_indices_pass_test-from route (λ i x. not (nat_le now.rel i) || has_lock_state s x (required_path_section_lock now i))
+      (λ i x at. at_place now.rel i (has_lock_state s x (required_path_section_lock now i)) (λ least. has_lock_state-from s x (required_path_section_lock now i) (both.0 i x least at))))
       (all-pass (λ x. has_lock_state s x LockedLock) (sections_outside_path route) (λ k x at. has_lock_state-from s x LockedLock (both.1 x (section-from (sections_outside_path route) k x at))))))
     where
       at_place : (rel i : ℕ) (b : Bool) → (rel ≤ i → b ≡ true) → (not (nat_le rel i) || b) ≡ true

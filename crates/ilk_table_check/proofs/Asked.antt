@@ -13,7 +13,7 @@ use Rattle.ilk_plant.specs.Plant.{PlantLists}
 use Rattle.ilk_plant.specs.declared.broken.Broken.{Broken}
 use Rattle.ilk_plant.specs.declared.broken.Rule.{Rule}
 use Rattle.ilk_plant.specs.declared.table.Route.{Route}
-use Rattle.ilk_table_check.specs.Columns.{listed_conflict_matrix, does_not_list_all_later_routes, has_other_route_not_listed, listed_conflict_flags, listed_conflict_flag_or_false, broken_pairs_with_first}
+use Rattle.ilk_table_check.specs.Columns.{listed_conflict_matrix, does_not_list_all_later_routes, has_other_route_not_listed, listed_conflict_flags, listed_conflict_flag_or_false, broken_pairs_for_fixed_first}
 use Rattle.ilk_table_check.proofs.Flagged.{lists_as_conflict-flagged, row-flagged}
 
 none_pass : (test : ℕ → Bool) (a n : ℕ) → ((j : ℕ) → j < a + n → test j ≡ false) → filter test (range_with_len a n) ≡ []
@@ -21,7 +21,7 @@ none_pass test a zero none = refl
 none_pass test a (suc n) none =
     rw (none a (omega arith)) (none_pass test (a + 1) n (λ j below. none j (omega (arith, below))))
 
-pub adds_none : (rule : Rule) (n i : ℕ) (test : ℕ → Bool) (found : List Broken) → ((j : ℕ) → j < n → test j ≡ false) → found ≡ found ++ broken_pairs_with_first rule n i test
+pub adds_none : (rule : Rule) (n i : ℕ) (test : ℕ → Bool) (found : List Broken) → ((j : ℕ) → j < n → test j ≡ false) → found ≡ found ++ broken_pairs_for_fixed_first rule n i test
 adds_none rule n i test found none =
     rw (none_pass test 0 n (λ j below. none j (omega (arith, below)))) (sym (append-nil found))
 

@@ -12,8 +12,8 @@ use Rattle.ilk_plant.specs.declared.broken.Rule.{Rule}
 
 -- Returns `rule`, with location `i` and `j`, for each `j` below `n` that passes the test
 -- `is_broken`.
-abbrev pub broken_pairs_with_first : Rule → ℕ → ℕ → (ℕ → Bool) → List Broken
-broken_pairs_with_first rule n i is_broken =
+abbrev pub broken_pairs_for_fixed_first : Rule → ℕ → ℕ → (ℕ → Bool) → List Broken
+broken_pairs_for_fixed_first rule n i is_broken =
     map (λ j. record { rule = rule; first = i; second = Some j }) (filter is_broken (range_with_len 0 n))
 
 -- Returns, for each route, whether route `i` lists it as a conflict.

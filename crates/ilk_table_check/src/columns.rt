@@ -3,7 +3,7 @@ ghost use Rattle.ilk_plant.specs.Broken.{broken_below, broken_at_pairs, place_ki
 ghost use Rattle.ilk_plant.specs.TableRules.{place_count_in_plant};
 ghost use Rattle.ilk_plant.specs.ColumnRules.{breaks_column_rule_at, breaks_column_rule_at_pair, broken_for_column_rule, column_rules_broken, is_border_without_board};
 ghost use Rattle.ilk_plant.specs.declared.broken.Rule.TheVariants.{C7};
-ghost use Rattle.ilk_table_check.specs.Columns.{listed_conflict_matrix, broken_pairs_with_first};
+ghost use Rattle.ilk_table_check.specs.Columns.{listed_conflict_matrix, broken_pairs_for_fixed_first};
 
 use crate::asking::may_break_with_first_route;
 use crate::conflicts::listed_conflict_matrix;
@@ -90,7 +90,7 @@ fn push_pairs_of(
     ensures { OnOk result
         (found.new
         ≡ found.old
-        ++ broken_pairs_with_first rule (length plant.now.routes) i
+        ++ broken_pairs_for_fixed_first rule (length plant.now.routes) i
         (breaks_column_rule_at_pair plant.now rule i)) }
 {
     if !may_break_with_first_route(plant, listed, rule, i) {

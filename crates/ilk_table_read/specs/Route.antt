@@ -14,15 +14,15 @@ use Rattle.ilk_net_read.specs.Member.{has_member_count, member_as_text, member_a
 
 -- Returns the position in the member `position` of an object. Returns `None` if it has no such
 -- member or another value.
-abbrev pub required_position_member : Data → Option Position
-required_position_member d = member_as_text (codes "position") d >>= position_from_word
+abbrev pub listed_point_position : Data → Option Position
+listed_point_position d = member_as_text (codes "position") d >>= position_from_word
 
 -- Returns the value as a point with its required position. Returns `None` if it isn't an object of
 -- exactly these two.
 abbrev pub as_listed_point : Data → Option ListedDraft
 as_listed_point d = do
   point ← member_as_text (codes "point") d
-  position ← required_position_member d
+  position ← listed_point_position d
   then_some (has_member_count 2 d) (record { point = point; at = position })
 
 -- Returns the member `name`, if it is an array of points with required positions. Otherwise returns

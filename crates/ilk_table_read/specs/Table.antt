@@ -10,7 +10,7 @@ use Rattle.ilk_net_read.specs.declared.fault.Form.TheVariants.{F3, F5, F6}
 use Rattle.ilk_net_read.specs.declared.fault.FormFault.{FormFault}
 use Rattle.ilk_net_read.specs.declared.fault.Place.TheVariants.{Route}
 use Rattle.ilk_net_read.specs.Fault.{rule_fault_at_place, value_if_passes, or_fault}
-use Rattle.ilk_net_read.specs.Member.{items_as_list}
+use Rattle.ilk_net_read.specs.Member.{items_to_list}
 use Rattle.ilk_net_read.specs.Network.{document_from_value, value_of, network_from_conf_value}
 use Rattle.ilk_net_read.specs.declared.version.Version.{Version}
 use Rattle.ilk_net_read.specs.Document.{VersionedDocument}
@@ -27,7 +27,7 @@ route_draft_from_value version i d = do
 -- Returns the interlocking table of a document, or the first violated rule of its routes in order.
 abbrev pub table_draft_from_document : VersionedDocument → Result TableDraft FormFault
 table_draft_from_document document = do
-  routes ← try_map_numbered (route_draft_from_value document.version) 0 (items_as_list document.routes)
+  routes ← try_map_numbered (route_draft_from_value document.version) 0 (items_to_list document.routes)
   Ok (record { routes = routes })
 
 -- Returns the interlocking table of a configuration, or the first violated rule of its document and

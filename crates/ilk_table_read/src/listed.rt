@@ -14,7 +14,7 @@ use serde_json::Value;
 use std::alloc::Global;
 
 fn position(value: &Value) -> Option<Position>
-    ensures { result ≡ route.required_position_member (view value.now) }
+    ensures { result ≡ route.listed_point_position (view value.now) }
 {
     Position::from_word(member_as_str(value, "position")?.as_bytes())
 }

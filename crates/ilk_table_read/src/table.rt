@@ -4,7 +4,7 @@ ghost use Rattle.serde_json.specs.View.{view, items_view};
 ghost use Rattle.ilk_plant.specs.Limits.{TableWithinLimits, route_within_limits, are_names_in_route_valid};
 ghost use Rattle.ilk_net_read.specs.Fault.{MatchesUnlessOutOfMemory};
 ghost use Rattle.ilk_base.specs.Result.{try_map_numbered};
-ghost use Rattle.ilk_net_read.specs.Member.{items_as_list};
+ghost use Rattle.ilk_net_read.specs.Member.{items_to_list};
 ghost use Rattle.ilk_net_read.specs.Seen.{HasAllowedCounts, document_view};
 ghost use Rattle.ilk_table_read.specs.Table.{route_draft_from_value, table_draft_from_document, table_draft_from_conf_value};
 
@@ -18,7 +18,7 @@ fn routes(alloc: Global, version: Version, values: &[Value]) -> Result<Row<Route
     requires { length values.now ≤ MAX_ROUTES }
     ensures exact { MatchesUnlessOutOfMemory result
         (try_map_numbered (route_draft_from_value version) 0
-        (items_as_list (items_view values.now))) }
+        (items_to_list (items_view values.now))) }
     ensures count { IfOk result (λ routes. length routes ≡ length values.now) }
     ensures limits { IfOk result (λ routes. list_all route_within_limits routes ≡ true) }
     ensures named { IfOk result (λ routes. list_all are_names_in_route_valid routes ≡ true) }

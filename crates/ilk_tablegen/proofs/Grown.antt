@@ -17,7 +17,7 @@ use Rattle.ilk_plant.specs.declared.limits.TheConstants.{MAX_PATH, MAX_ROUTES}
 use Rattle.ilk_plant.specs.declared.network.Board.{Board}
 use Rattle.ilk_plant.specs.declared.network.Dir.{Dir}
 use Rattle.ilk_tablegen.proofs.Rounds.{board-within}
-use Rattle.ilk_tablegen.specs.Rounds.{empty_way_per_board, ways_within_route_limit, last_section_or_start, is_finished_way, extensions_of_way_or_itself, extended_way}
+use Rattle.ilk_tablegen.specs.Rounds.{empty_way_per_board, all_ways_within_route_limit, last_section_or_start, is_finished_way, extensions_of_way_or_itself, extended_way}
 use Rattle.ilk_tablegen.specs.Ways.{all_ways, way_ends_at_section, first_board_with_overlong_way, has_unended_path_from, board_has_overlong_way, ways}
 use Rattle.ilk_tablegen.specs.declared.ways.WayFromBoard.{WayFromBoard}
 use Rattle.ilk_plant.specs.Network.{last_of}
@@ -232,7 +232,7 @@ grown-more p plant n m found next count grown after =
     let before : AreGrown p (suc m) found = subst (λ k. AreGrown p k found) count grown in
     subst (AreGrown p m) (sym after) (record { go = goes-all p m plant found before.go; whole = round-all p m found ∙ before.whole })
 
-pub too-many : (p : PlantLists) (n : ℕ) (found : List WayFromBoard) → AreGrown p n found → nat_lt MAX_ROUTES (length found) ≡ true → None ≡ ways_within_route_limit p
+pub too-many : (p : PlantLists) (n : ℕ) (found : List WayFromBoard) → AreGrown p n found → nat_lt MAX_ROUTES (length found) ≡ true → None ≡ all_ways_within_route_limit p
 too-many p n found grown tested =
     let many = below MAX_ROUTES (length found) tested in
     let fewer = no-fewer p n found grown.go in
@@ -243,7 +243,7 @@ too-many p n found grown tested =
     above : (a b : ℕ) → a < b → nat_lt a b ≡ true
     above a b less = grind (arith, nat_tests)
 
-pub few-enough : (p : PlantLists) (found : List WayFromBoard) → AreGrown p 0 found → length found ≤ MAX_ROUTES → Some found ≡ ways_within_route_limit p
+pub few-enough : (p : PlantLists) (found : List WayFromBoard) → AreGrown p 0 found → length found ≤ MAX_ROUTES → Some found ≡ all_ways_within_route_limit p
 few-enough p found grown few =
     let whole : found ≡ all_ways p = sym (all-ended p found grown.go) ∙ grown.whole in
     let same = ap length whole in

@@ -15,28 +15,28 @@ use Rattle.ilk_plant.specs.declared.network.Board.{Board}
 use Rattle.ilk_plant.specs.declared.network.Dir.{Dir}
 use Rattle.ilk_plant.specs.declared.network.Section.{Section}
 use Rattle.ilk_plant.specs.declared.limits.TheConstants.{MAX_PATH}
-use Rattle.ilk_tablegen.specs.Rounds.{unended_path_flag_per_section, has_flagged_unended_neighbour}
+use Rattle.ilk_tablegen.specs.Rounds.{has_unended_path_from_each, has_flagged_unended_neighbour}
 use Rattle.ilk_tablegen.specs.Ways.{way_ends_at_section, has_unended_path_from, board_has_overlong_way}
 
-pub one-more : (p : PlantLists) → IsPlant p → (d : Dir) (n : ℕ) → map (has_flagged_unended_neighbour p d (unended_path_flag_per_section p d n)) (range_with_len 0 (length p.sections)) ≡ unended_path_flag_per_section p d (suc n)
+pub one-more : (p : PlantLists) → IsPlant p → (d : Dir) (n : ℕ) → map (has_flagged_unended_neighbour p d (has_unended_path_from_each p d n)) (range_with_len 0 (length p.sections)) ≡ has_unended_path_from_each p d (suc n)
 one-more p plant d n =
-    map-range-congr (has_flagged_unended_neighbour p d (unended_path_flag_per_section p d n)) (has_unended_path_from p d (suc n)) 0 (length p.sections) (λ x low high. flags-tell x)
+    map-range-congr (has_flagged_unended_neighbour p d (has_unended_path_from_each p d n)) (has_unended_path_from p d (suc n)) 0 (length p.sections) (λ x low high. flags-tell x)
   where
-    flag-tells : (x i y : ℕ) → slice_get (next_to p x d) i ≡ Some y → (not (way_ends_at_section p d y) && get_or (unended_path_flag_per_section p d n) y false) ≡ (not (way_ends_at_section p d y) && has_unended_path_from p d n y)
+    flag-tells : (x i y : ℕ) → slice_get (next_to p x d) i ≡ Some y → (not (way_ends_at_section p d y) && get_or (has_unended_path_from_each p d n) y false) ≡ (not (way_ends_at_section p d y) && has_unended_path_from p d n y)
     flag-tells x i y at =
         ap (λ b. not (way_ends_at_section p d y) && b) (get_or-map-range_with_len (has_unended_path_from p d n) 0 (length p.sections) y y false (plant.neighbours x y d (contains_section-at (next_to p x d) i y at)) (omega arith))
 
-    flags-tell : (x : ℕ) → has_flagged_unended_neighbour p d (unended_path_flag_per_section p d n) x ≡ has_unended_path_from p d (suc n) x
+    flags-tell : (x : ℕ) → has_flagged_unended_neighbour p d (has_unended_path_from_each p d n) x ≡ has_unended_path_from p d (suc n) x
     flags-tell x =
-        list_any-alike (λ y. not (way_ends_at_section p d y) && get_or (unended_path_flag_per_section p d n) y false) (λ y. not (way_ends_at_section p d y) && has_unended_path_from p d n y) (next_to p x d) (flag-tells x)
+        list_any-alike (λ y. not (way_ends_at_section p d y) && get_or (has_unended_path_from_each p d n) y false) (λ y. not (way_ends_at_section p d y) && has_unended_path_from p d n y) (next_to p x d) (flag-tells x)
 
-pub round-more : (p : PlantLists) → IsPlant p → (d : Dir) (n : ℕ) (flags made : List Bool) → flags ≡ unended_path_flag_per_section p d n → made ≡ map (has_flagged_unended_neighbour p d flags) (range_with_len 0 (length p.sections)) →
-    made ≡ unended_path_flag_per_section p d (n + 1)
+pub round-more : (p : PlantLists) → IsPlant p → (d : Dir) (n : ℕ) (flags made : List Bool) → flags ≡ has_unended_path_from_each p d n → made ≡ map (has_flagged_unended_neighbour p d flags) (range_with_len 0 (length p.sections)) →
+    made ≡ has_unended_path_from_each p d (n + 1)
 round-more p plant d n flags made before after =
     let next : suc n ≡ n + 1 = omega arith in
-    after ∙ ap (λ l. map (has_flagged_unended_neighbour p d l) (range_with_len 0 (length p.sections))) before ∙ one-more p plant d n ∙ ap (unended_path_flag_per_section p d) next
+    after ∙ ap (λ l. map (has_flagged_unended_neighbour p d l) (range_with_len 0 (length p.sections))) before ∙ one-more p plant d n ∙ ap (has_unended_path_from_each p d) next
 
-pub none-yet : (n : ℕ) (p : PlantLists) (d : Dir) → n ≡ length p.sections → replicate n true ≡ unended_path_flag_per_section p d 0
+pub none-yet : (n : ℕ) (p : PlantLists) (d : Dir) → n ≡ length p.sections → replicate n true ≡ has_unended_path_from_each p d 0
 none-yet n p d e = alike n 0 ∙ ap (λ m. map (has_unended_path_from p d 0) (range_with_len 0 m)) e
   where
     alike : (m a : ℕ) → replicate m true ≡ map (has_unended_path_from p d 0) (range_with_len a m)
@@ -51,7 +51,7 @@ board-within p plant m board at =
 
 pub flag-of_board : (p : PlantLists) → IsPlant p →
     (m : ℕ) (board : Board) (d : Dir) (flags : List Bool) (b : Bool) → slice_get p.boards m ≡ Some board →
-    board.dir ≡ d → flags ≡ unended_path_flag_per_section p d MAX_PATH → b ≡ get_or flags board.section false →
+    board.dir ≡ d → flags ≡ has_unended_path_from_each p d MAX_PATH → b ≡ get_or flags board.section false →
     b ≡ is_some_and (slice_get p.boards m) (board_has_overlong_way p)
 flag-of_board p plant m board d flags b at towards are tells =
     tells

@@ -11,8 +11,8 @@ use Rattle.ilk_plant.specs.Network.{last_of}
 
 -- For each section, whether a path of `n` sections leads from it in direction `d` on which no way
 -- ends.
-abbrev pub unended_path_flag_per_section : PlantLists → Dir → ℕ → List Bool
-unended_path_flag_per_section p d n = map (has_unended_path_from p d n) (range_with_len 0 (length p.sections))
+abbrev pub has_unended_path_from_each : PlantLists → Dir → ℕ → List Bool
+has_unended_path_from_each p d n = map (has_unended_path_from p d n) (range_with_len 0 (length p.sections))
 
 -- Returns whether section `x` has a neighbour on side `d` whose flag is set and at which no way
 -- ends.
@@ -41,5 +41,5 @@ abbrev pub empty_way_per_board : PlantLists → List WayFromBoard
 empty_way_per_board p = map (λ numbered. record { source = numbered.0; from = numbered.1; path = [] }) (enumerate_from 0 p.boards)
 
 -- All ways of the network, or `None` if there are more than MAX_ROUTES.
-abbrev pub ways_within_route_limit : PlantLists → Option (List WayFromBoard)
-ways_within_route_limit p = if nat_lt MAX_ROUTES (length (all_ways p)) then None else Some (all_ways p)
+abbrev pub all_ways_within_route_limit : PlantLists → Option (List WayFromBoard)
+all_ways_within_route_limit p = if nat_lt MAX_ROUTES (length (all_ways p)) then None else Some (all_ways p)

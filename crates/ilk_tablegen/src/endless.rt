@@ -1,7 +1,7 @@
 ghost use Rattle.std.specs.Prelude.{◌≡◌, ◌<◌, ◌&&◌, IfOk, IfSome, false, length, map, not, slice_get, slice_index_or, true};
 ghost use Rattle.std.specs.List.{range_with_len};
 ghost use Rattle.ilk_base.specs.Option.{is_some_and};
-ghost use Rattle.ilk_tablegen.specs.Rounds.{unended_path_flag_per_section, has_flagged_unended_neighbour};
+ghost use Rattle.ilk_tablegen.specs.Rounds.{has_unended_path_from_each, has_flagged_unended_neighbour};
 ghost use Rattle.ilk_tablegen.specs.Ways.{way_ends_at_section, first_board_with_overlong_way, board_has_overlong_way};
 ghost use Rattle.ilk_plant.specs.declared.network.Dir.TheVariants.{Down, Up};
 ghost use Rattle.ilk_plant.specs.declared.limits.TheConstants.{MAX_PATH};
@@ -51,7 +51,7 @@ fn one_longer(
 }
 
 fn going_on(alloc: Global, plant: &Plant, d: Dir, n: u64) -> Result<Row<bool>, AllocError>
-    ensures { IfOk result (λ flags. flags ≡ unended_path_flag_per_section plant.now d n) }
+    ensures { IfOk result (λ flags. flags ≡ has_unended_path_from_each plant.now d n) }
 {
     plant.prove_is_plant();
     let mut flags = uniform_flags(alloc, plant.sections(), true)?;
@@ -63,8 +63,8 @@ fn going_on(alloc: Global, plant: &Plant, d: Dir, n: u64) -> Result<Row<bool>, A
 
 fn has_no_end(plant: &Plant, down: &[bool], up: &[bool], m: u32) -> bool
     requires known { m < length plant.now.boards }
-    requires down { down.now ≡ unended_path_flag_per_section plant.now Down MAX_PATH }
-    requires up { up.now ≡ unended_path_flag_per_section plant.now Up MAX_PATH }
+    requires down { down.now ≡ has_unended_path_from_each plant.now Down MAX_PATH }
+    requires up { up.now ≡ has_unended_path_from_each plant.now Up MAX_PATH }
     ensures { result ≡ is_some_and (slice_get plant.now.boards m)
         (board_has_overlong_way plant.now) }
 {

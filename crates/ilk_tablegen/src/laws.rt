@@ -39,7 +39,7 @@ pub fn network_without_routes_makes_plant()
 
 /// If a network violates no rule, the network draft of its plant, with any table, is the draft from
 /// which the plant was created. Proof only; no run-time effect.
-pub fn network_draft_of_plant_unchanged()
+pub fn plant_gives_back_network_draft()
     ensures { (net : NetDraft) (table : TableDraft) → network_rules_broken net ≡ []
         → network_draft (plant_from_drafts net table) ≡ net }
 {}

@@ -29,7 +29,7 @@ mod ways;
 
 pub use laws::{
     generated_drafts_break_only_c7, generated_table_breaks_only_c7,
-    network_draft_of_plant_unchanged, network_without_routes_makes_plant,
+    network_without_routes_makes_plant, plant_gives_back_network_draft,
     routeless_plant_keeps_all_but_c7, ways_are_complete_and_distinct,
 };
 pub use network::network_draft;

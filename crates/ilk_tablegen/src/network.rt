@@ -50,7 +50,7 @@ fn section_draft(
 
 /// Returns the plant's network as a draft, independent of its routes: its sections in order, with
 /// their names and those of their neighbours and boards. It equals the draft from which the plant
-/// was created (theorem `network_draft_of_plant_unchanged`). Fails only if memory runs out.
+/// was created (theorem `plant_gives_back_network_draft`). Fails only if memory runs out.
 pub fn network_draft(alloc: Global, plant: &Plant) -> Result<NetDraft, AllocError>
     ensures { IfOk result (λ net. net ≡ network_draft plant.now) }
 {

@@ -6,7 +6,7 @@ use crate::endless::first_board_with_overlong_way;
 use crate::names::{board_name, optional_board_name, section_name};
 use crate::routes::routes_of_ways;
 use crate::walks::Walks;
-use crate::ways::ways_within_route_limit;
+use crate::ways::all_ways_within_route_limit;
 use ilk_plant::{Listed, ListedDraft, Plant, Route, RouteDraft, Row, TableDraft, Text};
 use std::alloc::{AllocError, Global};
 
@@ -115,7 +115,7 @@ pub fn routes_of(alloc: Global, plant: &Plant) -> Result<Walks, AllocError>
     if let Some(board) = first_board_with_overlong_way(alloc, plant)? {
         return Ok(Walks::TooLong { board });
     }
-    match ways_within_route_limit(alloc, plant)? {
+    match all_ways_within_route_limit(alloc, plant)? {
         Some(ways) => {
             let routes = routes_of_ways(alloc, plant, &ways)?;
             Ok(Walks::Routes(table_draft(alloc, plant, &routes)?))

@@ -1,6 +1,6 @@
 ghost use Rattle.std.specs.Prelude.{◌≡◌, ◌++◌, ◌<◌, All, IfOk, OnOk, None, flat_map, length, map, nat_lt, option_to_list};
 ghost use Rattle.ilk_plant.specs.Network.{last_of};
-ghost use Rattle.ilk_tablegen.specs.Rounds.{empty_way_per_board, ways_within_route_limit, last_section_or_start, is_finished_way, extensions_of_way_or_itself, extended_way};
+ghost use Rattle.ilk_tablegen.specs.Rounds.{empty_way_per_board, all_ways_within_route_limit, last_section_or_start, is_finished_way, extensions_of_way_or_itself, extended_way};
 ghost use Rattle.ilk_tablegen.specs.Ways.{first_board_with_overlong_way};
 ghost use Rattle.ilk_plant.specs.declared.limits.TheConstants.{MAX_ROUTES};
 
@@ -129,12 +129,12 @@ fn are_too_many(ways: &Row<WayFromBoard>) -> bool
 
 /// Returns the ways of the network. Each has to end within `MAX_PATH` sections. Returns `None` if
 /// there are more than `MAX_ROUTES`.
-pub(crate) fn ways_within_route_limit(
+pub(crate) fn all_ways_within_route_limit(
     alloc: Global,
     plant: &Plant,
 ) -> Result<Option<Row<WayFromBoard>>, AllocError>
     requires { first_board_with_overlong_way plant.now ≡ None }
-    ensures { IfOk result (λ ways. ways ≡ ways_within_route_limit plant.now) }
+    ensures { IfOk result (λ ways. ways ≡ all_ways_within_route_limit plant.now) }
 {
     plant.prove_is_plant();
     let mut ways = begun_ways(alloc, plant)?;

@@ -15,9 +15,9 @@ use Rattle.ilk_words.specs.declared.command.Command.TheVariants.{Conf}
 use Rattle.ilk_words.specs.declared.command.ConfCommand.{ConfCommand}
 use Rattle.ilk_words.specs.declared.lengths.TheConstants.{MAX_CONFIGURATION_BYTES}
 use Rattle.ilk_top.specs.Handled.{SourceReadAndFaultCounted, SourcesReadAndFaultsCounted}
-use Rattle.ilk_top.specs.Outside.{ReadIfLimitElseUnchanged, FaultsRiseOnlyWith}
+use Rattle.ilk_top.specs.Outside.{ReadIfLimitGivenElseUnchanged, FaultsRiseOnlyWith}
 
-pub untouched : {S : Type 0} (left : S → Option (List ℕ)) (needed : Option Bool) (limit : Option ℕ) (came : Bool) (x : S) → (came ≡ true → needed ≢ Some true) → ReadIfLimitElseUnchanged left needed limit came x x
+pub untouched : {S : Type 0} (left : S → Option (List ℕ)) (needed : Option Bool) (limit : Option ℕ) (came : Bool) (x : S) → (came ≡ true → needed ≢ Some true) → ReadIfLimitGivenElseUnchanged left needed limit came x x
 untouched left needed None came x spare = refl
 untouched left needed (Some limit) came x spare = record {
   taken = ([], omega arith, Consumes-none (left x) (left x) refl);
@@ -25,14 +25,14 @@ untouched left needed (Some limit) came x spare = record {
   end = λ h. inl (spare h, refl);
 }
 
-pub read-came : {S : Type 0} (left : S → Option (List ℕ)) (needed : Option Bool) (limit : Option ℕ) (b c : Bool) (old new : S) → (c ≡ true → b ≡ true) → ReadIfLimitElseUnchanged left needed limit b old new
-    → ReadIfLimitElseUnchanged left needed limit c old new
+pub read-came : {S : Type 0} (left : S → Option (List ℕ)) (needed : Option Bool) (limit : Option ℕ) (b c : Bool) (old new : S) → (c ≡ true → b ≡ true) → ReadIfLimitGivenElseUnchanged left needed limit b old new
+    → ReadIfLimitGivenElseUnchanged left needed limit c old new
 read-came left needed None b c old new h r = r
 read-came left needed (Some limit) b c old new h r =
     record { taken = r.taken; unread = r.unread; end = λ came. r.end (h came) }
 
-pub read-needed : {S : Type 0} (left : S → Option (List ℕ)) (needed : Option Bool) (limit : Option ℕ) (came : Bool) (old new : S) → needed ≢ Some false → ReadIfLimitElseUnchanged left (Some true) limit came old new →
-    ReadIfLimitElseUnchanged left needed limit came old new
+pub read-needed : {S : Type 0} (left : S → Option (List ℕ)) (needed : Option Bool) (limit : Option ℕ) (came : Bool) (old new : S) → needed ≢ Some false → ReadIfLimitGivenElseUnchanged left (Some true) limit came old new →
+    ReadIfLimitGivenElseUnchanged left needed limit came old new
 read-needed left needed None came old new h r = r
 read-needed left needed (Some limit) came old new h r = record {
   taken = r.taken;
@@ -79,7 +79,7 @@ module _ (columns : ColumnRuleMode) (command : ConfCommand) where
       (extra_left : D → Option (List ℕ)) (extra_faults : D → ℕ) (conf_old conf_new : C)
       (fault told : Type 0) (came : Bool) (extra_old extra_new : D) → ¬ told →
       SourceReadAndFaultCounted conf_left conf_faults (Some true) (Some MAX_CONFIGURATION_BYTES) told true conf_old conf_new →
-      ReadIfLimitElseUnchanged extra_left (is_extra_reached_if_exposed (plan_of (Conf columns command)) (conf_left conf_old)) (limit_if_extra command) came extra_old extra_new →
+      ReadIfLimitGivenElseUnchanged extra_left (is_extra_reached_if_exposed (plan_of (Conf columns command)) (conf_left conf_old)) (limit_if_extra command) came extra_old extra_new →
       (fault → CountedOneFault (extra_faults extra_old) (extra_faults extra_new)) →
       FaultsRiseOnlyWith fault (extra_faults extra_old) (extra_faults extra_new) →
       SourcesReadAndFaultsCounted conf_left conf_faults extra_left extra_faults (plan_of (Conf columns command)) fault came

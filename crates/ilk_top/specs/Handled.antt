@@ -7,12 +7,12 @@ use Rattle.ilk_answers.specs.Status.{had_reply_to_write}
 use Rattle.ilk_answers.specs.declared.status.Status.{Status}
 use Rattle.ilk_answers.specs.declared.status.Status.TheVariants.{ReadFault, WriteFault}
 use Rattle.ilk_words.specs.Plan.{CommandPlan}
-use Rattle.ilk_top.specs.Outside.{ReadIfLimitElseUnchanged, FaultsRiseOnlyWith}
+use Rattle.ilk_top.specs.Outside.{ReadIfLimitGivenElseUnchanged, FaultsRiseOnlyWith}
 
 -- Holds if a source was read as its plan says. Exactly one call of it failed if `fault` is
 -- reported, otherwise none.
 pub record SourceReadAndFaultCounted {S : Type 0} (left : S → Option (List ℕ)) (faults : S → ℕ) (needed : Option Bool) (limit : Option ℕ) (fault : Type 0) (came : Bool) (old new : S) : Type 0 where
-  pub read : ReadIfLimitElseUnchanged left needed limit came old new
+  pub read : ReadIfLimitGivenElseUnchanged left needed limit came old new
   pub failed : fault → CountedOneFault (faults old) (faults new)
   pub rises : FaultsRiseOnlyWith fault (faults old) (faults new)
 
@@ -25,8 +25,8 @@ pub record SourcesReadAndFaultsCounted {C D : Type 0} (conf_left : C → Option 
   pub read_fault : fault → (CountedOneFault (conf_faults conf_old) (conf_faults conf_new) × (extra_new ≡ extra_old)) ⊎ ((conf_faults conf_new ≡ conf_faults conf_old) × CountedOneFault (extra_faults extra_old) (extra_faults extra_new))
   pub conf_rises : FaultsRiseOnlyWith fault (conf_faults conf_old) (conf_faults conf_new)
   pub extra_rises : FaultsRiseOnlyWith fault (extra_faults extra_old) (extra_faults extra_new)
-  pub conf_read : ReadIfLimitElseUnchanged conf_left (Some true) (max_conf_bytes_if_read plan) came conf_old conf_new
-  pub extra_read : ReadIfLimitElseUnchanged extra_left (is_extra_reached_if_exposed plan (conf_left conf_old)) plan.extra came extra_old extra_new
+  pub conf_read : ReadIfLimitGivenElseUnchanged conf_left (Some true) (max_conf_bytes_if_read plan) came conf_old conf_new
+  pub extra_read : ReadIfLimitGivenElseUnchanged extra_left (is_extra_reached_if_exposed plan (conf_left conf_old)) plan.extra came extra_old extra_new
 
 -- Holds if both sinks fit the status: their fault counts rise only with a write fault, and they are
 -- unchanged if the status shows that nothing was written. The certificate's sink is also unchanged

@@ -24,9 +24,9 @@ pub record ReadIfNeeded {S : Type 0} (left : S → Option (List ℕ)) (needed : 
 
 -- Holds if a source with a limit was read as far as needed and allowed, and one without a limit is
 -- unchanged.
-abbrev pub ReadIfLimitElseUnchanged : {S : Type 0} → (S → Option (List ℕ)) → Option Bool → Option ℕ → Bool → S → S → Type 0
-ReadIfLimitElseUnchanged left needed None came old new = new ≡ old
-ReadIfLimitElseUnchanged left needed (Some limit) came old new = ReadIfNeeded left needed limit came old new
+abbrev pub ReadIfLimitGivenElseUnchanged : {S : Type 0} → (S → Option (List ℕ)) → Option Bool → Option ℕ → Bool → S → S → Type 0
+ReadIfLimitGivenElseUnchanged left needed None came old new = new ≡ old
+ReadIfLimitGivenElseUnchanged left needed (Some limit) came old new = ReadIfNeeded left needed limit came old new
 
 -- Holds if a fault count did not fall, and rose only if `fault` is reported.
 pub record FaultsRiseOnlyWith (fault : Type 0) (old new : ℕ) : Type 0 where
@@ -42,7 +42,7 @@ pub record IsReplyWrittenWhole {L O : Type 0} (cert_written : L → Option (List
 
 -- Holds if writing a certificate that is not empty failed: its sink gained a prefix and counted one
 -- fault, and the report's sink is unchanged.
-pub record IsCutInCertificate {L O : Type 0} (cert_written : L → Option (List ℕ)) (cert_faults : L → ℕ) (made : Reply) (cert_old cert_new : L) (out_old out_new : O) : Type 0 where
+pub record IsWriteFaultInCertificate {L O : Type 0} (cert_written : L → Option (List ℕ)) (cert_faults : L → ℕ) (made : Reply) (cert_old cert_new : L) (out_old out_new : O) : Type 0 where
   pub certified : made.certificate ≢ []
   pub certificate : AppendsPrefix (cert_written cert_old) (cert_written cert_new) made.certificate
   pub fault : CountedOneFault (cert_faults cert_old) (cert_faults cert_new)
@@ -50,7 +50,7 @@ pub record IsCutInCertificate {L O : Type 0} (cert_written : L → Option (List 
 
 -- Holds if writing the report failed: its sink gained a prefix and counted one fault. The
 -- certificate is whole; without one its sink is unchanged.
-pub record IsCutInReport {L O : Type 0} (cert_written : L → Option (List ℕ)) (cert_faults : L → ℕ) (out_written : O → Option (List ℕ)) (out_faults : O → ℕ) (made : Reply) (cert_old cert_new : L) (out_old out_new : O) : Type 0 where
+pub record IsWriteFaultInReport {L O : Type 0} (cert_written : L → Option (List ℕ)) (cert_faults : L → ℕ) (out_written : O → Option (List ℕ)) (out_faults : O → ℕ) (made : Reply) (cert_old cert_new : L) (out_old out_new : O) : Type 0 where
   pub certificate : Appends (cert_written cert_old) (cert_written cert_new) made.certificate
   pub uncertified : made.certificate ≡ [] → cert_new ≡ cert_old
   pub unfailed : cert_faults cert_new ≡ cert_faults cert_old
@@ -66,6 +66,6 @@ pub record WritesAnswer {L O : Type 0} (IsAnswerTo : Reply → Type 0) (cert_wri
   pub whole : IsTrue (is_fault_free_status status) → (made : Reply) × IsAnswerTo made × (status ≡ made.status) × IsReplyWrittenWhole cert_written out_written made cert_old cert_new out_old out_new
   pub cut : status ≡ WriteFault →
       (made : Reply) × IsAnswerTo made ×
-      (IsCutInCertificate cert_written cert_faults made cert_old cert_new out_old out_new
-      ⊎ IsCutInReport cert_written cert_faults out_written out_faults made cert_old cert_new out_old
+      (IsWriteFaultInCertificate cert_written cert_faults made cert_old cert_new out_old out_new
+      ⊎ IsWriteFaultInReport cert_written cert_faults out_written out_faults made cert_old cert_new out_old
       out_new)

@@ -4,7 +4,7 @@ ghost use Rattle.ilk_answers.specs.Status.{had_reply_to_write};
 ghost use Rattle.ilk_answers.specs.Strict.{LinesHaveBeginnings, HasSafePlantDespiteColumns, ReplyHasTableOfConf, IsCleanAndKeepsInvariant, IsStrictlyCleanWithPlant, SaysSafeAtOneOrSpent, DriveReportsNoHazard, harmless_refusal_beginnings};
 ghost use Rattle.ilk_io.specs.Faults.{CountedOneFault};
 ghost use Rattle.ilk_plant.specs.Plant.{PlantLists};
-ghost use Rattle.ilk_top.specs.Outside.{ReadIfLimitElseUnchanged, FaultsRiseOnlyWith, WritesAnswer};
+ghost use Rattle.ilk_top.specs.Outside.{ReadIfLimitGivenElseUnchanged, FaultsRiseOnlyWith, WritesAnswer};
 ghost use Rattle.ilk_words.specs.Words.{parsed_command};
 
 use crate::command::perform;
@@ -120,11 +120,11 @@ pub fn run<C: Source, D: Source, O: Sink, L: Sink>(
     // than its limit. If the configuration is known to give no plant, `extra` is not read.
     ensures conf_read { let plan = command_plan_or_empty
         (parsed_command (map string_bytes words.now.items)) in
-        ReadIfLimitElseUnchanged C.left (Some true) (max_conf_bytes_if_read plan)
+        ReadIfLimitGivenElseUnchanged C.left (Some true) (max_conf_bytes_if_read plan)
         (had_reply_to_write result) conf.old conf.new }
     ensures extra_read { let plan = command_plan_or_empty
         (parsed_command (map string_bytes words.now.items)) in
-        ReadIfLimitElseUnchanged D.left
+        ReadIfLimitGivenElseUnchanged D.left
         (is_extra_reached_if_exposed plan (C.left conf.old)) plan.extra
         (had_reply_to_write result) extra.old extra.new }
 

@@ -110,7 +110,7 @@ impl Trail {
         self.entries[i as usize].lit
     }
 
-    /// Opens the next level with literal `l` as its decision. Its variable is unset.
+    /// Opens the next level by setting `l`, whose variable must be unset, as its decision.
     pub fn decide(&mut self, l: Lit)
         requires within { IsTrue (is_lit_over self.old.vars l) }
         requires unset { is_set self.old.entries l.var ≡ false }

@@ -28,7 +28,7 @@ use Rattle.ilk_forms.proofs.CopyLaw.{copy-law}
 use Rattle.ilk_forms.proofs.CopyFew.{copy-few}
 use Rattle.ilk_forms.proofs.CopyWidth.{copy-end}
 use Rattle.ilk_forms.proofs.CopySays.{copy-say}
-use Rattle.ilk_forms.specs.Leaf.{has_lits_within_vars, ranges_of}
+use Rattle.ilk_forms.specs.Leaf.{has_lits_within_vars, ranges_of_copy_lits}
 use Rattle.ilk_forms.proofs.Reading.{has_lits_within_vars-more}
 use Rattle.ilk_forms.proofs.CopyTable.{copy-lits_in, copy-ranges}
 use Rattle.ilk_step.proofs.StepLaw.{says-left}
@@ -126,7 +126,7 @@ copies-law (suc count) ranges a n size fit =
 -- Holds if the literals of a copy say its values, in a formula of `n` variables.
 pub record TableSays (a : List Bool) (n : ℕ) (ranges : List ℕ) (table : List VarValueAndBoundLits) (values : List ℕ) : Type 0 where
   pub within : has_lits_within_vars n table ≡ true
-  pub has_ranges : ranges_of table ≡ ranges
+  pub has_ranges : ranges_of_copy_lits table ≡ ranges
   pub says : LiteralsEncode a table ranges values
   pub in_range : in_ranges values ranges ≡ true
 
@@ -232,10 +232,10 @@ copies-step f g ranges tables whole table i rest before fit left begins seen is 
 pub within-at : (tables : List (List VarValueAndBoundLits)) (n j : ℕ) (table : List VarValueAndBoundLits) → are_copies_within_vars n tables ≡ true → slice_get tables j ≡ Some table → has_lits_within_vars n table ≡ true
 within-at tables n j table h at = list_all-slice_get (has_lits_within_vars n) tables j table h at
 
-pub ranges-at : (tables : List (List VarValueAndBoundLits)) (ranges : List ℕ) (j : ℕ) (table : List VarValueAndBoundLits) → EachCopyHasTheseRanges ranges tables → slice_get tables j ≡ Some table → ranges_of table ≡ ranges
+pub ranges-at : (tables : List (List VarValueAndBoundLits)) (ranges : List ℕ) (j : ℕ) (table : List VarValueAndBoundLits) → EachCopyHasTheseRanges ranges tables → slice_get tables j ≡ Some table → ranges_of_copy_lits table ≡ ranges
 ranges-at [] ranges j table h at = absurd cc
-ranges-at (t ∷ tables) ranges zero table h at = ap ranges_of (sym (same_Some t table at)) ∙ h.0
+ranges-at (t ∷ tables) ranges zero table h at = ap ranges_of_copy_lits (sym (same_Some t table at)) ∙ h.0
 ranges-at (t ∷ tables) ranges (suc j) table h at = ranges-at tables ranges j table h.1 at
 
-pub valid-at : (tables : List (List VarValueAndBoundLits)) (t : Tree) (j : ℕ) (table : List VarValueAndBoundLits) → is_valid_in_each tables t ≡ true → slice_get tables j ≡ Some table → tree_valid (ranges_of table) t ≡ true
-valid-at tables t j table h at = list_all-slice_get (λ (table : List VarValueAndBoundLits). tree_valid (ranges_of table) t) tables j table h at
+pub valid-at : (tables : List (List VarValueAndBoundLits)) (t : Tree) (j : ℕ) (table : List VarValueAndBoundLits) → is_valid_in_each tables t ≡ true → slice_get tables j ≡ Some table → tree_valid (ranges_of_copy_lits table) t ≡ true
+valid-at tables t j table h at = list_all-slice_get (λ (table : List VarValueAndBoundLits). tree_valid (ranges_of_copy_lits table) t) tables j table h at

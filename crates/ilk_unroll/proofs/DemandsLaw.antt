@@ -17,7 +17,7 @@ use Rattle.ilk_cnf.proofs.Gates.{with_part-and_then}
 use Rattle.ilk_ir.specs.Tree.{Tree, all_of, negation, trees_from_list, tree_holds, tree_valid}
 use Rattle.ilk_ir.proofs.Trees.{each_valid-trees_from_list}
 use Rattle.ilk_forms.specs.declared.copy.VarValueAndBoundLits.{VarValueAndBoundLits}
-use Rattle.ilk_forms.specs.Leaf.{has_lits_within_vars, ranges_of}
+use Rattle.ilk_forms.specs.Leaf.{has_lits_within_vars, ranges_of_copy_lits}
 use Rattle.ilk_forms.specs.Gates.{bools_are_equal}
 use Rattle.ilk_forms.specs.Demand.{some_lit_or_form_part, some_lit_or_form_bits}
 use Rattle.ilk_forms.specs.Violated.{form_fails_part, form_fails_bits}
@@ -27,9 +27,9 @@ use Rattle.ilk_forms.proofs.ViolatedLaw.{form_fails-fits, form_fails-law}
 use Rattle.ilk_step.proofs.RulesLaw.{then-fits, then-law}
 use Rattle.ilk_unroll.specs.declared.queries.Wanted.{Wanted}
 use Rattle.ilk_unroll.specs.declared.queries.Wanted.TheVariants.{Hazard, Breach, Step}
-use Rattle.ilk_unroll.specs.Goal.{PlainGoalForms, CopyDemand, goal_valid, step_count, demand_form_holds_in_copy, demand_form_fails_in_copy, form_demands_below_copy, demands_of}
+use Rattle.ilk_unroll.specs.Goal.{PlainGoalForms, CopyDemand, goal_valid, query_step_count, demand_form_holds_in_copy, demand_form_fails_in_copy, form_demands_below_copy, demands_of}
 use Rattle.ilk_unroll.specs.Run.{demand_is_met_by_run}
-use Rattle.ilk_unroll.specs.Query.{copy_lits_at, demanded_part, demands_part}
+use Rattle.ilk_unroll.specs.Query.{copy_lits_at, one_demand_part, demands_part}
 use Rattle.ilk_unroll.specs.Assignment.{one_demand_bits, demands_bits}
 use Rattle.ilk_unroll.specs.Tables.{are_copies_within_vars, EachCopyHasTheseRanges}
 use Rattle.ilk_unroll.proofs.CopiesLaw.{TablesSay, table-at, tables_say-more, are_copies_within_vars-more}
@@ -41,7 +41,7 @@ same n = omega arith
 abbrev pub demanded_valid : List ℕ → ℕ → CopyDemand → Bool
 demanded_valid ranges count d = nat_lt d.copy count && tree_valid ranges d.form
 
-holds-fits : (holds : Bool) (columns : List VarValueAndBoundLits) (t : Tree) (n : ℕ) → has_lits_within_vars n columns ≡ true → tree_valid (ranges_of columns) t ≡ true → PartFits n (cond holds (some_lit_or_form_part columns [] t n)
+holds-fits : (holds : Bool) (columns : List VarValueAndBoundLits) (t : Tree) (n : ℕ) → has_lits_within_vars n columns ≡ true → tree_valid (ranges_of_copy_lits columns) t ≡ true → PartFits n (cond holds (some_lit_or_form_part columns [] t n)
     (form_fails_part columns t n))
 holds-fits true columns t n h k = some_lit_or_form-fits t columns [] n h refl k
 holds-fits false columns t n h k = form_fails-fits t columns n h k
@@ -51,13 +51,13 @@ table-in [] n j h less = absurd (omega arith)
 table-in (table ∷ tables) n zero h less = (and_parts (has_lits_within_vars n table) (are_copies_within_vars n tables) h).0
 table-in (table ∷ tables) n (suc j) h less = table-in tables n j (and_parts (has_lits_within_vars n table) (are_copies_within_vars n tables) h).1 (omega arith)
 
-table-ranges : (tables : List (List VarValueAndBoundLits)) (ranges : List ℕ) (j : ℕ) → EachCopyHasTheseRanges ranges tables → j < length tables → ranges_of (copy_lits_at tables j) ≡ ranges
+table-ranges : (tables : List (List VarValueAndBoundLits)) (ranges : List ℕ) (j : ℕ) → EachCopyHasTheseRanges ranges tables → j < length tables → ranges_of_copy_lits (copy_lits_at tables j) ≡ ranges
 table-ranges [] ranges j h less = absurd (omega arith)
 table-ranges (table ∷ tables) ranges zero h less = h.0
 table-ranges (table ∷ tables) ranges (suc j) h less = table-ranges tables ranges j h.1 (omega arith)
 
 demands_of-fits : (tables : List (List VarValueAndBoundLits)) (ranges : List ℕ) (d : CopyDemand) (n : ℕ) → are_copies_within_vars n tables ≡ true → EachCopyHasTheseRanges ranges tables → demanded_valid ranges (length tables) d ≡ true →
-    PartFits n (demanded_part tables d n)
+    PartFits n (one_demand_part tables d n)
 demands_of-fits tables ranges d n h r valid =
     let parts = and_parts (nat_lt d.copy (length tables)) (tree_valid ranges d.form) valid in
     let less : d.copy < length tables = ltb-true d.copy (length tables) parts.0 in
@@ -69,13 +69,13 @@ pub demands-fits : (ds : List CopyDemand) (tables : List (List VarValueAndBoundL
 demands-fits [] tables ranges n h r valid = record { low = same n; inside = refl }
 demands-fits (d ∷ ds) tables ranges n h r valid =
     let parts = and_parts (demanded_valid ranges (length tables) d) (list_all (demanded_valid ranges (length tables)) ds) valid in
-    let p = demanded_part tables d n in
+    let p = one_demand_part tables d n in
     let one = demands_of-fits tables ranges d n h r parts.0 in
     then-fits n p (demands_part tables ds) one (demands-fits ds tables ranges p.vars (are_copies_within_vars-more n p.vars tables one.low h) r parts.1)
 
 holds-law :
     (holds : Bool) (columns : List VarValueAndBoundLits) (ranges values : List ℕ) (t : Tree) (a : List Bool) (n : ℕ) →
-    length a ≡ n → Reads a columns ranges values → tree_valid (ranges_of columns) t ≡ true →
+    length a ≡ n → Reads a columns ranges values → tree_valid (ranges_of_copy_lits columns) t ≡ true →
     ExtensionsAreExactly a (cond holds (some_lit_or_form_part columns [] t n) (form_fails_part columns t n)).vars
     (cond holds (some_lit_or_form_part columns [] t n) (form_fails_part columns t n)).clauses
     (PassesAndEqualsGivenValues (bools_are_equal holds (tree_holds values t))
@@ -87,7 +87,7 @@ demands_of-law :
     (tables : List (List VarValueAndBoundLits)) (run : List (List ℕ)) (ranges : List ℕ) (d : CopyDemand) (a : List Bool)
     (n : ℕ) → length a ≡ n →
     TablesSay a n ranges tables run → demanded_valid ranges (length tables) d ≡ true →
-    ExtensionsAreExactly a (demanded_part tables d n).vars (demanded_part tables d n).clauses
+    ExtensionsAreExactly a (one_demand_part tables d n).vars (one_demand_part tables d n).clauses
     (PassesAndEqualsGivenValues (demand_is_met_by_run run d) (one_demand_bits tables d a))
 demands_of-law tables run ranges d a n size h valid =
     let parts = and_parts (nat_lt d.copy (length tables)) (tree_valid ranges d.form) valid in
@@ -95,7 +95,7 @@ demands_of-law tables run ranges d a n size h valid =
     let at = table-at tables run a n ranges d.copy h less in
     let table = copy_lits_at tables d.copy in
     let values = get_or run d.copy [] in
-    let p = demanded_part tables d n in
+    let p = one_demand_part tables d n in
     let says = at.0 in
     let law = holds-law d.holds table ranges values d.form a n size (reads a table ranges values n size says.within says.says says.in_range) (ap (λ (rs : List ℕ). tree_valid rs d.form) says.has_ranges ∙ parts.1) in
     let met : bools_are_equal d.holds (tree_holds values d.form) ≡ demand_is_met_by_run run d = ap (λ (o : Option (List ℕ)). is_some_and o (λ ws. bools_are_equal d.holds (tree_holds ws d.form))) (sym at.1) in
@@ -111,7 +111,7 @@ pub demands-law :
 demands-law [] tables run ranges a n size inside r h valid = no_more_if a n [] true size refl
 demands-law (d ∷ ds) tables run ranges a n size inside r h valid =
     let parts = and_parts (demanded_valid ranges (length tables) d) (list_all (demanded_valid ranges (length tables)) ds) valid in
-    let p = demanded_part tables d n in
+    let p = one_demand_part tables d n in
     let e = one_demand_bits tables d a in
     let one = demands_of-fits tables ranges d n inside r parts.0 in
     let more = are_copies_within_vars-more n p.vars tables one.low inside in
@@ -144,7 +144,7 @@ goal-valid ranges g h =
 one-valid : (ranges : List ℕ) (count j : ℕ) (t : Tree) (holds : Bool) → j < count → tree_valid ranges t ≡ true → demanded_valid ranges count (record { copy = j; form = t; holds = holds }) ≡ true
 one-valid ranges count j t holds less h = and_from _ _ (lt-ltb j count less) h
 
-pub demands_of-valid : (ranges : List ℕ) (g : PlainGoalForms) (q : Wanted) → goal_valid ranges g ≡ true → list_all (demanded_valid ranges (suc (step_count q))) (demands_of g q) ≡ true
+pub demands_of-valid : (ranges : List ℕ) (g : PlainGoalForms) (q : Wanted) → goal_valid ranges g ≡ true → list_all (demanded_valid ranges (suc (query_step_count q))) (demands_of g q) ≡ true
 demands_of-valid ranges g (Hazard n) h =
     let k = goal-valid ranges g h in
     and_from _ _ (one-valid ranges (suc n) 0 g.start true (omega arith) k.start)
@@ -171,7 +171,7 @@ demands_of-valid ranges g (Step n) h =
 demands-append : (xs ys : List CopyDemand) (tables : List (List VarValueAndBoundLits)) (n : ℕ) → demands_part tables (xs ++ ys) n ≡ and_then (demands_part tables xs n) (demands_part tables ys)
 demands-append [] ys tables n = refl
 demands-append (x ∷ xs) ys tables n =
-    let p = demanded_part tables x n in
+    let p = one_demand_part tables x n in
     let q = demands_part tables xs p.vars in
     let rest = demands_part tables ys q.vars in
     ap (λ (u : FormulaPart). record { vars = u.vars; clauses = p.clauses ++ u.clauses }) (demands-append xs ys tables p.vars)
@@ -188,9 +188,9 @@ demands-then xs ys tables f g h one two =
 pub nothing-made : (f : Formula) → f ≡ with_part f (empty_part f.vars)
 nothing-made f = ap (λ (cs : List (List Literal)). record { vars = f.vars; clauses = cs }) (sym (append-nil f.clauses))
 
-pub one-made : (tables : List (List VarValueAndBoundLits)) (d : CopyDemand) (f g : Formula) → g ≡ with_part f (demanded_part tables d f.vars) → g ≡ with_part f (demands_part tables (d ∷ []) f.vars)
+pub one-made : (tables : List (List VarValueAndBoundLits)) (d : CopyDemand) (f g : Formula) → g ≡ with_part f (one_demand_part tables d f.vars) → g ≡ with_part f (demands_part tables (d ∷ []) f.vars)
 one-made tables d f g made =
-    let p = demanded_part tables d f.vars in
+    let p = one_demand_part tables d f.vars in
     made ∙ ap (λ (cs : List (List Literal)). with_part f (record { vars = p.vars; clauses = cs })) (sym (append-nil p.clauses))
 
 pub table-is : (tables : List (List VarValueAndBoundLits)) (j : ℕ) (table : List VarValueAndBoundLits) → slice_get tables j ≡ Some table → copy_lits_at tables j ≡ table

@@ -11,7 +11,7 @@ use Rattle.ilk_ir.specs.Tree.{Tree, all_of, trees_from_list, tree_holds}
 use Rattle.ilk_ir.proofs.Trees.{all_of-holds}
 use Rattle.ilk_ir.specs.System.{PlainSystem, in_ranges}
 use Rattle.ilk_unroll.specs.declared.queries.Wanted.{Wanted}
-use Rattle.ilk_unroll.specs.Goal.{PlainGoalForms, demand_form_holds_in_copy, form_demands_below_copy, step_count, demands_of}
+use Rattle.ilk_unroll.specs.Goal.{PlainGoalForms, demand_form_holds_in_copy, form_demands_below_copy, query_step_count, demands_of}
 use Rattle.ilk_unroll.specs.Run.{run_firing_rules, demand_is_met_by_run, is_wanted_run}
 
 pub below-each : (run : List (List ℕ)) (t : Tree) (n j : ℕ) → list_all (demand_is_met_by_run run) (form_demands_below_copy t n) ≡ true → j < n → demand_is_met_by_run run (demand_form_holds_in_copy j t) ≡ true
@@ -40,18 +40,18 @@ one-demand run t ts j = by_case (slice_get run j)
 -- The parts of a run that a query asks for.
 pub record IsWanted (s : PlainSystem) (g : PlainGoalForms) (q : Wanted) (first rules : List ℕ) : Type 0 where
   pub in_range : in_ranges first s.ranges ≡ true
-  pub many : length rules ≡ step_count q
+  pub many : length rules ≡ query_step_count q
   pub run : List (List ℕ)
   pub is : run_firing_rules s first rules ≡ Some run
   pub met : list_all (demand_is_met_by_run run) (demands_of g q) ≡ true
 
 pub wanted-parts : (s : PlainSystem) (g : PlainGoalForms) (q : Wanted) (first rules : List ℕ) → is_wanted_run s g q first rules ≡ true → IsWanted s g q first rules
 wanted-parts s g q first rules h =
-    let outer = and_parts (in_ranges first s.ranges && length rules == step_count q) (is_some_and (run_firing_rules s first rules) (λ run. list_all (demand_is_met_by_run run) (demands_of g q))) h in
-    let inner = and_parts (in_ranges first s.ranges) (length rules == step_count q) outer.0 in
+    let outer = and_parts (in_ranges first s.ranges && length rules == query_step_count q) (is_some_and (run_firing_rules s first rules) (λ run. list_all (demand_is_met_by_run run) (demands_of g q))) h in
+    let inner = and_parts (in_ranges first s.ranges) (length rules == query_step_count q) outer.0 in
     let run = some-and (run_firing_rules s first rules) (λ run. list_all (demand_is_met_by_run run) (demands_of g q)) outer.1 in
-    record { in_range = inner.0; many = eqb-true (length rules) (step_count q) inner.1; run = run.0; is = run.1; met = run.2 }
+    record { in_range = inner.0; many = eqb-true (length rules) (query_step_count q) inner.1; run = run.0; is = run.1; met = run.2 }
 
 pub wanted-from : (s : PlainSystem) (g : PlainGoalForms) (q : Wanted) (first rules : List ℕ) → IsWanted s g q first rules → is_wanted_run s g q first rules ≡ true
 wanted-from s g q first rules w =
-    and_from _ _ (and_from _ _ w.in_range (eq-eqb (length rules) (step_count q) w.many)) (rw w.is w.met)
+    and_from _ _ (and_from _ _ w.in_range (eq-eqb (length rules) (query_step_count q) w.many)) (rw w.is w.met)

@@ -12,7 +12,7 @@ use Rattle.ilk_forms.specs.Copy.{LiteralsEncode, copy_part}
 use Rattle.ilk_forms.proofs.ColumnLaw.{ranges_fit}
 use Rattle.ilk_forms.proofs.DemandLaw.{PartFits}
 use Rattle.ilk_unroll.specs.declared.queries.Wanted.{Wanted}
-use Rattle.ilk_unroll.specs.Goal.{PlainGoalForms, CopyDemand, goal_valid, step_count, demands_of}
+use Rattle.ilk_unroll.specs.Goal.{PlainGoalForms, CopyDemand, goal_valid, query_step_count, demands_of}
 use Rattle.ilk_unroll.specs.Run.{run_firing_rules, demand_is_met_by_run, is_wanted_run}
 use Rattle.ilk_unroll.specs.Query.{PartWithCopyLits, copies_part, steps_part, demands_part, query_part}
 use Rattle.ilk_unroll.specs.Assignment.{copies_bits, steps_bits, demands_bits, run_bits, run_assignment, EncodesWantedRun}
@@ -29,19 +29,19 @@ pub record Wants (s : PlainSystem) (g : PlainGoalForms) (q : Wanted) (first rule
   pub run : List (List ℕ)
   pub is : run_firing_rules s first rules ≡ Some run
   pub in_range : in_ranges first s.ranges ≡ true
-  pub many : length rules ≡ step_count q
+  pub many : length rules ≡ query_step_count q
   pub met : list_all (demand_is_met_by_run run) (demands_of g q) ≡ true
 
 pub wants : (s : PlainSystem) (g : PlainGoalForms) (q : Wanted) (first rules : List ℕ) → is_wanted_run s g q first rules ≡ true → Wants s g q first rules
 wants s g q first rules h =
-    let outer = and_parts (in_ranges first s.ranges && eqb (length rules) (step_count q)) (is_some_and (run_firing_rules s first rules) (λ run. list_all (demand_is_met_by_run run) (demands_of g q))) h in
-    let inner = and_parts (in_ranges first s.ranges) (eqb (length rules) (step_count q)) outer.0 in
+    let outer = and_parts (in_ranges first s.ranges && eqb (length rules) (query_step_count q)) (is_some_and (run_firing_rules s first rules) (λ run. list_all (demand_is_met_by_run run) (demands_of g q))) h in
+    let inner = and_parts (in_ranges first s.ranges) (eqb (length rules) (query_step_count q)) outer.0 in
     let some = some-and (run_firing_rules s first rules) (λ run. list_all (demand_is_met_by_run run) (demands_of g q)) outer.1 in
-    record { run = some.0; is = some.1; in_range = inner.0; many = eqb-true (length rules) (step_count q) inner.1; met = some.2 }
+    record { run = some.0; is = some.1; in_range = inner.0; many = eqb-true (length rules) (query_step_count q) inner.1; met = some.2 }
 
 pub wanted-from : (s : PlainSystem) (g : PlainGoalForms) (q : Wanted) (first rules : List ℕ) → Wants s g q first rules → is_wanted_run s g q first rules ≡ true
 wanted-from s g q first rules w =
-    and_from _ _ (and_from _ _ w.in_range (eq-eqb (length rules) (step_count q) w.many)) (ap (λ (o : Option (List (List ℕ))). is_some_and o (λ run. list_all (demand_is_met_by_run run) (demands_of g q))) w.is ∙ w.met)
+    and_from _ _ (and_from _ _ w.in_range (eq-eqb (length rules) (query_step_count q) w.many)) (ap (λ (o : Option (List (List ℕ))). is_some_and o (λ run. list_all (demand_is_met_by_run run) (demands_of g q))) w.is ∙ w.met)
 
 assignment-is : (s : PlainSystem) (g : PlainGoalForms) (q : Wanted) (first rules : List ℕ) (run : List (List ℕ)) → run_firing_rules s first rules ≡ Some run → run_assignment s g q first rules ≡ run_bits s g q run rules
 assignment-is s g q first rules run is = ap (λ (o : Option (List (List ℕ))). run_bits s g q (unwrap_or o []) rules) is
@@ -66,7 +66,7 @@ query-law s g q valid fit goal_ok =
     first part)
   where
     count : ℕ
-    count = suc (step_count q)
+    count = suc (query_step_count q)
 
     ranges : List ℕ
     ranges = s.ranges
@@ -149,16 +149,16 @@ query-law s g q valid fit goal_ok =
 
 pub run-says : (s : PlainSystem) (g : PlainGoalForms) (q : Wanted) (first rules : List ℕ) → system_valid s ≡ true →
     ranges_fit s.ranges ≡ true → Wants s g q first rules →
-    LiteralsEncode (run_assignment s g q first rules) (copy_part s.ranges (copies_part s.ranges (step_count q) 0).part.vars).columns s.ranges first ×
+    LiteralsEncode (run_assignment s g q first rules) (copy_part s.ranges (copies_part s.ranges (query_step_count q) 0).part.vars).columns s.ranges first ×
     StepsChooseTheseRules (run_assignment s g q first rules)
-    (choice_variables_per_step s.rules (copies_part s.ranges (suc (step_count q)) 0).tables
-    (copies_part s.ranges (suc (step_count q)) 0).part.vars) rules
+    (choice_variables_per_step s.rules (copies_part s.ranges (suc (query_step_count q)) 0).tables
+    (copies_part s.ranges (suc (query_step_count q)) 0).part.vars) rules
 run-says s g q first rules valid fit w =
     let ranges = s.ranges in
-    let count = suc (step_count q) in
+    let count = suc (query_step_count q) in
     let c = copies_part ranges count 0 in
     let m = c.part.vars in
-    let one = copy_part ranges (copies_part ranges (step_count q) 0).part.vars in
+    let one = copy_part ranges (copies_part ranges (query_step_count q) 0).part.vars in
     let r = run-is s rules first w.run (rules-valid s valid) w.in_range w.is in
     let run = w.run in
     let many : length run ≡ count = r.many ∙ ap suc w.many in

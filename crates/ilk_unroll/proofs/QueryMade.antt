@@ -12,17 +12,17 @@ use Rattle.ilk_cnf.proofs.Gates.{with_part-and_then}
 use Rattle.ilk_ir.specs.System.{PlainRule, PlainSystem, system_valid, in_ranges}
 use Rattle.ilk_forms.specs.declared.copy.VarValueAndBoundLits.{VarValueAndBoundLits}
 use Rattle.ilk_forms.specs.Copy.{LiteralsEncode, copy_part, copy_var_count}
-use Rattle.ilk_forms.specs.Leaf.{ranges_of}
+use Rattle.ilk_forms.specs.Leaf.{ranges_of_copy_lits}
 use Rattle.ilk_forms.proofs.CopyTable.{copy-ranges}
 use Rattle.ilk_forms.proofs.ColumnLaw.{ranges_fit}
 use Rattle.ilk_step.specs.declared.choice.Choice.{Choice}
 use Rattle.ilk_unroll.specs.declared.queries.Wanted.{Wanted}
 use Rattle.ilk_unroll.specs.declared.queries.Wanted.TheVariants.{Hazard, Breach, Step}
-use Rattle.ilk_unroll.specs.Goal.{PlainGoalForms, goal_valid, step_count_is_allowed, step_count, demands_of}
+use Rattle.ilk_unroll.specs.Goal.{PlainGoalForms, goal_valid, step_count_is_allowed, query_step_count, demands_of}
 use Rattle.ilk_unroll.specs.Run.{is_wanted_run}
 use Rattle.ilk_unroll.specs.Query.{PartWithCopyLits, copies_part, steps_part, demands_part, query_part, query_formula}
 use Rattle.ilk_unroll.specs.Assignment.{run_assignment, EncodesWantedRun}
-use Rattle.ilk_unroll.specs.Represented.{EncodesInRangeValues}
+use Rattle.ilk_unroll.specs.Represented.{ValuesInRangeAndEncoded}
 use Rattle.ilk_unroll.specs.Tables.{are_copies_within_vars, EachCopyHasTheseRanges, choice_variables_per_step, StepsChooseTheseRules}
 use Rattle.ilk_unroll.proofs.CopiesLaw.{copies-end, copies-are_copies_within_vars, copies-ranges, copies-many, are_copies_within_vars-more}
 use Rattle.ilk_unroll.proofs.StepsLaw.{steps-fits}
@@ -84,7 +84,7 @@ unrolled-within s g h tables valid inside have made =
 
 pub query_made :
     (s : PlainSystem) (g : PlainGoalForms) (q : Wanted) (steps : ℕ) (f h : Formula) (tables : List (List VarValueAndBoundLits)) →
-    steps ≡ step_count q → tables ≡ (copies_part s.ranges (suc steps) 0).tables →
+    steps ≡ query_step_count q → tables ≡ (copies_part s.ranges (suc steps) 0).tables →
     f
     ≡ with_part no_formula
     (and_then (copies_part s.ranges (suc steps) 0).part
@@ -117,15 +117,15 @@ query_made s g q steps f h tables count seen made last = last ∙ moved tables s
         (steps_part s.rules (c steps).tables (c steps).part.vars).clauses
         (demands_part (c steps).tables (demands_of g q) p.vars).clauses)
 
-    by_count : steps ≡ step_count q → with_part no_formula (and_then (c steps).part (λ m. and_then (steps_part s.rules (c steps).tables m) (demands_part (c steps).tables (demands_of g q)))) ≡ query_formula s g q
+    by_count : steps ≡ query_step_count q → with_part no_formula (and_then (c steps).part (λ m. and_then (steps_part s.rules (c steps).tables m) (demands_part (c steps).tables (demands_of g q)))) ≡ query_formula s g q
     by_count e = ap (λ (k : ℕ). with_part no_formula (and_then (c k).part (λ m. and_then (steps_part s.rules (c k).tables m) (demands_part (c k).tables (demands_of g q))))) e
 
-pub few-wanted : (q : Wanted) → step_count_is_allowed q ≡ true → step_count q ≤ 16
+pub few-wanted : (q : Wanted) → step_count_is_allowed q ≡ true → query_step_count q ≤ 16
 few-wanted (Hazard n) h = leb-true n 16 h
 few-wanted (Breach n) h = leb-true n 16 h
 few-wanted (Step n) h = leb-true n 16 (and_parts _ _ h).1
 
-pub tables-many : (s : PlainSystem) (steps : ℕ) (q : Wanted) (tables : List (List VarValueAndBoundLits)) → steps ≡ step_count q → tables ≡ (copies_part s.ranges (suc steps) 0).tables → step_count q < length tables
+pub tables-many : (s : PlainSystem) (steps : ℕ) (q : Wanted) (tables : List (List VarValueAndBoundLits)) → steps ≡ query_step_count q → tables ≡ (copies_part s.ranges (suc steps) 0).tables → query_step_count q < length tables
 tables-many s steps q tables count seen =
     let long : length tables ≡ suc steps = ap length seen ∙ copies-many (suc steps) s.ranges 0 in
     omega arith
@@ -136,8 +136,8 @@ pub record ReadsAs (s : PlainSystem) (g : PlainGoalForms) (q : Wanted) (a : List
   pub rules : List ℕ
   pub wanted : is_wanted_run s g q first rules ≡ true
   pub is : a ≡ run_assignment s g q first rules
-  pub ranges : ranges_of table ≡ s.ranges
-  pub told : EncodesInRangeValues a table (ranges_of table) first
+  pub ranges : ranges_of_copy_lits table ≡ s.ranges
+  pub told : ValuesInRangeAndEncoded a table (ranges_of_copy_lits table) first
   pub chosen : StepsChooseTheseRules a choices rules
 
 pub reads_as :
@@ -145,7 +145,7 @@ pub reads_as :
     (tables : List (List VarValueAndBoundLits)) (choices : List Choice) →
     system_valid s ≡ true → ranges_fit s.ranges ≡ true → goal_valid s.ranges g ≡ true →
     length a ≡ (query_formula s g q).vars → satisfies a (query_formula s g q).clauses ≡ true →
-    steps ≡ step_count q → tables ≡ (copies_part s.ranges (suc steps) 0).tables → slice_get tables 0 ≡ Some table →
+    steps ≡ query_step_count q → tables ≡ (copies_part s.ranges (suc steps) 0).tables → slice_get tables 0 ≡ Some table →
     choices
     ≡ choice_variables_per_step s.rules (copies_part s.ranges (suc steps) 0).tables
     (copies_part s.ranges (suc steps) 0).part.vars →
@@ -158,10 +158,10 @@ reads_as s g q a steps table tables choices valid fit goal_ok size sat count mad
     let one : ℕ → List VarValueAndBoundLits = λ k. (copy_part s.ranges (copies_part s.ranges k 0).part.vars).columns in
     let variables : ℕ → List Choice = λ k. choice_variables_per_step s.rules (copies_part s.ranges (suc k) 0).tables (copies_part s.ranges (suc k) 0).part.vars in
     let here : one steps ≡ table = same_Some (one steps) table (ap (λ (ts : List (List VarValueAndBoundLits)). slice_get ts 0) (sym made) ∙ at) in
-    let first : table ≡ one (step_count q) = sym here ∙ ap one count in
-    let have : ranges_of table ≡ s.ranges = ap ranges_of first ∙ copy-ranges s.ranges (copies_part s.ranges (step_count q) 0).part.vars fit in
-    let read : LiteralsEncode a (one (step_count q)) s.ranges run.0 = subst (λ (u : List Bool). LiteralsEncode u (one (step_count q)) s.ranges run.0) (sym run.3) says.0 in
-    let chosen : StepsChooseTheseRules a (variables (step_count q)) run.1 = subst (λ (u : List Bool). StepsChooseTheseRules u (variables (step_count q)) run.1) (sym run.3) says.1 in
+    let first : table ≡ one (query_step_count q) = sym here ∙ ap one count in
+    let have : ranges_of_copy_lits table ≡ s.ranges = ap ranges_of_copy_lits first ∙ copy-ranges s.ranges (copies_part s.ranges (query_step_count q) 0).part.vars fit in
+    let read : LiteralsEncode a (one (query_step_count q)) s.ranges run.0 = subst (λ (u : List Bool). LiteralsEncode u (one (query_step_count q)) s.ranges run.0) (sym run.3) says.0 in
+    let chosen : StepsChooseTheseRules a (variables (query_step_count q)) run.1 = subst (λ (u : List Bool). StepsChooseTheseRules u (variables (query_step_count q)) run.1) (sym run.3) says.1 in
     record {
       first = run.0;
       rules = run.1;
@@ -170,7 +170,7 @@ reads_as s g q a steps table tables choices valid fit goal_ok size sat count mad
       ranges = have;
       told = (
         ap (in_ranges run.0) have ∙ w.in_range,
-        subst (λ (t : List VarValueAndBoundLits). LiteralsEncode a t (ranges_of table) run.0) (sym first) (subst (λ (rs : List ℕ). LiteralsEncode a (one (step_count q)) rs run.0) (sym have) read),
+        subst (λ (t : List VarValueAndBoundLits). LiteralsEncode a t (ranges_of_copy_lits table) run.0) (sym first) (subst (λ (rs : List ℕ). LiteralsEncode a (one (query_step_count q)) rs run.0) (sym have) read),
       );
       chosen = subst (λ (cs : List Choice). StepsChooseTheseRules a cs run.1) (sym (seen ∙ ap variables count)) chosen;
     }

@@ -10,12 +10,12 @@ use Rattle.ilk_cnf.specs.Truth.{is_true}
 use Rattle.ilk_ints.specs.Named.{one_hot_bits}
 use Rattle.ilk_ir.specs.System.{in_ranges}
 use Rattle.ilk_forms.specs.declared.copy.VarValueAndBoundLits.{VarValueAndBoundLits}
-use Rattle.ilk_forms.specs.Leaf.{ranges_of}
+use Rattle.ilk_forms.specs.Leaf.{ranges_of_copy_lits}
 use Rattle.ilk_forms.proofs.ColumnLaw.{ranges_fit}
 use Rattle.ilk_forms.proofs.CopyLaw.{ranges_fit-small}
 use Rattle.ilk_step.specs.declared.choice.Choice.{Choice}
 use Rattle.ilk_step.specs.Choice.{Chooses}
-use Rattle.ilk_unroll.specs.Represented.{EncodesInRangeValues}
+use Rattle.ilk_unroll.specs.Represented.{ValuesInRangeAndEncoded}
 use Rattle.ilk_unroll.specs.Tables.{StepsChooseTheseRules, choices_begin_at_or_before}
 
 -- The literals of the values from `i` on say that `value`, one of these, is the value.
@@ -30,22 +30,23 @@ pub record FirstValue (a : List Bool) (column : VarValueAndBoundLits) (others : 
   pub split : values ≡ value ∷ rest
   pub below : value < length column.values
   pub says : map (is_true a) column.values ≡ one_hot_bits value 0 (length column.values)
-  pub told : EncodesInRangeValues a others (ranges_of others) rest
+  pub told : ValuesInRangeAndEncoded a others (ranges_of_copy_lits others) rest
 
-first_value-parts : (a : List Bool) (column : VarValueAndBoundLits) (others : List VarValueAndBoundLits) (values : List ℕ) → EncodesInRangeValues a (column ∷ others) (ranges_of (column ∷ others)) values → FirstValue a column others values
+first_value-parts : (a : List Bool) (column : VarValueAndBoundLits) (others : List VarValueAndBoundLits) (values : List ℕ) → ValuesInRangeAndEncoded a (column ∷ others) (ranges_of_copy_lits (column ∷ others)) values
+    → FirstValue a column others values
 first_value-parts a column others [] h = absurd h.1
 first_value-parts a column others (value ∷ rest) h =
-    let parts = and_parts (ltb value (length column.values)) (in_ranges rest (ranges_of others)) h.0 in
+    let parts = and_parts (ltb value (length column.values)) (in_ranges rest (ranges_of_copy_lits others)) h.0 in
     record { value = value; rest = rest; split = refl; below = ltb-true value (length column.values) parts.0; says = h.1.0; told = (parts.1, h.1.2) }
 
-pub first_value : (a : List Bool) (column : VarValueAndBoundLits) (all others : List VarValueAndBoundLits) (values : List ℕ) → all ≡ column ∷ others → EncodesInRangeValues a all (ranges_of all) values → FirstValue a column others values
-first_value a column all others values split h = first_value-parts a column others values (subst (λ (columns : List VarValueAndBoundLits). EncodesInRangeValues a columns (ranges_of columns) values) split h)
+pub first_value : (a : List Bool) (column : VarValueAndBoundLits) (all others : List VarValueAndBoundLits) (values : List ℕ) → all ≡ column ∷ others → ValuesInRangeAndEncoded a all (ranges_of_copy_lits all) values → FirstValue a column others values
+first_value a column all others values split h = first_value-parts a column others values (subst (λ (columns : List VarValueAndBoundLits). ValuesInRangeAndEncoded a columns (ranges_of_copy_lits columns) values) split h)
 
 -- The values that are still to be read: those of `columns`.
 pub record ValuesLeft (a : List Bool) (columns : List VarValueAndBoundLits) (done values : List ℕ) : Type 0 where
   pub rest : List ℕ
   pub whole : done ++ rest ≡ values
-  pub told : EncodesInRangeValues a columns (ranges_of columns) rest
+  pub told : ValuesInRangeAndEncoded a columns (ranges_of_copy_lits columns) rest
 
 pub values-next :
     (a : List Bool) (column : VarValueAndBoundLits) (all others : List VarValueAndBoundLits) (v : ℕ) (done longer values : List ℕ) →
@@ -67,7 +68,7 @@ values-next a column all others v done longer values split only pushed h =
 
 pub no_values-left : (a : List Bool) (columns : List VarValueAndBoundLits) (done values : List ℕ) → columns ≡ [] → ValuesLeft a columns done values → done ≡ values
 no_values-left a columns done values none h =
-    let in_range : in_ranges h.rest [] ≡ true = ap (λ (cs : List VarValueAndBoundLits). in_ranges h.rest (ranges_of cs)) (sym none) ∙ h.told.0 in
+    let in_range : in_ranges h.rest [] ≡ true = ap (λ (cs : List VarValueAndBoundLits). in_ranges h.rest (ranges_of_copy_lits cs)) (sym none) ∙ h.told.0 in
     sym (append-nil done) ∙ ap (λ (us : List ℕ). done ++ us) (sym (ends h.rest in_range)) ∙ h.whole
   where
     ends : (ws : List ℕ) → in_ranges ws [] ≡ true → ws ≡ []
@@ -81,7 +82,7 @@ dropped (y ∷ xs) zero x rest e = (let same : y ≡ x = cc in ap Some same)
 dropped (y ∷ xs) (suc j) x rest e = dropped xs j x rest e
 
 pub few-values : (columns : List VarValueAndBoundLits) (i : ℕ) (column : VarValueAndBoundLits) (rest : List VarValueAndBoundLits) →
-    list_all (λ range. nat_lt range 256) (ranges_of columns) ≡ true → drop i columns ≡ column ∷ rest → length column.values ≤ 255
+    list_all (λ range. nat_lt range 256) (ranges_of_copy_lits columns) ≡ true → drop i columns ≡ column ∷ rest → length column.values ≤ 255
 few-values columns i column rest h split =
     let each = sym (list_all-map (λ (range : ℕ). nat_lt range 256) (λ (c : VarValueAndBoundLits). length c.values) columns) ∙ h in
     let less = ltb-true (length column.values) 256 (list_all-slice_get (λ (c : VarValueAndBoundLits). nat_lt (length c.values) 256) columns i column each (dropped columns i column rest split)) in

@@ -12,7 +12,7 @@ use Rattle.ilk_cnf.proofs.Gates.{with_part-and_then}
 use Rattle.ilk_ir.specs.System.{PlainRule, rule_valid, in_ranges}
 use Rattle.ilk_forms.specs.declared.copy.VarValueAndBoundLits.{VarValueAndBoundLits}
 use Rattle.ilk_forms.specs.Copy.{LiteralsEncode}
-use Rattle.ilk_forms.specs.Leaf.{has_lits_within_vars, ranges_of}
+use Rattle.ilk_forms.specs.Leaf.{has_lits_within_vars, ranges_of_copy_lits}
 use Rattle.ilk_forms.proofs.DemandLaw.{PartFits}
 use Rattle.ilk_step.specs.declared.choice.Choice.{Choice}
 use Rattle.ilk_step.specs.Choice.{Chooses}
@@ -31,9 +31,9 @@ rules_valid-at : (ranges other : List ℕ) (rules : List PlainRule) → other �
 rules_valid-at ranges other rules e h = ap (λ (rs : List ℕ). list_all (rule_valid rs) rules) e ∙ h
 
 pub one-fits : (now next : List VarValueAndBoundLits) (ranges : List ℕ) (rules : List PlainRule) (n : ℕ) →
-    has_lits_within_vars n now ≡ true → has_lits_within_vars n next ≡ true → ranges_of now ≡ ranges → ranges_of next ≡ ranges →
+    has_lits_within_vars n now ≡ true → has_lits_within_vars n next ≡ true → ranges_of_copy_lits now ≡ ranges → ranges_of_copy_lits next ≡ ranges →
     list_all (rule_valid ranges) rules ≡ true → PartFits n (step_part rules now next n)
-one-fits now next ranges rules n hn hx rn rx valid = step-fits rules now next n hn hx (rx ∙ sym rn) (rules_valid-at ranges (ranges_of now) rules rn valid)
+one-fits now next ranges rules n hn hx rn rx valid = step-fits rules now next n hn hx (rx ∙ sym rn) (rules_valid-at ranges (ranges_of_copy_lits now) rules rn valid)
 
 pub steps-fits : (tables : List (List VarValueAndBoundLits)) (ranges : List ℕ) (rules : List PlainRule) (n : ℕ) → are_copies_within_vars n tables ≡ true → EachCopyHasTheseRanges ranges tables → list_all (rule_valid ranges) rules ≡ true →
     PartFits n (steps_part rules tables n)
@@ -81,7 +81,7 @@ one-law :
     ExtensionsAreExactly a (step_part rules now next n).vars (step_part rules now next n).clauses
     (AreStepBits now rules a ws xs)
 one-law now next ws xs a n ranges rules size hn hx valid =
-    let back : ranges ≡ ranges_of now = sym hn.has_ranges in
+    let back : ranges ≡ ranges_of_copy_lits now = sym hn.has_ranges in
     step-law rules now next ws xs a n (record {
       size = size;
       now_in = hn.within;
@@ -89,7 +89,7 @@ one-law now next ws xs a n ranges rules size hn hx valid =
       same = hx.has_ranges ∙ back;
       now_say = subst (λ (rs : List ℕ). LiteralsEncode a now rs ws) back hn.says;
       next_say = subst (λ (rs : List ℕ). LiteralsEncode a next rs xs) back hx.says;
-    }) (rules_valid-at ranges (ranges_of now) rules hn.has_ranges valid) (ap (in_ranges ws) hn.has_ranges ∙ hn.in_range) (ap (in_ranges xs) hn.has_ranges ∙ hx.in_range)
+    }) (rules_valid-at ranges (ranges_of_copy_lits now) rules hn.has_ranges valid) (ap (in_ranges ws) hn.has_ranges ∙ hn.in_range) (ap (in_ranges xs) hn.has_ranges ∙ hx.in_range)
 
 pub steps-law :
     (tables : List (List VarValueAndBoundLits)) (run : List (List ℕ)) (a : List Bool) (n : ℕ) (ranges : List ℕ)

@@ -6,7 +6,7 @@ use Rattle.ilk_forms.specs.declared.copy.VarValueAndBoundLits.{VarValueAndBoundL
 use Rattle.ilk_forms.specs.Demand.{some_lit_or_form_bits}
 use Rattle.ilk_forms.specs.Violated.{form_fails_bits}
 use Rattle.ilk_step.specs.Step.{step_bits}
-use Rattle.ilk_unroll.specs.Goal.{PlainGoalForms, CopyDemand, demands_of, step_count}
+use Rattle.ilk_unroll.specs.Goal.{PlainGoalForms, CopyDemand, demands_of, query_step_count}
 use Rattle.ilk_unroll.specs.Query.{copies_part, copy_lits_at}
 use Rattle.ilk_unroll.specs.Run.{run_firing_rules, is_wanted_run}
 use Rattle.ilk_unroll.specs.declared.queries.Wanted.{Wanted}
@@ -40,7 +40,7 @@ copies_and_steps_bits s tables run rules = copies_bits s.ranges run ++ steps_bit
 
 -- The truth values of all variables of a query's formula, for the value lists and rules of a run.
 abbrev pub run_bits : PlainSystem → PlainGoalForms → Wanted → List (List ℕ) → List ℕ → List Bool
-run_bits s g q run rules = with_demands (copies_part s.ranges (suc (step_count q)) 0).tables
+run_bits s g q run rules = with_demands (copies_part s.ranges (suc (query_step_count q)) 0).tables
   where
     with_demands : List (List VarValueAndBoundLits) → List Bool
     with_demands tables =

@@ -25,10 +25,10 @@ goal_valid ranges g =
     tree_valid ranges g.start && tree_valid ranges g.hazard && tree_valid ranges g.wellformed && list_all (tree_valid ranges) g.families
 
 -- The number of steps of the runs for which a query asks.
-abbrev pub step_count : Wanted → ℕ
-step_count (Hazard n) = n
-step_count (Breach n) = n
-step_count (Step n) = n
+abbrev pub query_step_count : Wanted → ℕ
+query_step_count (Hazard n) = n
+query_step_count (Breach n) = n
+query_step_count (Step n) = n
 
 -- Returns whether a query has at most 16 steps, and at least one if it asks for an induction step.
 abbrev pub step_count_is_allowed : Wanted → Bool

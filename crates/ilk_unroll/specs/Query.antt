@@ -6,11 +6,11 @@ use Rattle.ilk_cnf.specs.Formula.{Formula}
 use Rattle.ilk_cnf.specs.Part.{FormulaPart, empty_part, and_then, with_part}
 use Rattle.ilk_ir.specs.System.{PlainRule, PlainSystem}
 use Rattle.ilk_forms.specs.declared.copy.VarValueAndBoundLits.{VarValueAndBoundLits}
-use Rattle.ilk_forms.specs.Copy.{PartWithAllVarLits, copy_part}
+use Rattle.ilk_forms.specs.Copy.{FormulaPartAndAllVarLits, copy_part}
 use Rattle.ilk_forms.specs.Demand.{some_lit_or_form_part}
 use Rattle.ilk_forms.specs.Violated.{form_fails_part}
 use Rattle.ilk_step.specs.Step.{step_part}
-use Rattle.ilk_unroll.specs.Goal.{PlainGoalForms, CopyDemand, step_count, demands_of}
+use Rattle.ilk_unroll.specs.Goal.{PlainGoalForms, CopyDemand, query_step_count, demands_of}
 use Rattle.ilk_unroll.specs.declared.queries.Wanted.{Wanted}
 
 -- A formula part, and the literals of each copy that it adds (`tables`).
@@ -20,7 +20,7 @@ pub record PartWithCopyLits : Type 0 where
 
 -- Puts one copy before the later ones: its clauses and literals come before theirs, its variables
 -- after theirs.
-abbrev pub prepend_copy_part : PartWithAllVarLits → PartWithCopyLits → PartWithCopyLits
+abbrev pub prepend_copy_part : FormulaPartAndAllVarLits → PartWithCopyLits → PartWithCopyLits
 prepend_copy_part one later =
     record {
       part = record { vars = one.part.vars; clauses = one.part.clauses ++ later.part.clauses };
@@ -45,19 +45,19 @@ copy_lits_at tables j = slice_index_or tables j []
 
 -- The formula part, after the first `n` variables, that says that the form of demand `d` holds, or
 -- fails, in its copy.
-abbrev pub demanded_part : List (List VarValueAndBoundLits) → CopyDemand → ℕ → FormulaPart
-demanded_part tables d n =
+abbrev pub one_demand_part : List (List VarValueAndBoundLits) → CopyDemand → ℕ → FormulaPart
+one_demand_part tables d n =
     if d.holds then some_lit_or_form_part (copy_lits_at tables d.copy) [] d.form n else form_fails_part (copy_lits_at tables d.copy) d.form n
 
 -- The formula part with all demands, after the first `n` variables.
 abbrev pub demands_part : List (List VarValueAndBoundLits) → List CopyDemand → ℕ → FormulaPart
 demands_part tables [] n = empty_part n
-demands_part tables (d ∷ ds) n = and_then (demanded_part tables d n) (demands_part tables ds)
+demands_part tables (d ∷ ds) n = and_then (one_demand_part tables d n) (demands_part tables ds)
 
 -- The formula part of query `q`: a copy for the first values and one after each step, the steps,
 -- and the query's demands.
 abbrev pub query_part : PlainSystem → PlainGoalForms → Wanted → FormulaPart
-query_part s g q = after (copies_part s.ranges (suc (step_count q)) 0)
+query_part s g q = after (copies_part s.ranges (suc (query_step_count q)) 0)
   where
     after : PartWithCopyLits → FormulaPart
     after copies = and_then copies.part (λ m. and_then (steps_part s.rules copies.tables m) (demands_part copies.tables (demands_of g q)))

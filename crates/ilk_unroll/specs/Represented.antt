@@ -16,8 +16,8 @@ use Rattle.ilk_unroll.specs.declared.queries.Wanted.{Wanted}
 
 -- Holds if the values are within the ranges, and under assignment `a` the literals of a copy say
 -- exactly them.
-abbrev pub EncodesInRangeValues : List Bool → List VarValueAndBoundLits → List ℕ → List ℕ → Type 0
-EncodesInRangeValues a columns ranges values = IsTrue (in_ranges values ranges) × LiteralsEncode a columns ranges values
+abbrev pub ValuesInRangeAndEncoded : List Bool → List VarValueAndBoundLits → List ℕ → List ℕ → Type 0
+ValuesInRangeAndEncoded a columns ranges values = IsTrue (in_ranges values ranges) × LiteralsEncode a columns ranges values
 
 -- Holds if assignment `a` has a truth value for each variable of the formula, and satisfies it.
 abbrev pub IsSatisfiedBy : Formula → List Bool → Type 0
@@ -35,13 +35,13 @@ IsSatisfiedByEachRun s g q =
     (first rules : List ℕ) → IsTrue (is_wanted_run s g q first rules) → IsSatisfiedBy (query_formula s g q) (run_assignment s g q first rules)
 
 -- The copies of a run of `steps` steps, whose variables begin at 1.
-abbrev pub run_copies : List ℕ → ℕ → PartWithCopyLits
-run_copies ranges steps = copies_part ranges (suc steps) 0
+abbrev pub run_copies_part : List ℕ → ℕ → PartWithCopyLits
+run_copies_part ranges steps = copies_part ranges (suc steps) 0
 
 -- The formula part with the copies of a run of `steps` steps, and the steps between them.
 abbrev pub run_part : PlainSystem → ℕ → FormulaPart
-run_part s steps = and_then (run_copies s.ranges steps).part (steps_part s.rules (run_copies s.ranges steps).tables)
+run_part s steps = and_then (run_copies_part s.ranges steps).part (steps_part s.rules (run_copies_part s.ranges steps).tables)
 
 -- For each step of a run of `steps` steps, the variables that say which rule it chooses.
 abbrev pub run_choice_variables : PlainSystem → ℕ → List Choice
-run_choice_variables s steps = choice_variables_per_step s.rules (run_copies s.ranges steps).tables (run_copies s.ranges steps).part.vars
+run_choice_variables s steps = choice_variables_per_step s.rules (run_copies_part s.ranges steps).tables (run_copies_part s.ranges steps).part.vars

@@ -5,7 +5,7 @@ use Rattle.ilk_base.specs.Option.{is_some_and}
 use Rattle.ilk_ir.specs.Tree.{tree_holds}
 use Rattle.ilk_ir.specs.System.{PlainSystem, in_ranges, after_rule_number}
 use Rattle.ilk_forms.specs.Gates.{bools_are_equal}
-use Rattle.ilk_unroll.specs.Goal.{PlainGoalForms, CopyDemand, step_count, demands_of}
+use Rattle.ilk_unroll.specs.Goal.{PlainGoalForms, CopyDemand, query_step_count, demands_of}
 use Rattle.ilk_unroll.specs.declared.queries.Wanted.{Wanted}
 
 -- Returns the value lists of the run that begins with `values` and fires the rules with these
@@ -23,5 +23,5 @@ demand_is_met_by_run run d = is_some_and (slice_get run d.copy) (λ values. bool
 -- query `q` asks for it.
 abbrev pub is_wanted_run : PlainSystem → PlainGoalForms → Wanted → List ℕ → List ℕ → Bool
 is_wanted_run s g q first rules =
-    in_ranges first s.ranges && length rules == step_count q
+    in_ranges first s.ranges && length rules == query_step_count q
     && is_some_and (run_firing_rules s first rules) (λ run. list_all (demand_is_met_by_run run) (demands_of g q))

@@ -5,7 +5,7 @@ use Rattle.std.specs.List.{list_all}
 use Rattle.ilk_ir.specs.System.{PlainRule}
 use Rattle.ilk_ir.specs.Tree.{Tree, tree_valid}
 use Rattle.ilk_forms.specs.declared.copy.VarValueAndBoundLits.{VarValueAndBoundLits}
-use Rattle.ilk_forms.specs.Leaf.{has_lits_within_vars, ranges_of}
+use Rattle.ilk_forms.specs.Leaf.{has_lits_within_vars, ranges_of_copy_lits}
 use Rattle.ilk_step.specs.declared.choice.Choice.{Choice}
 use Rattle.ilk_step.specs.Choice.{Chooses}
 use Rattle.ilk_step.specs.Step.{step_part}
@@ -16,12 +16,12 @@ are_copies_within_vars n tables = list_all (has_lits_within_vars n) tables
 
 -- Returns whether form `t` is valid over the variables of each copy.
 abbrev pub is_valid_in_each : List (List VarValueAndBoundLits) → Tree → Bool
-is_valid_in_each tables t = list_all (λ table. tree_valid (ranges_of table) t) tables
+is_valid_in_each tables t = list_all (λ table. tree_valid (ranges_of_copy_lits table) t) tables
 
 -- Holds if the variables of each copy have these ranges.
 abbrev pub EachCopyHasTheseRanges : List ℕ → List (List VarValueAndBoundLits) → Type 0
 EachCopyHasTheseRanges ranges [] = Unit {0}
-EachCopyHasTheseRanges ranges (table ∷ tables) = (ranges_of table ≡ ranges) × EachCopyHasTheseRanges ranges tables
+EachCopyHasTheseRanges ranges (table ∷ tables) = (ranges_of_copy_lits table ≡ ranges) × EachCopyHasTheseRanges ranges tables
 
 -- For each step between the copies, the variables after the first `n` that say which rule it
 -- chooses.

@@ -2,7 +2,7 @@ ghost use Rattle.std.specs.Prelude.{◌≡◌, ◌+◌, ◌<◌, ◌≤◌, ◌�
 ghost use Rattle.ilk_cnf.specs.Part.{with_part};
 ghost use Rattle.ilk_ir.specs.Form.{tree_of, trees_of};
 ghost use Rattle.ilk_ir.specs.Tree.{all_of, more, negation};
-ghost use Rattle.ilk_unroll.specs.Goal.{demand_form_holds_in_copy, demand_form_fails_in_copy, form_demands_below_copy, demands_of, plain_goal, step_count};
+ghost use Rattle.ilk_unroll.specs.Goal.{demand_form_holds_in_copy, demand_form_fails_in_copy, form_demands_below_copy, demands_of, plain_goal, query_step_count};
 ghost use Rattle.ilk_unroll.specs.Query.{demands_part};
 ghost use Rattle.ilk_unroll.specs.Tables.{are_copies_within_vars, is_valid_in_each};
 
@@ -244,8 +244,8 @@ pub(crate) fn add_query_demands(
     goal: &Goal,
     q: Wanted,
 ) -> Result<(), AllocError>
-    requires steps { step_count q < length tables.now }
-    requires few { step_count q ≤ 16 }
+    requires steps { query_step_count q < length tables.now }
+    requires few { query_step_count q ≤ 16 }
     requires within { IsTrue (are_copies_within_vars cnf.old.vars tables.now) }
     requires start { IsTrue (is_valid_in_each tables.now (tree_of goal.now.start)) }
     requires hazard { IsTrue (is_valid_in_each tables.now (tree_of goal.now.hazard)) }

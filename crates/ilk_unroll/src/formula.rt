@@ -1,6 +1,6 @@
 ghost use Rattle.std.specs.Prelude.{◌≡◌, ◌≤◌, ◌*◌, suc, sum, OnOk, IfOk, IsTrue};
 ghost use Rattle.ilk_ir.specs.System.{plain_system, system_valid};
-ghost use Rattle.ilk_unroll.specs.Goal.{plain_goal, goal_valid, step_count_is_allowed, step_count};
+ghost use Rattle.ilk_unroll.specs.Goal.{plain_goal, goal_valid, step_count_is_allowed, query_step_count};
 ghost use Rattle.ilk_unroll.specs.Query.{copies_part, query_formula};
 ghost use Rattle.ilk_unroll.specs.Represented.{IsSatisfiedByEachRun, IsSatisfiedOnlyByRuns};
 
@@ -24,8 +24,8 @@ pub fn query(alloc: Global, system: &System, goal: &Goal, q: Wanted) -> Result<C
         (λ cnf. cnf ≡ query_formula (plain_system system.now) (plain_goal goal.now) q) }
 
     ensures copies { OnOk result
-        ((copies_part system.now.ranges (suc (step_count q)) 0).part.vars
-        ≤ 2 * (suc (step_count q) * sum system.now.ranges)) }
+        ((copies_part system.now.ranges (suc (query_step_count q)) 0).part.vars
+        ≤ 2 * (suc (query_step_count q) * sum system.now.ranges)) }
 
     ensures sound { OnOk result
         (IsSatisfiedOnlyByRuns (plain_system system.now) (plain_goal goal.now) q) }

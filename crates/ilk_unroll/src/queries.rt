@@ -1,5 +1,5 @@
 ghost use Rattle.std.specs.Prelude.{◌≡◌};
-ghost use Rattle.ilk_unroll.specs.Goal.{step_count};
+ghost use Rattle.ilk_unroll.specs.Goal.{query_step_count};
 
 use ilk_ir::{Form, Forms};
 
@@ -19,7 +19,7 @@ pub enum Wanted {
 impl Wanted {
     /// Returns the number of steps of the run.
     pub fn steps(self) -> u32
-        ensures { result ≡ step_count self }
+        ensures { result ≡ query_step_count self }
     {
         match self {
             Wanted::Hazard(n) => n,

@@ -3,12 +3,12 @@ ghost use Rattle.std.specs.List.{list_all};
 ghost use Rattle.ilk_cnf.specs.Truth.{is_true, satisfies};
 ghost use Rattle.ilk_ints.specs.Named.{one_hot_bits};
 ghost use Rattle.ilk_ir.specs.System.{plain_system, system_valid};
-ghost use Rattle.ilk_forms.specs.Leaf.{ranges_of};
+ghost use Rattle.ilk_forms.specs.Leaf.{ranges_of_copy_lits};
 ghost use Rattle.ilk_unroll.specs.Goal.{plain_goal, goal_valid, step_count_is_allowed};
 ghost use Rattle.ilk_unroll.specs.Run.{is_wanted_run};
 ghost use Rattle.ilk_unroll.specs.Query.{query_formula};
 ghost use Rattle.ilk_unroll.specs.Assignment.{run_assignment};
-ghost use Rattle.ilk_unroll.specs.Represented.{EncodesInRangeValues};
+ghost use Rattle.ilk_unroll.specs.Represented.{ValuesInRangeAndEncoded};
 ghost use Rattle.ilk_unroll.specs.Tables.{StepsChooseTheseRules, choices_begin_at_or_before};
 
 use crate::queries::{Goal, Wanted};
@@ -52,12 +52,13 @@ fn read_value(a: &Assignment, values: &[Lit]) -> u8
 
 // Returns the values that the literals of a copy say.
 fn read_values(alloc: Global, a: &Assignment, table: &CopyLits) -> Result<Values, AllocError>
-    requires bytes { IsTrue (list_all (λ range. nat_lt range 256) (ranges_of table.now)) }
+    requires bytes { IsTrue (list_all (λ range. nat_lt range 256) (ranges_of_copy_lits table.now)) }
     requires told { (values : List ℕ)
-        × EncodesInRangeValues a.now table.now (ranges_of table.now) values }
+        × ValuesInRangeAndEncoded a.now table.now (ranges_of_copy_lits table.now) values }
     ensures { IfOk result
         (λ read. (values : List ℕ) →
-        EncodesInRangeValues a.now table.now (ranges_of table.now) values → read ≡ values) }
+        ValuesInRangeAndEncoded a.now table.now (ranges_of_copy_lits table.now) values
+        → read ≡ values) }
 {
     let mut values = Values::new(alloc);
     for column in table.as_slice() {

@@ -5,7 +5,7 @@ ghost use Rattle.ilk_cnf.specs.Part.{with_part, clauses_from_lists};
 ghost use Rattle.ilk_ir.specs.System.{plain_rule, plain_system, system_valid};
 ghost use Rattle.ilk_forms.specs.Copy.{copy_var_count};
 ghost use Rattle.ilk_unroll.specs.Query.{copies_part, steps_part};
-ghost use Rattle.ilk_unroll.specs.Represented.{run_choice_variables, run_copies, run_part};
+ghost use Rattle.ilk_unroll.specs.Represented.{run_choice_variables, run_copies_part, run_part};
 ghost use Rattle.ilk_unroll.specs.Tables.{are_copies_within_vars, EachCopyHasTheseRanges, choice_variables_per_step, choices_begin_at_or_before};
 
 use ilk_base::Row;
@@ -109,7 +109,7 @@ pub(crate) fn unroll(
     requires steps { steps < 2 ^ 31 }
     requires valid { IsTrue (system_valid (plain_system system.now)) }
     ensures tables { IfOk result
-        (λ unrolled. unrolled.tables ≡ (run_copies system.now.ranges steps).tables) }
+        (λ unrolled. unrolled.tables ≡ (run_copies_part system.now.ranges steps).tables) }
     ensures choices { IfOk result
         (λ unrolled. unrolled.choices ≡ run_choice_variables (plain_system system.now) steps) }
     ensures made { OnOk result

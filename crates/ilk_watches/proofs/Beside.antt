@@ -6,7 +6,7 @@ use Rattle.ilk_cnf.specs.Literal.{Literal, negated_lit, same_lit, has_distinct_v
 use Rattle.ilk_log.specs.Propagation.{is_false}
 use Rattle.ilk_trail.specs.declared.entry.Entry.{Entry}
 use Rattle.ilk_trail.specs.Laws.{lits_of}
-use Rattle.ilk_arena.specs.Arena.{ArenaContent, place, chain_of, chains_with_first, with_watch_moved, contains_reference, chains_without, without_reference}
+use Rattle.ilk_arena.specs.Arena.{ArenaContent, place, chain_of, chains_with_first, with_watch_moved, contains_reference, chains_after_removal_from, without_reference}
 use Rattle.ilk_arena.proofs.Watching.{place-one, stands-with_watch_moved}
 use Rattle.ilk_watches.specs.Chained.{SameClauses}
 use Rattle.ilk_watches.specs.Visits.{AtMostOneLeftChain, CoveredExceptInChains, OtherWatchesTrueBefore, count_rest_of_chain, rest_from}
@@ -22,7 +22,7 @@ pub record StepAt (a b : ArenaContent) (es fs : List Entry) (f : Literal) : Type
 
 chain-kept : (a : ArenaContent) (c : ℕ) (f t g : Literal) → g ≢ f → g ≢ t → chain_of (with_watch_moved a c f t) g ≡ chain_of a g
 chain-kept a c f t g nf nt =
-    let out = chains_without f c a.chains in
+    let out = chains_after_removal_from f c a.chains in
     let put : get_or (chains_with_first t c out) (place g) [] ≡ get_or out (place g) [] = get_or-set_other out (place t) (place g) (c ∷ get_or out (place t) []) [] (λ e. nt (place-one g t e)) in
     put ∙ get_or-set_other a.chains (place f) (place g) (without_reference c (get_or a.chains (place f) [])) [] (λ e. nf (place-one g f e))
 

@@ -32,7 +32,7 @@ impl ConfCommand {
 }
 
 impl ExtraCommand {
-    /// Returns the maximum number of bytes of the extra input, which is below 2^40.
+    /// Returns the most bytes that the command's second input, such as a certificate, may have.
     pub fn limit(self) -> u64
         ensures limit { result ≡ extra_limit self }
         ensures small { result < 2 ^ 40 }

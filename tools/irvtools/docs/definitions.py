@@ -62,7 +62,7 @@ STAGES = [
 ]
 # First names of a formula's construction: a query's formula, a plant's system and goal. Only the
 # last stage goes on from these.
-FORMULA = frozenset({"query_formula", "system_of_plant", "goal_of_plant"})
+FORMULA = frozenset({"query_formula", "system_of_plant", "goal_forms_of_plant"})
 # first definitions of some statements and of a configuration's rules
 FOREVER = [("ilk_forever.specs.Forever", "AlwaysKeepsInvariant")]
 EVENTS = [("ilk_queries.specs.Asked", "HasQueriedRun")]

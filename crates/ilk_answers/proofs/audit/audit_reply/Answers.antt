@@ -1,6 +1,6 @@
 use Rattle.std.proofs.Common.{◌<◌, ◌^◌, inl, inr, length, ap, ◌∙◌, ◌≡◌, List, ℕ, subst, arith}
 use Rattle.ilk_behave.specs.Behaviour.{system_of_plant}
-use Rattle.ilk_queries.specs.Goal.{goal_of_plant}
+use Rattle.ilk_queries.specs.Goal.{goal_forms_of_plant}
 use Rattle.ilk_plant.specs.Plant.{PlantLists}
 use Rattle.ilk_plant_audit.specs.Audited.{AnswersEnd}
 use Rattle.ilk_plant_audit.specs.PlantAudit.{PlantAudit}
@@ -34,6 +34,6 @@ returns-in_ok-text-in-Rejected-clause-reply c same bytes fed short =
     let fits : length bytes < 2 ^ 63 = grind (arith, short) in
     inr (record {
       line = c.in-Rejected.line;
-      first = c.rejected_line_is_first_bad.ensures (system_of_plant p) (goal_of_plant p) bytes c.in-Rejected.line fits ends;
+      first = c.rejected_line_is_first_bad.ensures (system_of_plant p) (goal_forms_of_plant p) bytes c.in-Rejected.line fits ends;
       reply = c.with_report-in-Rejected.ensures ∙ ap (reply IsRejected) c.in_ok-text-in-Rejected.ensures;
     })

@@ -4,4 +4,4 @@ use Rattle.ilk_behave.proofs.settings.push_set_locks.Given as goal
 
 abbrev pub invariant-loop-x : goal.invariant-loop-x
 invariant-loop-x l =
-    l.sets ++ settings.set_locks l.plant (drop l.x-index l.x-items) l.hold ≡ l.initial.sets ++ settings.set_locks l.plant l.x-items l.hold
+    l.sets ++ settings.set_lock_of_each_section l.plant (drop l.x-index l.x-items) l.hold ≡ l.initial.sets ++ settings.set_lock_of_each_section l.plant l.x-items l.hold

@@ -3,7 +3,7 @@ use Rattle.std.proofs.lemmas.Option.{slice_get_within}
 use Rattle.ilk_model.specs.Hazard.{hazard}
 use Rattle.ilk_model.specs.declared.event.Event.{Event}
 use Rattle.ilk_drive.specs.Drive.{automatic_events, initial_drive_state}
-use Rattle.ilk_drive.specs.Progress.{state_and_commands_left_after}
+use Rattle.ilk_drive.specs.Progress.{state_and_commands_after_first_n}
 use Rattle.ilk_drive.specs.declared.outcome.Driven.{Driven}
 use Rattle.ilk_drive.proofs.Drives.{drive-few, drive-run, drive-safe, drive-writable, drives-end, drives-more}
 use Rattle.ilk_drive.proofs.Untouched.{start-calm}
@@ -24,16 +24,16 @@ loop-events-init c = record {
 
 pub loop-events-smaller : goal.loop-events-smaller
 loop-events-smaller c =
-    let now = state_and_commands_left_after c.args.scene.now c.loop-events.now.state c.loop-events.now.given in
-    let after = state_and_commands_left_after c.args.scene.now c.take_turn.new.now.state c.take_turn.new.now.given in
+    let now = state_and_commands_after_first_n c.args.scene.now c.loop-events.now.state c.loop-events.now.given in
+    let after = state_and_commands_after_first_n c.args.scene.now c.take_turn.new.now.state c.take_turn.new.now.given in
     let taken = came _ now after c.in_ok-event.field-0 c.in-Some.event c.in_ok-event.ensures.turn c.in-Some.is in
     let less = next_step_unless_hazard-lowers c.args.plant.now c.prove_is_plant.ensures c.prove_sound_acyclic_drafts.ensures.walks now after c.in-Some.event c.loop-events.invariant.shape (leads-by c.args.plant.now now after c.in-Some.event taken) in
     omega (arith, less)
 
 pub loop-events-preserved : goal.loop-events-preserved
 loop-events-preserved c =
-    let now = state_and_commands_left_after c.args.scene.now c.loop-events.now.state c.loop-events.now.given in
-    let after = state_and_commands_left_after c.args.scene.now c.take_turn.new.now.state c.take_turn.new.now.given in
+    let now = state_and_commands_after_first_n c.args.scene.now c.loop-events.now.state c.loop-events.now.given in
+    let after = state_and_commands_after_first_n c.args.scene.now c.take_turn.new.now.state c.take_turn.new.now.given in
     let taken = came _ now after c.in_ok-event.field-0 c.in-Some.event c.in_ok-event.ensures.turn c.in-Some.is in
     record {
       drives = λ later rest more. drives-more c.args.plant.now
@@ -47,8 +47,8 @@ loop-events-preserved c =
 
 pub returns-clause-drive : goal.returns-clause-drive
 returns-clause-drive c =
-    let now = state_and_commands_left_after c.args.scene.now c.loop-events.now.state c.loop-events.now.given in
-    let after = state_and_commands_left_after c.args.scene.now c.take_turn.new.now.state c.take_turn.new.now.given in
+    let now = state_and_commands_after_first_n c.args.scene.now c.loop-events.now.state c.loop-events.now.given in
+    let after = state_and_commands_after_first_n c.args.scene.now c.take_turn.new.now.state c.take_turn.new.now.given in
     let none : c.in_ok-event.field-0 ≡ None = search rules in
     drives-end c.args.plant.now c.args.scene.now now after c.loop-events.events c.in_ok-event.field-0 c.rest_at.result c.loop-events.invariant.drives c.in_ok-event.ensures.turn none (c.rest_at.ensures c.args.plant.now c.in_ok-event.ensures.hazard)
 

@@ -1,7 +1,7 @@
 use Rattle.ilk_ir.specs.System.{plain_system}
 use Rattle.ilk_behave.specs.Behaviour.{system_of_plant}
 use Rattle.ilk_unroll.specs.Goal.{plain_goal}
-use Rattle.ilk_queries.specs.Goal.{goal_of_plant}
+use Rattle.ilk_queries.specs.Goal.{goal_forms_of_plant}
 use Rattle.ilk_induct.specs.Asked.{AreQueriesOfVerdict}
 use Rattle.ilk_induct.specs.Right.{SystemVerdictHoldsAtAnyLength}
 use Rattle.ilk_engine.specs.AskedOf.{AreVerdictQueries}
@@ -12,7 +12,8 @@ use Rattle.ilk_engine.proofs.deciding.decide.Goals as goal
 
 pub lift-requires-clause-lasts : goal.lift-requires-clause-lasts
 lift-requires-clause-lasts c =
-    over (λ s g. SystemVerdictHoldsAtAnyLength s g c.in_ok-verdict.field-0.verdict) (plain_system c.in_ok-system.system) (system_of_plant c.args.plant.now) (plain_goal c.in_ok-goal.goal) (goal_of_plant c.args.plant.now)
+    over (λ s g. SystemVerdictHoldsAtAnyLength s g c.in_ok-verdict.field-0.verdict) (plain_system c.in_ok-system.system) (system_of_plant c.args.plant.now) (plain_goal c.in_ok-goal.goal)
+    (goal_forms_of_plant c.args.plant.now)
     c.in_ok-system.ensures.system c.in_ok-goal.ensures.goal c.in_ok-verdict.ensures.lasts
 
 pub returns : goal.returns
@@ -22,7 +23,8 @@ returns c =
     let queries = c.in_ok-verdict.field-0.asked in
     let asked : AreVerdictQueries c.args.plant.now c.args.depth c.args.conflicts verdict queries =
     made.asked c.args.conflicts queries
-    (over (λ s g. AreQueriesOfVerdict s g c.args.depth c.args.conflicts c.in_ok-verdict.field-0.verdict queries) (plain_system c.in_ok-system.system) (system_of_plant c.args.plant.now) (plain_goal c.in_ok-goal.goal) (goal_of_plant c.args.plant.now)
+    (over (λ s g. AreQueriesOfVerdict s g c.args.depth c.args.conflicts c.in_ok-verdict.field-0.verdict queries) (plain_system c.in_ok-system.system) (system_of_plant c.args.plant.now) (plain_goal c.in_ok-goal.goal)
+    (goal_forms_of_plant c.args.plant.now)
     c.in_ok-system.ensures.system c.in_ok-goal.ensures.goal c.in_ok-verdict.ensures.asked) in
     record {
       right = made.right;

@@ -4,7 +4,7 @@ use Rattle.ilk_unroll.specs.Satisfied.{IsSatisfiable}
 use Rattle.ilk_unroll.specs.declared.queries.Wanted.{Wanted}
 use Rattle.ilk_unroll.specs.Evidence.{HasRun}
 use Rattle.ilk_queries.proofs.Steps.{rules-step}
-use Rattle.ilk_queries.specs.Goal.{goal_of_plant}
+use Rattle.ilk_queries.specs.Goal.{goal_forms_of_plant}
 use Rattle.ilk_forever.proofs.OnPlant.{safe-forever}
 use Rattle.ilk_forever.proofs.RangeBytes.{ranges_are_bytes}
 use Rattle.ilk_forever.proofs.Refuted.{certified-forever}
@@ -14,7 +14,7 @@ pub returns : goal.returns
 returns c = λ k bytes certificate.
     let p = c.args.plant.now in
     let s = system_of_plant p in
-    let g = goal_of_plant p in
+    let g = goal_forms_of_plant p in
     let valid = c.system_is_valid.ensures in
     let solves : (q : Wanted) → HasRun s g q → IsSatisfiable (query_formula s g q) = λ q has.
     (c.satisfiable_iff_run_exists.ensures s g q valid (ranges_are_bytes p c.prove_is_plant.ensures) c.goal_forms_valid_and_correct.ensures.valid).1 has in

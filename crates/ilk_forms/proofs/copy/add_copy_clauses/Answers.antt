@@ -2,7 +2,7 @@ use Rattle.std.proofs.Common.{◌≡◌, ◌∙◌, ◌+◌, ◌-◌, ℕ, List,
 use Rattle.ilk_cnf.specs.Formula.{Formula, with_var_count}
 use Rattle.ilk_cnf.specs.Part.{with_part}
 use Rattle.ilk_cnf.proofs.Extending.{extends-clauses_from_lists}
-use Rattle.ilk_forms.specs.Copy.{PartWithAllVarLits, copy_part, AreCopyBits}
+use Rattle.ilk_forms.specs.Copy.{FormulaPartAndAllVarLits, copy_part, AreCopyBits}
 use Rattle.ilk_forms.proofs.CopyLaw.{copy-law, ranges_fit-small}
 use Rattle.ilk_forms.proofs.CopyWidth.{class-length, copy-most, no_lits_for_each_var-length}
 use Rattle.ilk_forms.proofs.CopySays.{copy-say}
@@ -17,8 +17,8 @@ loop-i-init c =
     record {
       vars = refl;
       many = ap length c.in_ok-table.ensures ∙ no_lits_for_each_var-length ranges;
-      table = ap (λ (p : PartWithAllVarLits). p.columns) same;
-      made = ap (λ (p : PartWithAllVarLits). with_part f p.part) same;
+      table = ap (λ (p : FormulaPartAndAllVarLits). p.columns) same;
+      made = ap (λ (p : FormulaPartAndAllVarLits). with_part f p.part) same;
     }
 
 pub add_range_class-requires-clause-there : goal.add_range_class-requires-clause-there

@@ -11,7 +11,7 @@ use Rattle.ilk_forms.specs.declared.copy.VarValueAndBoundLits.{VarValueAndBoundL
 use Rattle.ilk_forms.specs.declared.gates.AndGate.{AndGate}
 use Rattle.ilk_forms.specs.Gates.{gates_part, gates_within}
 use Rattle.ilk_forms.specs.Gathered.{LitsWithGates, form_to_and_or_lits, forms_to_and_or_lits}
-use Rattle.ilk_forms.specs.Violated.{instance_lits, form_fails_part, form_fails_bits}
+use Rattle.ilk_forms.specs.Violated.{one_lit_per_instance, form_fails_part, form_fails_bits}
 use Rattle.ilk_forms.proofs.Reading.{reads}
 use Rattle.ilk_forms.proofs.GatheredFits.{form-fits}
 use Rattle.ilk_forms.proofs.GatheredSteps.{lits-in}
@@ -49,7 +49,7 @@ both :
     h ≡ with_part f (gates_part (form_to_and_or_lits columns true true (negation t) empty f.vars).gates f.vars) → ls ≡ (form_to_and_or_lits columns true true (negation t) empty f.vars).lits →
     gates ≡ empty ++ (form_to_and_or_lits columns true true (negation t) empty f.vars).gates →
     k ≡ with_part h (gates_part (forms_to_and_or_lits columns true true ts gates h.vars).gates h.vars) → ms ≡ (forms_to_and_or_lits columns true true ts gates h.vars).lits →
-    (k ≡ with_part f (gates_part (instance_lits columns (whole t ts) f.vars).gates f.vars)) × (ls ++ ms ≡ (instance_lits columns (whole t ts) f.vars).lits)
+    (k ≡ with_part f (gates_part (one_lit_per_instance columns (whole t ts) f.vars).gates f.vars)) × (ls ++ ms ≡ (one_lit_per_instance columns (whole t ts) f.vars).lits)
 both columns t ts f h k empty gates ls ms is made lits pushed last others =
     let g : List AndGate → LitsWithGates = λ gs. form_to_and_or_lits columns true true (negation t) gs f.vars in
     gathered-append f h k gates ls ms (g []) (λ gs m. forms_to_and_or_lits columns true true ts gs m) (without-known f h ls empty gates g is made lits pushed) last others
@@ -63,7 +63,7 @@ demand_some_violated-requires c =
     let lists = both columns t ts c.args.cnf.now c.negation_to_and_or_lits.new.cnf c.forms_to_and_or_lits.new.cnf c.new-gates.result c.negation_to_and_or_lits.new.gates c.in_ok-kept.kept c.in_ok-others.others c.new-gates.ensures
     c.in_ok-kept.ensures.made c.in_ok-kept.ensures.lits c.in_ok-kept.ensures.gates c.in_ok-others.ensures.made c.in_ok-others.ensures.lits in
     let seen = c.as_slice-2.ensures ∙ c.in_ok-push_all.ensures ∙ ap (λ (ls : List Literal). c.in_ok-kept.kept ++ ls) c.as_slice.ensures ∙ lists.1 in
-    lits-in c.args.cnf.now c.forms_to_and_or_lits.new.cnf (instance_lits columns (whole t ts) n) c.as_slice-2.result.now
+    lits-in c.args.cnf.now c.forms_to_and_or_lits.new.cnf (one_lit_per_instance columns (whole t ts) n) c.as_slice-2.result.now
     (form-fits (whole t ts) columns true true [] n c.requires.within refl (and_from _ _ c.requires.form c.requires.valid)) lists.0 seen
 
 made : (c : goal.After-drop-gates-inside-2) → c.demand_some_violated.new.cnf ≡ with_part c.args.cnf.now (form_fails_part c.args.table.now (whole (tree_of c.args.form.now) (trees_of c.args.forms.now)) c.args.cnf.now.vars)
@@ -74,7 +74,7 @@ made c =
     let lists = both columns t ts c.args.cnf.now c.negation_to_and_or_lits.new.cnf c.forms_to_and_or_lits.new.cnf c.new-gates.result c.negation_to_and_or_lits.new.gates c.in_ok-kept.kept c.in_ok-others.others c.new-gates.ensures
     c.in_ok-kept.ensures.made c.in_ok-kept.ensures.lits c.in_ok-kept.ensures.gates c.in_ok-others.ensures.made c.in_ok-others.ensures.lits in
     let seen = c.as_slice-2.ensures ∙ c.in_ok-push_all.ensures ∙ ap (λ (ls : List Literal). c.in_ok-kept.kept ++ ls) c.as_slice.ensures ∙ lists.1 in
-    violated-made c.args.cnf.now c.forms_to_and_or_lits.new.cnf c.demand_some_violated.new.cnf (instance_lits columns (whole t ts) c.args.cnf.now.vars) c.as_slice-2.result.now lists.0 seen c.in_ok-demand_some_violated.ensures
+    violated-made c.args.cnf.now c.forms_to_and_or_lits.new.cnf c.demand_some_violated.new.cnf (one_lit_per_instance columns (whole t ts) c.args.cnf.now.vars) c.as_slice-2.result.now lists.0 seen c.in_ok-demand_some_violated.ensures
 
 pub returns-clause-made : goal.returns-clause-made
 returns-clause-made c = made c

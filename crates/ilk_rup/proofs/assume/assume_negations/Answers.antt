@@ -3,7 +3,7 @@ use Rattle.ilk_cnf.specs.Literal.{Literal}
 use Rattle.ilk_cnf.specs.Formula.{is_lit_over}
 use Rattle.ilk_trail.specs.Trail.{TrailList}
 use Rattle.ilk_base.proofs.Tested.{list_all-slice_get}
-use Rattle.ilk_rup.specs.Needs.{AssumesNegatedLits}
+use Rattle.ilk_rup.specs.Needs.{TrailAssumesNegatedLits}
 use Rattle.ilk_rup.proofs.Assuming.{assumed-next}
 use Rattle.ilk_rup.proofs.Needing.{all-taken, one-more}
 use Rattle.ilk_rup.proofs.assume.assume_negations.Goals as goal
@@ -17,7 +17,7 @@ pub loop-i-preserved : goal.loop-i-preserved
 loop-i-preserved c =
     let ls = c.args.set.now.lits in
     let i = c.loop-i.i in
-    let P : List Literal → Type 0 = λ xs. AssumesNegatedLits xs c.args.trail.now.entries c.assume_one.new.trail.entries in
+    let P : List Literal → Type 0 = λ xs. TrailAssumesNegatedLits xs c.args.trail.now.entries c.assume_one.new.trail.entries in
     record {
       trail = c.assume_one.ensures.trail ∙ ap (λ (t : TrailList). record t { entries = c.assume_one.new.trail.entries }) c.loop-i.invariant.trail;
       assumed = one-more P ls i c.at.result c.at.ensures (assumed-next (take i ls) c.args.trail.now.entries c.loop-i.trail.entries c.assume_one.new.trail.entries c.at.result c.loop-i.invariant.assumed c.assume_one.ensures.assumed);
@@ -26,5 +26,5 @@ loop-i-preserved c =
 pub returns-clause-assumed : goal.returns-clause-assumed
 returns-clause-assumed c =
     let ls = c.args.set.now.lits in
-    let P : List Literal → Type 0 = λ xs. AssumesNegatedLits xs c.args.trail.now.entries c.loop-i.trail.entries in
+    let P : List Literal → Type 0 = λ xs. TrailAssumesNegatedLits xs c.args.trail.now.entries c.loop-i.trail.entries in
     all-taken P ls c.loop-i.i (omega (arith, c.len-i-end.ensures.count, c.loop-i-test.false)) c.loop-i.invariant.assumed

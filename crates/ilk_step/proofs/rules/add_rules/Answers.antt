@@ -7,7 +7,7 @@ use Rattle.ilk_cnf.specs.Formula.{Formula}
 use Rattle.ilk_cnf.specs.Part.{with_part}
 use Rattle.ilk_ir.specs.System.{PlainRule, plain_rule, rule_valid}
 use Rattle.ilk_ir.specs.declared.system.Rule.{Rule}
-use Rattle.ilk_forms.specs.Leaf.{has_lits_within_vars, ranges_of}
+use Rattle.ilk_forms.specs.Leaf.{has_lits_within_vars, ranges_of_copy_lits}
 use Rattle.ilk_forms.proofs.Reading.{has_lits_within_vars-more}
 use Rattle.ilk_step.specs.Rules.{rule_unless_skipped_part}
 use Rattle.ilk_step.proofs.RulesLaw.{rule-fits, skip-in}
@@ -24,7 +24,7 @@ loop-rule-preserved c =
     let n = f.vars in
     let now = c.args.now.now in
     let next = c.args.next.now in
-    let ranges = ranges_of now in
+    let ranges = ranges_of_copy_lits now in
     let r : PlainRule = plain_rule c.rule-item.result in
     let before = c.loop-rule.invariant in
     let split : drop i all ≡ c.rule-item.result ∷ drop (i + 1) all = drop_at all i c.rule-item.result c.loop-rule-test.true c.rule-item.is in

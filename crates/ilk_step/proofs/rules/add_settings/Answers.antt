@@ -7,7 +7,7 @@ use Rattle.ilk_ir.specs.Tree.{Tree, is, value_valid}
 use Rattle.ilk_ir.specs.Form.{tree_of}
 use Rattle.ilk_forms.specs.Demand.{some_lit_or_form_part}
 use Rattle.ilk_ir.specs.declared.system.Setting.{Setting}
-use Rattle.ilk_forms.specs.Leaf.{ranges_of}
+use Rattle.ilk_forms.specs.Leaf.{ranges_of_copy_lits}
 use Rattle.ilk_step.proofs.RulesLaw.{settings_valid}
 use Rattle.ilk_step.proofs.RulesSteps.{settings_step}
 use Rattle.ilk_step.proofs.rules.add_settings.Goals as goal
@@ -18,7 +18,7 @@ loop-s-preserved c =
     let i = c.loop-s.s-index in
     let none : Setting = record { var = 0; value = 0 } in
     let s : Setting = get_or all i none in
-    let ranges = ranges_of c.args.next.now in
+    let ranges = ranges_of_copy_lits c.args.next.now in
     let split : drop i all ≡ s ∷ drop (i + 1) all = drop_more all i none c.loop-s-test.true in
     let form : tree_of c.set_form.result ≡ is s.var s.value = c.set_form.ensures in
     let p = λ (t : Tree). with_part c.loop-s.cnf (some_lit_or_form_part c.args.next.now (c.args.skip ∷ []) t c.loop-s.cnf.vars) in

@@ -5,7 +5,7 @@ use Rattle.ilk_ir.specs.Form.{tree_of, trees_of}
 use Rattle.ilk_ir.specs.Tree.{all_of, more, negation, tree_valid, each_valid}
 use Rattle.ilk_ir.specs.declared.form.Form.{Form}
 use Rattle.ilk_forms.specs.declared.copy.VarValueAndBoundLits.{VarValueAndBoundLits}
-use Rattle.ilk_forms.specs.Leaf.{ranges_of}
+use Rattle.ilk_forms.specs.Leaf.{ranges_of_copy_lits}
 use Rattle.ilk_forms.specs.Violated.{form_fails_part}
 use Rattle.ilk_unroll.specs.Goal.{demand_form_fails_in_copy}
 use Rattle.ilk_unroll.proofs.CopiesLaw.{within-at, valid-at}
@@ -18,7 +18,7 @@ demand_form_or_some_fail-requires-clause-within c = within-at c.args.tables.now 
 pub demand_form_or_some_fail-requires-clause-form : goal.demand_form_or_some_fail-requires-clause-form
 demand_form_or_some_fail-requires-clause-form c =
     let table = c.at-table.result.now in
-    let ranges = ranges_of table in
+    let ranges = ranges_of_copy_lits table in
     let t = tree_of c.args.form.now in
     let ts = trees_of c.args.forms.now in
     (and_parts (tree_valid ranges t) (each_valid ranges ts) (valid-at c.args.tables.now (all_of (more (negation t) ts)) c.from.result table c.requires.valid c.at-table.ensures)).0
@@ -26,7 +26,7 @@ demand_form_or_some_fail-requires-clause-form c =
 pub demand_form_or_some_fail-requires-clause-valid : goal.demand_form_or_some_fail-requires-clause-valid
 demand_form_or_some_fail-requires-clause-valid c =
     let table = c.at-table.result.now in
-    let ranges = ranges_of table in
+    let ranges = ranges_of_copy_lits table in
     let t = tree_of c.args.form.now in
     let ts = trees_of c.args.forms.now in
     ap (λ (fs : List Form). each_valid ranges (trees_of fs)) c.as_slice.ensures

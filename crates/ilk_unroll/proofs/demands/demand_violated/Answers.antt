@@ -4,7 +4,7 @@ use Rattle.ilk_ir.specs.Form.{trees_of}
 use Rattle.ilk_ir.specs.Tree.{all_of, each_valid}
 use Rattle.ilk_ir.specs.declared.form.Form.{Form}
 use Rattle.ilk_forms.specs.declared.copy.VarValueAndBoundLits.{VarValueAndBoundLits}
-use Rattle.ilk_forms.specs.Leaf.{ranges_of}
+use Rattle.ilk_forms.specs.Leaf.{ranges_of_copy_lits}
 use Rattle.ilk_forms.specs.Violated.{form_fails_part}
 use Rattle.ilk_unroll.specs.Goal.{demand_form_fails_in_copy}
 use Rattle.ilk_unroll.proofs.CopiesLaw.{within-at, valid-at}
@@ -17,7 +17,7 @@ demand_some_form_fails-requires-clause-within c = within-at c.args.tables.now c.
 pub demand_some_form_fails-requires-clause-valid : goal.demand_some_form_fails-requires-clause-valid
 demand_some_form_fails-requires-clause-valid c =
     let table = c.at.result.now in
-    ap (λ (fs : List Form). each_valid (ranges_of table) (trees_of fs)) c.as_slice.ensures
+    ap (λ (fs : List Form). each_valid (ranges_of_copy_lits table) (trees_of fs)) c.as_slice.ensures
     ∙ valid-at c.args.tables.now (all_of (trees_of c.args.forms.now)) c.from.result table c.requires.valid c.at.ensures
 
 pub returns : goal.returns

@@ -4,7 +4,7 @@ use Rattle.ilk_cnf.proofs.Extending.{extends-clauses_from_lists}
 use Rattle.ilk_ir.specs.Tree.{all_of, negation, trees_from_list}
 use Rattle.ilk_ir.specs.System.{plain_system}
 use Rattle.ilk_forms.proofs.CopyLaw.{ranges_fit-small}
-use Rattle.ilk_unroll.specs.Goal.{plain_goal, step_count}
+use Rattle.ilk_unroll.specs.Goal.{plain_goal, query_step_count}
 use Rattle.ilk_unroll.specs.Query.{copies_part, query_part}
 use Rattle.ilk_unroll.specs.Assignment.{run_assignment, EncodesWantedRun}
 use Rattle.ilk_unroll.proofs.CopiesLaw.{copies-few, is_valid_in_each-from}
@@ -78,7 +78,7 @@ returns-clause-complete c =
 
 pub returns-clause-copies : goal.returns-clause-copies
 returns-clause-copies c =
-    let count = suc (step_count c.args.q) in
+    let count = suc (query_step_count c.args.q) in
     let ranges = c.args.system.now.ranges in
     let few : (copies_part ranges count 0).part.vars ≤ 2 * (count * sum ranges) = omega (arith, copies-few count ranges 0) in
     few

@@ -7,7 +7,7 @@ use Rattle.ilk_cnf.specs.Literal.{Literal}
 use Rattle.ilk_cnf.specs.Truth.{is_true}
 use Rattle.ilk_ints.specs.Named.{one_hot_bits}
 use Rattle.ilk_forms.specs.declared.copy.VarValueAndBoundLits.{VarValueAndBoundLits}
-use Rattle.ilk_forms.specs.Leaf.{ranges_of}
+use Rattle.ilk_forms.specs.Leaf.{ranges_of_copy_lits}
 use Rattle.ilk_unroll.proofs.ReadBack.{first_value, values-next, no_values-left, few-values}
 use Rattle.ilk_unroll.proofs.reading.read_values.Goals as goal
 
@@ -16,7 +16,7 @@ read_value-requires-clause-few c =
     let all = c.as_slice-column-items.result.now in
     let i = c.loop-column.column-index in
     let column = c.column-item.result in
-    let bytes = ap (λ (columns : List VarValueAndBoundLits). list_all (λ range. nat_lt range 256) (ranges_of columns)) c.as_slice-column-items.ensures ∙ c.requires.bytes in
+    let bytes = ap (λ (columns : List VarValueAndBoundLits). list_all (λ range. nat_lt range 256) (ranges_of_copy_lits columns)) c.as_slice-column-items.ensures ∙ c.requires.bytes in
     let few : length column.values ≤ 255 = few-values all i column (drop (i + 1) all) bytes (drop_at all i column c.loop-column-test.true c.column-item.is) in
     subst (λ (lits : List Literal). length lits ≤ 255) (sym c.as_slice.ensures) few
 

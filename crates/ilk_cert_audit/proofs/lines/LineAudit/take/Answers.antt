@@ -2,7 +2,7 @@ use Rattle.std.proofs.Common.{◌++◌, ◌∷◌, [], sym, subst, Option, Some,
 use Rattle.std.specs.Prelude.{IfSome}
 use Rattle.ilk_ir.specs.System.{plain_system, PlainSystem}
 use Rattle.ilk_unroll.specs.Goal.{plain_goal, PlainGoalForms}
-use Rattle.ilk_cert_audit.specs.Fed.{IsStageOrRefusalAfter}
+use Rattle.ilk_cert_audit.specs.Fed.{IsStageAfterLines}
 use Rattle.ilk_cert_audit.specs.Stages.{is_valid_stage, IsNextStage}
 use Rattle.ilk_cert_audit.specs.declared.stage.Stage.{Stage}
 use Rattle.ilk_cert_audit.proofs.Taking.{at-next, at-reached, bad-more, bad-next, reached-at, unrefused}
@@ -10,8 +10,8 @@ use Rattle.ilk_cert_audit.proofs.lines.LineAudit.take.Goals as goal
 
 pub returns-in-Refused : goal.returns-in-Refused
 returns-in-Refused c = λ s g lines h.
-    (let P : Stage → Type 0 = λ stage. IsStageOrRefusalAfter s g stage lines c.args.self.now.line in
-    let Q : Stage → Type 0 = λ stage. IsStageOrRefusalAfter s g stage (lines ++ c.args.line.now ∷ []) c.args.self.now.line in
+    (let P : Stage → Type 0 = λ stage. IsStageAfterLines s g stage lines c.args.self.now.line in
+    let Q : Stage → Type 0 = λ stage. IsStageAfterLines s g stage (lines ++ c.args.line.now ∷ []) c.args.self.now.line in
     let r = subst P c.in-Refused.is h.reached in
     record {
       system = h.system;
@@ -51,7 +51,7 @@ returns-in_default-next c = λ s g lines h.
     let S : PlainSystem → Type 0 = λ x. IsNextStage x (plain_goal old.goal) old.stage line None in
     let G : PlainGoalForms → Type 0 = λ x. IsNextStage s x old.stage line None in
     let goes = subst G h.goal (subst S h.system (subst N c.in_default-next.is (subst F c.replace-stage.ensures.value ok.next))) in
-    let Q : Stage → Type 0 = λ stage. IsStageOrRefusalAfter s g stage (lines ++ line ∷ []) old.line in
+    let Q : Stage → Type 0 = λ stage. IsStageAfterLines s g stage (lines ++ line ∷ []) old.line in
     record {
       system = h.system;
       goal = h.goal;

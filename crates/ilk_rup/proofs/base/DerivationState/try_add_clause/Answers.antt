@@ -1,7 +1,7 @@
 use Rattle.std.proofs.Common.{ℕ, List, ap, sym, ◌∙◌, subst}
 use Rattle.ilk_cnf.specs.Formula.{is_clause_over}
 use Rattle.ilk_log.specs.declared.step.Step.{Step}
-use Rattle.ilk_rup.specs.Standing.{IsValidClosedOrNot}
+use Rattle.ilk_rup.specs.Standing.{IsValidMaybeUnpropagated}
 use Rattle.ilk_rup.specs.declared.base.DerivationState.{DerivationState}
 use Rattle.ilk_rup.proofs.Taking.{has-taken, loose-taken, none-fact, some-fact, taken-clause, taken-known, taken-refuted}
 use Rattle.ilk_rup.proofs.base.DerivationState.try_add_clause.Goals as goal
@@ -33,8 +33,8 @@ propagate_units-requires-clause-loose c =
     let s = c.in-Some.step in
     let d = some-fact c.in_ok-derive.field-0 _ s c.in_ok-derive.ensures.derived c.in-Some.is in
     let own = taken-clause m s d c.len-set.ensures.within c.len-set.ensures.differ in
-    let L : List Step → Type 0 = λ log. IsValidClosedOrNot (record m { clauses = c.add.new.self.clauses; log = log }) in
-    let P : DerivationState → Type 0 = λ b. IsValidClosedOrNot b in
+    let L : List Step → Type 0 = λ log. IsValidMaybeUnpropagated (record m { clauses = c.add.new.self.clauses; log = log }) in
+    let P : DerivationState → Type 0 = λ b. IsValidMaybeUnpropagated b in
     subst P (sym c.in_ok-add.ensures.rest) (subst L (sym c.in_ok-add.ensures.log) (loose-taken m c.add.new.self.clauses s d own c.count-before.ensures.clauses c.count-after.ensures.clauses c.in_ok-add.ensures.clauses c.count-trail.ensures.is_trail))
 
 pub propagate_units-requires-clause-going : goal.propagate_units-requires-clause-going

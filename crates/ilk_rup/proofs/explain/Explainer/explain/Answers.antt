@@ -5,7 +5,7 @@ use Rattle.ilk_watches.specs.Reasons.{nth_clause_or_empty}
 use Rattle.ilk_log.specs.Derived.{hints_end_in_conflict, negated_clause}
 use Rattle.ilk_trail.specs.Laws.{lits_of}
 use Rattle.ilk_rup.specs.LitSet.{LitSetList}
-use Rattle.ilk_rup.specs.Needs.{AreNeededLitsAfterClause, HintsFalsifyGivenNeededLits, unit_hints_of_needed}
+use Rattle.ilk_rup.specs.Needs.{AreNeededLitsAfterClauseExamined, HintsFalsifyGivenNeededLits, unit_hints_of_needed}
 use Rattle.ilk_rup.proofs.Explained.{explained, shown-first}
 use Rattle.ilk_rup.proofs.explain.Explainer.explain.Goals as goal
 
@@ -17,7 +17,7 @@ walk-requires-clause-shows c =
     let needed = c.need.new.needed.lits in
     let d = nth_clause_or_empty f.clauses c.args.at.clause in
     let P : List ℕ → Type 0 = λ items. HintsFalsifyGivenNeededLits f.clauses (lits_of (take c.args.at.top es)) (lits_of (take c.args.at.top es)) set needed (reverse items) in
-    let N : List Literal → Type 0 = λ old. AreNeededLitsAfterClause set d old needed in
+    let N : List Literal → Type 0 = λ old. AreNeededLitsAfterClauseExamined set d old needed in
     let items = c.in_ok-push.ensures.items ∙ ap (λ (xs : List ℕ). xs ++ (c.args.at.clause + 1) ∷ []) c.clear-2.ensures.items in
     subst P (sym items)
     (shown-first f es set needed c.args.at.clause c.args.at.from c.args.at.top c.args.self.now.named

@@ -1,7 +1,7 @@
 use Rattle.std.proofs.Common.{◌+◌, ◌-◌, ◌≡◌, ◌<◌, arith, subst, sym}
 use Rattle.ilk_plant.specs.declared.limits.TheConstants.{MAX_PATH}
 use Rattle.ilk_tablegen.proofs.Grown.{AreGrown, begun-grown, few-enough, grown-more, not-many, too-many}
-use Rattle.ilk_tablegen.proofs.ways.ways_within_route_limit.Goals as goal
+use Rattle.ilk_tablegen.proofs.ways.all_ways_within_route_limit.Goals as goal
 
 pub loop-i-init : goal.loop-i-init
 loop-i-init c =

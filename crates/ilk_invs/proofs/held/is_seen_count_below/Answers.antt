@@ -1,7 +1,7 @@
 use Rattle.std.proofs.Common.{[]}
 use Rattle.ilk_layout.specs.Conditions.{is_seen_count}
 use Rattle.ilk_invs.proofs.Pushed.{one_form_more}
-use Rattle.ilk_invs.proofs.held.seen_below.Goals as goal
+use Rattle.ilk_invs.proofs.held.is_seen_count_below.Goals as goal
 
 pub loop-count-preserved : goal.loop-count-preserved
 loop-count-preserved c =

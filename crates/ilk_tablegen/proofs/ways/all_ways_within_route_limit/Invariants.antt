@@ -1,7 +1,7 @@
 use Rattle.std.proofs.Common.{◌-◌, ◌<◌, ◌≤◌, length}
 use Rattle.ilk_plant.specs.declared.limits.TheConstants.{MAX_PATH, MAX_ROUTES}
 use Rattle.ilk_tablegen.proofs.Grown.{AreGrown}
-use Rattle.ilk_tablegen.proofs.ways.ways_within_route_limit.Given as goal
+use Rattle.ilk_tablegen.proofs.ways.all_ways_within_route_limit.Given as goal
 
 abbrev pub invariant-loop-i : goal.invariant-loop-i
 invariant-loop-i l =

@@ -1,7 +1,7 @@
 use Rattle.std.proofs.Common.{◌≡◌, ◌∙◌, false, nat_lt, arith}
 use Rattle.std.proofs.lemmas.Bool.Decides.{nat_tests}
 use Rattle.ilk_base.proofs.Bits.{no_bit_past}
-use Rattle.ilk_net_check.proofs.bits.is_set.Goals as goal
+use Rattle.ilk_base.proofs.bit_set.is_set.Goals as goal
 
 pub returns-else-y-lt128 : goal.returns-else-y-lt128
 returns-else-y-lt128 c =
