@@ -43,7 +43,8 @@ pub of_both : (bits others x : ℕ) → (bit_at (bit_and bits others) x == 1) �
 of_both bits others x =
     ap (λ b. b == 1) (bit_at_and bits others x) ∙ lesser_is_one (bit_at bits x) (bit_at others x) (bit_at-lt bits x) (bit_at-lt others x)
 
-pub added_past : (low high new y x : ℕ) → 128 ≤ y → ((z : ℕ) → (bit_at new z == 1) ≡ ((bit_at high z == 1) || (y - 128 == z))) → bit_set_contains (record { low = low; high = new }) x ≡ (bit_set_contains (record { low = low; high = high }) x || (y == x))
+pub added_past : (low high new y x : ℕ) → 128 ≤ y → ((z : ℕ) → (bit_at new z == 1) ≡ ((bit_at high z == 1) || (y - 128 == z))) →
+    bit_set_contains (record { low = low; high = new }) x ≡ (bit_set_contains (record { low = low; high = high }) x || (y == x))
 added_past low high new y x past bit = by_test (nat_lt x 128) refl
   where
     by_test : (b : Bool) → nat_lt x 128 ≡ b → cond b (bit_at low x == 1) (bit_at new (x - 128) == 1) ≡ (cond b (bit_at low x == 1) (bit_at high (x - 128) == 1) || (y == x))

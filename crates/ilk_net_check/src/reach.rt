@@ -44,7 +44,8 @@ fn with_end(found: BitSet256, end: &ResolvedEnd) -> BitSet256
 }
 
 fn next_of(ends: &[ResolvedEnd]) -> BitSet256
-    ensures { (y : ℕ) → y < 256 → bit_set_contains result y ≡ list_any (is_up_side_end_naming y) ends.now }
+    ensures { (y : ℕ) → y < 256
+        → bit_set_contains result y ≡ list_any (is_up_side_end_naming y) ends.now }
 {
     let mut next = BitSet256::empty();
     for end in ends {
