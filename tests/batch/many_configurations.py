@@ -2,10 +2,10 @@
 It compares their times. A second call may ask nothing, and after one change only one configuration
 may be asked about. It does not run in CI and needs an idle machine.
 
-Each run uses the same configurations: the examples, a station of tests/plants, generated stations,
-and lines of real size with and without random protection. Each also comes with a single fault. The
-questions are the broken rules, the verdict with free columns and an eighth of the usual conflicts,
-and its certificate's audit. It takes about twenty minutes.
+The configurations are the examples, a station of tests/plants, generated stations, and lines of
+real size with and without random protection. Each also comes with a single fault. The questions
+are the broken rules, the verdict with free columns and an eighth of the usual conflicts, and its
+certificate's audit. It takes about twenty minutes.
 """
 
 import concurrent.futures

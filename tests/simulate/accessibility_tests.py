@@ -226,5 +226,4 @@ AccessibilityTests = test_case("AccessibilityTests", [check_browser_keys, check_
 
 
 def tearDownModule():
-    """Ends the browser."""
     close()

@@ -263,5 +263,4 @@ BrowserTests = test_case("BrowserTests", [check_browser_model, check_browser_cro
 
 
 def tearDownModule():
-    """Ends the browser."""
     close()

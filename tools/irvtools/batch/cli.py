@@ -38,7 +38,6 @@ def joined(words):
 
 
 def parser():
-    """Returns the command-line parser."""
     line = Parser(
         "irv --batch",
         "Verifies every .json file below DIRECTORY in parallel, on this machine or on a cluster, "

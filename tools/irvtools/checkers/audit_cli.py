@@ -20,7 +20,6 @@ ACCEPTED, REFUSED, NO_ANSWER, SPENT = 0, 1, 2, 4
 
 
 def parser():
-    """Returns the command-line parser."""
     line = Parser("tools/audit", "Checks a certificate that `irv verify` wrote, by a checker that is independent "
                   "of the program.\n\nThe exit status is 0 if it was accepted and says that the plant is safe; "
                   "4 if it was accepted and is spent, which says\nnothing about the plant; 1 if it was refused; "

@@ -34,7 +34,6 @@ def write_query(directory, name, formula, steps):
 
 
 def parser():
-    """Returns the command-line parser."""
     line = Parser("tools/lrat", "Writes each query of a certificate as DIRECTORY/KIND-NUMBER.cnf, the formula that "
                   "`irv export` prints, and\nDIRECTORY/KIND-NUMBER.lrat, its steps in the LRAT format, which other "
                   "checkers read. It prints a line a query.\n\nThe exit status is 0 if all is written, "

@@ -7,10 +7,10 @@ K. `irv export` prints each formula, the solver writes a refutation, and `irv ru
 
 - Proved in the contract of `run`: `irv rup` says `refuted` only if no such run exists.
 
-- Proved as `induction_implies_safety` of ilk_forever: then no run of any length ends in a hazard.
+- Proved as `induction_implies_safety`: then no run of any length ends in a hazard.
 
-- This script asks all of these queries, over the same bytes and columns, and reads the answers
-  rightly. No contract says so.
+- Not proved: this script asks all these queries over the same bytes and columns, and reads the
+  answers rightly.
 
 - The assumptions of docs/assurance/qualification.md hold.
 
@@ -150,7 +150,6 @@ def ask_all(plant, given, directory):
 
 
 def parser():
-    """Returns the command-line parser."""
     line = Parser("tools/verify_with", "Shows by another solver that a plant is safe: the solver refutes each query, "
                   "and `irv rup` checks each refutation.\n\n--solver is a command line in which {cnf} stands for the "
                   "formula's file and {proof} for the refutation's, which\nhas to be plain text. For PicoSAT: "

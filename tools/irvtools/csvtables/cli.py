@@ -27,7 +27,6 @@ class _Change(argparse.Action):
 
 
 def parser():
-    """Returns the command-line parser."""
     line = Parser("irv --csv", "Writes a configuration as two CSV files that a spreadsheet opens, reads them "
                   "back, renames or drops entries,\nfills derived columns, writes the control table, "
                   "and prints in which entries two tables differ.\nWithout --in or FILE the "

@@ -197,7 +197,6 @@ def print_stages(with_files: bool) -> None:
 
 
 def parser() -> Parser:
-    """Returns the command-line parser."""
     line = Parser(
         "tools/definitions",
         "Lists the definitions that the contract of `run` depends on: for each stage "

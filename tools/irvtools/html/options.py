@@ -26,7 +26,6 @@ class Refused(Exception):
 
 
 def parser(status: int) -> Parser:
-    """Returns the command-line parser."""
     line = Parser("irv --html", "Writes an HTML report of a configuration: the track plan, broken "
                   "rules, the verdict, runs step by step,\nwhat each route is good for, and what "
                   "an assessor quotes.\n\nThe exit status is 0 if the report was written, "

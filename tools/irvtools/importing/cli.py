@@ -56,7 +56,6 @@ def metres_of(text: str) -> float:
 
 
 def parser() -> Parser:
-    """Returns the command-line parser."""
     line = Parser("irv --import", ABOUT, REFUSED, "irv --import FILE [OPTIONS]")
     line.add_argument("file", metavar="FILE", type=Path, help="the map or layout")
     line.once("--out", "the configuration; the notes are written beside it, as NAME.notes.json "

@@ -4,8 +4,7 @@
     python3 -m irvtools.launcher.unproved_build stop DIRECTORY
     python3 -m irvtools.launcher.unproved_build build DIRECTORY
 
-`rt try` has clang compile the whole program without proof, as one module with checks of each
-operation, and keeps nothing. `watch` makes DIRECTORY/kit, a toolchain of links to the one on the
+`rt try` has clang compile the whole program without proof, as one module, and keeps nothing. `watch` makes DIRECTORY/kit, a toolchain of links to the one on the
 path with a script in place of clang, and prints the `rt` to call. The script keeps clang's module
 and arguments, and then calls clang. `stop` makes one whose `rt try` ends when the module is kept:
 it has no answer, and takes half the time. `build` removes the checks from the module, optimises it,

@@ -81,7 +81,6 @@ class Simulation:
         self.hazard_at = None                       # word and section
 
     def copy(self):
-        """Returns an independent copy."""
         other = Simulation.__new__(Simulation)
         for part in Simulation.__slots__:
             value = getattr(self, part)

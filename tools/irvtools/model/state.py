@@ -31,7 +31,6 @@ class State:
         self.on = [0] * sections
 
     def copy(self):
-        """Returns an independent copy."""
         other = State.__new__(State)
         for part in State.__slots__:
             setattr(other, part, getattr(self, part)[:])

@@ -92,7 +92,6 @@ def try_left(crates, left, toolchain, is_alone, says, keep):
 
 
 def parser():
-    """Returns the command-line parser."""
     line = Parser("tools/mutants", "Tries mutants, many in one check, and sees that the prover refuses each. The "
                   "libraries below are those that\n`rt ci` keeps: run it before. The last line is `N passed, M "
                   "failed`; the exit status is 0 only if every mutant was\nrefused.", 2,

@@ -23,7 +23,6 @@ class Refused(Exception):
 
 
 def parser(status: int) -> Parser:
-    """Returns the command-line parser."""
     line = Parser(
         "irv --package", "Makes an evidence package: a directory with the configuration, every "
         "answer to it, the HTML report, a page\nthat leads through them, a script that makes them "

@@ -245,7 +245,6 @@ class Judge:
 
 
 def parser():
-    """Returns the command-line parser."""
     line = argparse.ArgumentParser(
         "irv --verify-package", allow_abbrev=False,
         formatter_class=argparse.RawDescriptionHelpFormatter,

@@ -216,7 +216,6 @@ def measure(program, word, directory, options):
 
 
 def parser():
-    """Returns the command-line parser."""
     line = Parser("tools/benchmark", "Measures verify and audit beside cadical, minisat and picosat on the same "
                   "formulas, all in one run.\n\nA WORD is a number of generated stations, a double-track line "
                   "such as bs or 11L, a file, or a setting:\nseconds=N ends another solver after N CPU seconds "

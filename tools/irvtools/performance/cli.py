@@ -20,7 +20,6 @@ PICTURES = TOP / "docs/pictures"
 
 
 def parser():
-    """Returns the command-line parser."""
     line = Parser("tools/update_performance", "Measures the program by tools/benchmark, keeps what it prints, "
                   "and updates the tables and the chart of\ndocs/dev/performance.md. It takes an hour "
                   "or more; run nothing else meanwhile.", 2,

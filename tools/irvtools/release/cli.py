@@ -18,7 +18,6 @@ NOT_MADE = 125
 
 
 def parser() -> Parser:
-    """Returns the command-line parser."""
     line = Parser(
         "irv --release", "Makes a release: a directory with the sources, the program, its manual "
         "page and licences, the judge of\npackages, and the validation record. It runs in the "

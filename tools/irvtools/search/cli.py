@@ -18,7 +18,6 @@ FOUND, NONE_FOUND, NO_ANSWER = range(3)
 
 
 def parser():
-    """Returns the command-line parser."""
     line = Parser("irv --search", "Searches at random for a run from the initial state to a "
                                   "hazard, "
                   "shortens it until no event can be left out, and\nprints its text. Places near "

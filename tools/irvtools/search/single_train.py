@@ -17,7 +17,6 @@ class Drive:
         self.train, self.done = None, DONE
 
     def copy(self):
-        """Returns an independent copy."""
         other = Drive(self.simulation.copy(), list(self.run))
         other.train, other.done = other.simulation.train_on[self.train[1][-1]], self.done
         return other

@@ -13,7 +13,6 @@ NOT_WRITTEN = 125       # no answer of the program has this status
 
 
 def parser():
-    """Returns the command-line parser."""
     line = Parser("irv --simulate", "Writes an HTML page on which the plant is operated by hand, "
                                     "or "
                   "compares a saved run with the answers of\n`irv replay` and `irv drive`.\n\n"

@@ -30,7 +30,6 @@ class NotDone(Exception):
 
 
 def parser() -> Parser:
-    """Returns the command-line parser."""
     line = Parser("irv --sumo", ABOUT, NOT_DONE,
                   "irv --sumo DIRECTORY [OPTIONS] < CONFIGURATION")
     line.add_argument("directory", metavar="DIRECTORY", type=Path,
