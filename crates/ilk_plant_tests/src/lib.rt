@@ -3,8 +3,8 @@
 //!
 //! `walk_tests` visits many states of a plant, and compares each event with the rules of the
 //! plant's system, and each state with the forms over its image. `form_tests` has hand-written
-//! states and values. `formula_tests` searches a query's formula and reads back a run.
-//! `strict_tests` walks over plants with strict tables and checks the invariant after each event.
+//! states and values. `strict_tests` walks over plants with strict tables and checks the invariant
+//! after each event.
 #![tactic(auto)]
 
 #[cfg(test)]
@@ -19,8 +19,6 @@ mod examples;
 mod form_tests;
 #[cfg(test)]
 mod forms;
-#[cfg(test)]
-mod formula_tests;
 #[cfg(test)]
 mod image_tests;
 #[cfg(test)]
